@@ -1,18 +1,20 @@
 -- The rows that are read off events, one event after another, and the events that they stand for.
-use Rattle.std.proofs.Common.{◌≡◌, ◌∙◌, ap, sym, refl, ℕ, Bool, true, false, nat_eq, cond, ◌&&◌, ◌||◌, List, []}
+use Rattle.std.proofs.Common.{◌≡◌, ◌∙◌, ap, sym, refl, ℕ, true, false, nat_eq, ◌&&◌, List, []}
 use Rattle.std.proofs.Common.{◌∷◌, length, map}
 use Rattle.std.proofs.lemmas.Bool.{and_from, and_parts, eq-eqb}
 use Rattle.std.proofs.lemmas.List.{length-map}
 use Rattle.std.proofs.lemmas.Map.Views.{tells_apart}
-use Rattle.std.specs.List.{filter, flat_map, list_any}
+use Rattle.std.specs.List.{filter, flat_map}
 use Rattle.std.specs.Ordering.{eq_by_cmp}
+use Rattle.std.specs.Cmp.{both_ways}
 use Rattle.mfotl_model.proofs.AscendingLemmas.{any_ascending}
-use Rattle.mfotl_model.proofs.LogicLemmas.{among_distinct, any_alike, any_map}
+use Rattle.mfotl_model.proofs.LogicLemmas.{among_distinct, any_alike, any_map, any_filter}
 use Rattle.mfotl_model.proofs.MatchingLemmas.{reads_own, same_event_of}
 use Rattle.mfotl_model.proofs.RowLemmas.{event_exact, row_exact}
+use Rattle.mfotl_model.proofs.ColumnLemmas.{same_columns, distinct_apart}
 use Rattle.mfotl_model.specs.Ascending.{ascending}
 use Rattle.mfotl_model.specs.Events.{event_cmp, event_total}
-use Rattle.mfotl_model.specs.FreeVariables.{among, distinct, variable_in, variables_in}
+use Rattle.mfotl_model.specs.FreeVariables.{among, variable_in, variables_in}
 use Rattle.mfotl_model.specs.Matching.{Query, is_match, matching_rows, reads, row_read}
 use Rattle.mfotl_model.specs.Satisfaction.{Valuation, event_of, has_event}
 use Rattle.mfotl_model.specs.Tables.{all_apart, all_sized, has_row}
@@ -21,8 +23,7 @@ use Rattle.mfotl_model.specs.declared.event.Event.{Event}
 use Rattle.mfotl_model.specs.declared.term.Atom.{Atom as OneAtom}
 use Rattle.mfotl_model.specs.declared.term.Term.{Term}
 use Rattle.eval_bool.specs.AtomSteps.{atom_rows}
-use Rattle.relations.proofs.ColumnLemmas.{apart_joined}
-use Rattle.relations.proofs.JoinLemmas.{map_same_on, row_itself, same_each, same_truth}
+use Rattle.relations.proofs.JoinLemmas.{row_itself, same_each}
 
 -- an event that the atom doesn't stand for gives no row
 pub event_left : (atom : OneAtom) (columns : List ℕ) (event : Event) (more : List Event) → is_match atom event ≡ false
@@ -47,10 +48,6 @@ no_rows atom columns = refl
 -- the variables of terms are distinct
 pub variables_apart : (terms : List Term) → all_apart (variables_in terms) ≡ true
 variables_apart terms = distinct_apart (flat_map variable_in terms)
-  where
-    distinct_apart : (xs : List ℕ) → all_apart (distinct xs) ≡ true
-    distinct_apart [] = refl
-    distinct_apart (x ∷ xs) = apart_joined (x ∷ []) (distinct xs) refl (distinct_apart xs)
 
 -- each row has a value for each column
 all_read : (q : Query) (events : List Event) → all_sized (length q.columns) (map (row_read q) events) ≡ true
@@ -67,15 +64,6 @@ unfolding atom_rows matching_rows
 sized_rows atom columns events =
     all_read (record { atom = atom; columns = columns }) (filter (is_match atom) events)
 
-any_kept : (test p : Event → Bool) (xs : List Event) → list_any test (filter p xs) ≡ list_any (λ x. p x && test x) xs
-any_kept test p [] = refl
-any_kept test p (x ∷ xs) = step (p x) ∙ ap (λ t. (p x && test x) || t) (any_kept test p xs)
-  where
-    step : (b : Bool) → list_any test (cond b (x ∷ filter p xs) (filter p xs))
-        ≡ ((b && test x) || list_any test (filter p xs))
-    step true = refl
-    step false = refl
-
 module _ (v : Valuation) (atom : OneAtom) where
   -- an event's own row is v's exactly where it is the event that the atom stands for at v
   event_alike : (event : Event)
@@ -86,7 +74,7 @@ module _ (v : Valuation) (atom : OneAtom) where
   event_alike event =
       let columns = variables_in atom.args in
       let q : Query = record { atom = atom; columns = columns } in
-      same_truth (is_match atom event && eq_by_cmp row_cmp (map v columns) (row_read q event))
+      both_ways (is_match atom event && eq_by_cmp row_cmp (map v columns) (row_read q event))
       (eq_by_cmp event_cmp (event_of v atom) event)
       (λ h.
       let parts = and_parts (is_match atom event) (eq_by_cmp row_cmp (map v columns) (row_read q event)) h in
@@ -102,7 +90,7 @@ module _ (v : Valuation) (atom : OneAtom) where
       λ y m. sym (reads_own v atom.args y m) ∙ ap (λ e. reads atom e y) is in
       and_from (is_match atom event) (eq_by_cmp row_cmp (map v columns) (row_read q event))
       (ap (λ e. eq_by_cmp event_cmp e event) (sym (same_event_of v (reads atom event) atom own)) ∙ h)
-      (ap (eq_by_cmp row_cmp (map v columns)) (sym (map_same_on v (reads atom event) columns
+      (ap (eq_by_cmp row_cmp (map v columns)) (sym (same_columns v (reads atom event) columns
       (λ y m. own y (sym (among_distinct y (flat_map variable_in atom.args)) ∙ m))))
       ∙ row_itself (map v columns)))
 
@@ -116,7 +104,7 @@ module _ (v : Valuation) (atom : OneAtom) where
       let q : Query = record { atom = atom; columns = columns } in
       let row = map v columns in
       any_map (eq_by_cmp row_cmp row) (row_read q) (filter (is_match atom) events)
-      ∙ any_kept (λ e. eq_by_cmp row_cmp row (row_read q e)) (is_match atom) events
+      ∙ any_filter (λ e. eq_by_cmp row_cmp row (row_read q e)) (is_match atom) events
       ∙ any_alike (λ e. is_match atom e && eq_by_cmp row_cmp row (row_read q e))
       (eq_by_cmp event_cmp (event_of v atom))
       events event_alike

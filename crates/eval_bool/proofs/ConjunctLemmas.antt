@@ -5,12 +5,13 @@ use Rattle.std.specs.Prelude.{nat_eq}
 use Rattle.std.proofs.lemmas.Bool.{and_parts, or_cases, or_left, or_right}
 use Rattle.std.proofs.lemmas.List.Folds.{list_any-append}
 use Rattle.std.specs.List.{list_all}
+use Rattle.std.specs.Cmp.{both_ways}
 use Rattle.mfotl_model.proofs.LogicLemmas.{all_alike, among_joined}
 use Rattle.mfotl_model.proofs.VariableLemmas.{joined_assoc}
+use Rattle.mfotl_model.proofs.ColumnLemmas.{joined_apart}
 use Rattle.mfotl_model.specs.FreeVariables.{among, joined}
 use Rattle.mfotl_model.specs.Tables.{all_among, all_apart}
-use Rattle.relations.proofs.ColumnLemmas.{apart_joined}
-use Rattle.relations.proofs.JoinLemmas.{all_members, member_of_all, same_truth}
+use Rattle.relations.proofs.JoinLemmas.{all_members, member_of_all}
 use Rattle.eval_bool.proofs.AtomRows.{variables_apart}
 use Rattle.eval_bool.specs.IsJoin.{FewFrom, IsJoin}
 use Rattle.eval_bool.specs.JoinView.{ChildOf, ConjunctOf, TestOf, all_children, bound_columns, children_of}
@@ -24,9 +25,9 @@ conjunct_apart : (cs : List ConjunctOf) → all_children all_apart (children_of 
 conjunct_apart [] apart = refl
 conjunct_apart (Child columns negated ∷ cs) apart =
     let parts = and_parts (all_apart columns) (all_children all_apart (children_of cs)) apart in
-    apart_joined columns (conjunct_columns cs) parts.0 (conjunct_apart cs parts.1)
+    joined_apart columns (conjunct_columns cs) parts.0 (conjunct_apart cs parts.1)
 conjunct_apart (Test c wanted ∷ cs) apart =
-    apart_joined (compared_variables c) (conjunct_columns cs) (variables_apart (c.left ∷ c.right ∷ []))
+    joined_apart (compared_variables c) (conjunct_columns cs) (variables_apart (c.left ∷ c.right ∷ []))
     (conjunct_apart cs apart)
 
 module _ (y : ℕ) where
@@ -84,7 +85,7 @@ begun cs some apart guarded =
     record {
       some = some;
       apart = conjunct_apart cs apart;
-      same = λ y. same_truth (among y (conjunct_columns cs)) (among y bound) (inside y bound cs parts.0 parts.1)
+      same = λ y. both_ways (among y (conjunct_columns cs)) (among y bound) (inside y bound cs parts.0 parts.1)
           (whole y cs);
       guarded = guarded;
       few = few_begun cs;

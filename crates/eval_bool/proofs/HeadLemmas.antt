@@ -5,13 +5,14 @@ use Rattle.std.proofs.Common.{append_assoc, refl, sym, subst, ap, ap₂, ◌∙�
 use Rattle.std.proofs.lemmas.Bool.{and_parts, and_from}
 use Rattle.std.specs.List.{list_all}
 use Rattle.std.specs.Prelude.{nat_lt}
+use Rattle.std.proofs.Math.Bool.{and_assoc}
 use Rattle.mfotl_model.specs.FreeVariables.{among}
 use Rattle.mfotl_model.specs.Satisfaction.{Valuation}
 use Rattle.mfotl_model.specs.Tables.{TableOf, has}
 use Rattle.std.proofs.lemmas.List.Folds.{list_any-append}
 use Rattle.std.specs.Prelude.{nat_eq}
 use Rattle.relations.specs.Pushed.{AreOver}
-use Rattle.mfotl_model.proofs.LogicLemmas.{all_alike}
+use Rattle.mfotl_model.proofs.LogicLemmas.{all_alike, and_moved}
 use Rattle.mfotl_model.specs.Tables.{all_among}
 use Rattle.eval_bool.proofs.ConjunctLemmas.{same_among}
 use Rattle.eval_bool.specs.IsJoin.{IsJoin}
@@ -97,18 +98,8 @@ heads_hold v (c ∷ xs) due =
     by true [] some = cc
     by false [] some = cc
     by true (t ∷ tables) some =
-        swapped (all_have v (heads_of false xs)) (not (has t v)) (none_has v (heads_of true xs))
-      where
-        swapped : (a b c : Bool) → (a && (b && c)) ≡ (b && (a && c))
-        swapped true true c = refl
-        swapped true false c = refl
-        swapped false true c = refl
-        swapped false false c = refl
-    by false (t ∷ tables) some = grouped (has t v) (all_have v (heads_of false xs)) (none_has v (heads_of true xs))
-      where
-        grouped : (a b c : Bool) → ((a && b) && c) ≡ (a && (b && c))
-        grouped true b c = refl
-        grouped false b c = refl
+        and_moved (all_have v (heads_of false xs)) (not (has t v)) (none_has v (heads_of true xs))
+    by false (t ∷ tables) some = and_assoc (has t v) (all_have v (heads_of false xs)) (none_has v (heads_of true xs))
 
 -- the columns of the first tables are those that the children bind
 pub heads_columns : (y : ℕ) (xs : List ChildOf) → list_all (λ c. nat_lt 0 (length c.tables)) xs ≡ true → FirstsOver xs

@@ -11,6 +11,7 @@ use Rattle.mfotl_model.proofs.AtomLemmas.{gives_none_back, match_by_terms}
 use Rattle.mfotl_model.proofs.LogicLemmas.{same_number}
 use Rattle.mfotl_model.proofs.MatchingLemmas.{first_more}
 use Rattle.mfotl_model.proofs.RowLemmas.{event_exact}
+use Rattle.mfotl_model.proofs.ColumnLemmas.{same_columns}
 use Rattle.mfotl_model.specs.AtomSteps.{give_back}
 use Rattle.mfotl_model.specs.FreeVariables.{among, variables_in}
 use Rattle.mfotl_model.specs.Matching.{first_value, is_match, read_off, reads, row_read}
@@ -25,7 +26,7 @@ use Rattle.mfotl_model.specs.declared.value.Value.{Value}
 use Rattle.mfotl_model.specs.declared.value.Value.TheVariants.{Int}
 use Rattle.eval_bool.proofs.AtomRows.{row_taken, variables_apart}
 use Rattle.eval_bool.specs.AtomSteps.{atom_rows}
-use Rattle.relations.proofs.JoinLemmas.{map_same_on, row_itself}
+use Rattle.relations.proofs.JoinLemmas.{row_itself}
 
 -- whether it is another variable
 abbrev other_than : ℕ → ℕ → Bool
@@ -106,7 +107,7 @@ own_values (Var x ∷ terms) (a ∷ values) plain same =
     ∙ ap (λ c. cond c (Some a) (first_value terms values y)) is) in
     ap₂ (λ b rest. b ∷ rest) (read x true (same_number x))
     (ap (map v) more.kept
-    ∙ map_same_on v (read_off terms values) (variables_in terms) (λ y m. read y false (more.apart y m))
+    ∙ same_columns v (read_off terms values) (variables_in terms) (λ y m. read y false (more.apart y m))
     ∙ own_values terms values more.plain (omega arith))
 own_values (Const c ∷ terms) (a ∷ values) plain same = absurd (omega (arith, few_variables terms))
 

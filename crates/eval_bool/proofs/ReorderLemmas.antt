@@ -1,21 +1,23 @@
 -- Tables whose columns are put into another order, and tables that are joined in it.
 use Rattle.std.proofs.Common.{◌≡◌, ◌↔◌, ℕ, true, List, refl, sym, ap, ◌∙◌}
+use Rattle.std.specs.Cmp.{both_ways}
 use Rattle.mfotl_model.specs.FreeVariables.{among}
 use Rattle.mfotl_model.specs.Satisfaction.{Valuation}
 use Rattle.mfotl_model.specs.Tables.{TableOf, all_among, has, has_row}
-use Rattle.relations.proofs.JoinLemmas.{map_same_on, member_of_all, same_truth}
+use Rattle.mfotl_model.proofs.ColumnLemmas.{same_columns}
+use Rattle.relations.proofs.JoinLemmas.{member_of_all}
 
 -- a table is asked for the values of its own columns alone
 pub has_same : (t : TableOf) (v w : Valuation) → ((y : ℕ) → among y t.columns ≡ true → v y ≡ w y) → has t v ≡ has t w
 unfolding has
-has_same t v w same = ap (has_row t.rows) (map_same_on v w t.columns same)
+has_same t v w same = ap (has_row t.rows) (same_columns v w t.columns same)
 
 -- a projection that keeps each column has the same rows
 pub has_reordered : (t r : TableOf) (v : Valuation) (columns : List ℕ) → all_among t.columns columns ≡ true
     → (has r v ≡ true ↔ ((w : Valuation) × (((y : ℕ) → among y columns ≡ true → w y ≡ v y) × (has t w ≡ true))))
     → has r v ≡ has t v
 has_reordered t r v columns whole projected =
-    same_truth (has r v) (has t v)
+    both_ways (has r v) (has t v)
     (λ h.
     let found = projected.0 h in
     has_same t v found.0 (λ y m. sym (found.1.0 y (member_of_all (λ z. among z columns) t.columns y whole m)))

@@ -5,6 +5,7 @@ use Rattle.std.proofs.Common.{◌∙◌, arith, inl, inr}
 use Rattle.std.proofs.lemmas.Bool.{or_left, or_right, or_cases, eq-eqb, eqb-true, and_parts, and_from, leb-true}
 use Rattle.std.proofs.lemmas.Bool.Decides.{nat_tests}
 use Rattle.std.proofs.lemmas.List.Folds.{list_any-append, list_all-append}
+use Rattle.std.proofs.Math.Bool.{and-false}
 use Rattle.std.specs.BTreeMap.{is_at}
 use Rattle.std.specs.List.{list_all, filter}
 use Rattle.mfotl_model.specs.Values.{row_cmp}
@@ -18,10 +19,6 @@ use Rattle.eval_since.specs.Windows.{Placed, IsThinned, names, Rising, NotAfter,
 use Rattle.std.specs.Option.{IfSome}
 use Rattle.eval_since.proofs.GroupLemmas.{recent_none}
 use Rattle.eval_since.proofs.WindowLemmas.{recent_twice, past_added}
-
-and_false : (b : Bool) → (b && false) ≡ false
-and_false true = refl
-and_false false = refl
 
 pub thin_more : (hi x : ℕ) (old cur new : List ℕ) (b : Bool) → IsThinned hi x old cur
     → new ≡ cond b (recent hi x cur) cur → IsThinned hi x old new
@@ -68,7 +65,7 @@ names_other d ds v (y ∷ ys) lacks all =
     let parts = and_parts (names (d ∷ ds) v y) (list_all (names (d ∷ ds) v) ys) all in
     and_from (names ds v y) (list_all (names ds v) ys)
     (sym (ap (λ b. (nat_eq d.ts y && b) || names ds v y) lacks
-    ∙ ap (λ b. b || names ds v y) (and_false (nat_eq d.ts y))) ∙ parts.0)
+    ∙ ap (λ b. b || names ds v y) (and-false (nat_eq d.ts y))) ∙ parts.0)
     (names_other d ds v ys lacks parts.1)
 
 pub covered_more : (hi x : ℕ) (right left : List ℕ) (d : Dated) (ds : List Dated) (q v : List Value)

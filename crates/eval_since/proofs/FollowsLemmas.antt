@@ -1,6 +1,7 @@
 -- The state of SINCE: what a push and a pull keep.
 use Rattle.std.proofs.Common.{◌≡◌, ℕ, ◌+◌, ◌-◌, ◌<◌, ◌≤◌, Bool, true, false, ◌&&◌, ◌||◌, nat_lt, List, [], ◌∷◌}
 use Rattle.std.proofs.Common.{◌++◌, length, map, refl, sym, subst, ap, ap₂, ◌∙◌, arith}
+use Rattle.std.proofs.Math.Bool.{and_assoc}
 use Rattle.mfotl_model.specs.Intervals.{in_interval}
 use Rattle.mfotl_model.specs.Satisfaction.{Valuation, time_at, truth_at, since}
 use Rattle.mfotl_model.specs.declared.interval.Interval.{Interval}
@@ -368,13 +369,9 @@ pub due_settled : DueIsSettled
 unfolding since_settled
 due_settled s =
     ap (λ b. b && nat_lt 0 (length s.lefts) && nat_lt 0 (length s.rights)) (positive s.pulled (length s.times))
-    ∙ grouped (nat_lt s.pulled (s.pulled + length s.times)) (nat_lt 0 (length s.lefts)) (nat_lt 0 (length s.rights))
+    ∙ and_assoc (nat_lt s.pulled (s.pulled + length s.times)) (nat_lt 0 (length s.lefts)) (nat_lt 0 (length s.rights))
     ∙ ap (λ b. nat_lt s.pulled (s.pulled + length s.times) && b)
     (ready_below s.pulled (length s.lefts) (length s.rights))
-  where
-    grouped : (a b c : Bool) → (a && b && c) ≡ (a && (b && c))
-    grouped true b c = refl
-    grouped false b c = refl
 
 -- from valuations to rows
 

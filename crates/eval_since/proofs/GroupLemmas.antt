@@ -5,6 +5,7 @@ use Rattle.std.specs.BTreeMap.{is_at}
 use Rattle.std.specs.List.{list_any, filter}
 use Rattle.std.specs.Map.{lookup}
 use Rattle.std.specs.Option.{unwrap_or}
+use Rattle.std.proofs.Math.Bool.{or-false}
 use Rattle.mfotl_model.specs.Values.{row_cmp, row_total}
 use Rattle.mfotl_model.specs.declared.value.Value.{Value}
 use Rattle.std.proofs.lemmas.Bool.{eqb-true}
@@ -164,10 +165,6 @@ none_recent hi x row v = by (is_at (row_cmp row) v)
     by true = sym (recent_none hi x)
     by false = refl
 
-pub or_false : (b : Bool) → (b || false) ≡ b
-or_false true = refl
-or_false false = refl
-
 -- what is found among the entries is what the row's own entry gives
 pub hit_is : (interval : Interval) (x : ℕ) (u : List Value) (es : List (List Value × List ℕ))
     → RowsDiffer es
@@ -182,7 +179,7 @@ hit_is interval x u (e ∷ es) h = by (is_at (row_cmp u) e.0) refl
     by true at rest =
         ap (λ r. reaches interval e.1 x || r) (rest ∙ ap (λ o. reaches interval (unwrap_or o []) x)
         (none_behind u e es h at))
-        ∙ or_false (reaches interval e.1 x)
+        ∙ or-false (reaches interval e.1 x)
     by false at rest = rest
 
 -- rows stand in the group k alone
@@ -218,7 +215,7 @@ group_is interval x k u (e ∷ es) h stands =
         ap (λ r. reaches interval (times_in e.1 u) x || r) (rest
         ∙ ap (λ o. reaches interval (times_in (unwrap_or o []) u) x)
         (none_behind k e es h at))
-        ∙ or_false (reaches interval (times_in e.1 u) x)
+        ∙ or-false (reaches interval (times_in e.1 u) x)
     by false at rest there =
         let here : times_at (e ∷ es) e.0 u ≡ times_in e.1 u = ap
         (λ b. times_in (unwrap_or (cond b (Some e.1) (lookup (is_at (row_cmp e.0)) es)) []) u)

@@ -1,12 +1,14 @@
 -- Rows that are looked for by a part of them.
 use Rattle.std.proofs.Common.{◌≡◌, ℕ, Bool, true, false, ◌&&◌, ◌||◌, cond, nat_eq, length, List, [], ◌∷◌, refl, sym}
 use Rattle.std.proofs.Common.{ap, ap₂, ◌∙◌}
+use Rattle.std.proofs.Math.Bool.{and-false}
 use Rattle.std.specs.BTreeMap.{is_at}
 use Rattle.std.specs.List.{list_any}
 use Rattle.mfotl_model.specs.Tables.{has_row, part}
 use Rattle.mfotl_model.specs.Values.{row_cmp}
 use Rattle.mfotl_model.specs.declared.interval.Interval.{Interval}
 use Rattle.mfotl_model.specs.declared.value.Value.{Value}
+use Rattle.mfotl_model.proofs.RowLemmas.{any_and_last}
 use Rattle.relations.proofs.MapLemmas.{same_row}
 use Rattle.relations.specs.KeptRows.{RowsDiffer}
 use Rattle.eval_since.proofs.GroupLemmas.{StandsIn, empty_list, group_is, hit_is}
@@ -14,27 +16,11 @@ use Rattle.eval_since.specs.LeftOperand.{grouping, lead}
 use Rattle.eval_since.specs.Groups.{hit, times_at, times_in}
 use Rattle.eval_since.specs.Times.{reaches}
 
-either : (b c d r : Bool) → r ≡ (c && d) → ((b && d) || r) ≡ ((b || c) && d)
-either true true true r e = refl
-either true true false r e = e
-either true false true r e = refl
-either true false false r e = e
-either false true true r e = e
-either false true false r e = e
-either false false true r e = e
-either false false false r e = e
-
--- a test beside one that is the same for all
-pub any_and : {X : Type 0} (p : X → Bool) (d : Bool) (xs : List X)
-    → list_any (λ x. p x && d) xs ≡ (list_any p xs && d)
-any_and p d [] = refl
-any_and p d (x ∷ xs) = either (p x) (list_any p xs) d (list_any (λ y. p y && d) xs) (any_and p d xs)
-
 -- of a group's rows those that are wanted
 pub matches_are : (interval : Interval) (x : ℕ) (u : List Value) (wanted : List Value → Bool)
     (es : List (List Value × List ℕ)) → RowsDiffer es
     → list_any (λ e. hit interval x u e && wanted e.0) es ≡ (reaches interval (times_in es u) x && wanted u)
-matches_are interval x u wanted es differ = each es ∙ any_and (hit interval x u) (wanted u) es
+matches_are interval x u wanted es differ = each es ∙ any_and_last (wanted u) (hit interval x u) es
     ∙ ap (λ b. b && wanted u) (hit_is interval x u es differ)
   where
     here : (e : List Value × List ℕ) (b : Bool) → is_at (row_cmp u) e.0 ≡ b
@@ -53,7 +39,7 @@ pub matches_at : (interval : Interval) (x : ℕ) (k u : List Value) (wanted : Bo
     → list_any (λ e. reaches interval (times_in e.1 u) x && wanted) es
     ≡ (reaches interval (times_at es k u) x && wanted)
 matches_at interval x k u wanted es differ stands =
-    any_and (λ (e : List Value × List (List Value × List ℕ)). reaches interval (times_in e.1 u) x) wanted es
+    any_and_last wanted (λ (e : List Value × List (List Value × List ℕ)). reaches interval (times_in e.1 u) x) es
     ∙ ap (λ b. b && wanted) (group_is interval x k u es differ stands)
 
 -- what is looked up in the groups of keys is found where the row's own group is one of them
@@ -61,11 +47,7 @@ pub found_at : (interval : Interval) (x : ℕ) (k u : List Value) (keys : List (
     (es : List (List Value × List (List Value × List ℕ))) → StandsIn es k u
     → list_any (λ q. reaches interval (times_at es q u) x) keys
     ≡ (reaches interval (times_at es k u) x && has_row keys k)
-found_at interval x k u [] es stands = sym (none (reaches interval (times_at es k u) x))
-  where
-    none : (b : Bool) → (b && false) ≡ false
-    none true = refl
-    none false = refl
+found_at interval x k u [] es stands = sym (and-false (reaches interval (times_at es k u) x))
 found_at interval x k u (q ∷ keys) es stands =
     by (is_at (row_cmp k) q) refl (reaches interval (times_at es k u) x) refl (found_at interval x k u keys es stands)
   where

@@ -2,6 +2,7 @@
 use Rattle.std.proofs.Common.{◌≡◌, ℕ, Bool, true, false, cond, ◌&&◌, ◌||◌, List, [], ◌∷◌, ◌++◌, Option, Some, None}
 use Rattle.std.proofs.Common.{refl, sym, ap, ap₂, ◌∙◌}
 use Rattle.std.proofs.lemmas.List.Folds.{list_any-append}
+use Rattle.std.proofs.Math.Bool.{or-false, and-true, and-false}
 use Rattle.std.specs.BTreeMap.{is_at}
 use Rattle.std.specs.Cmp.{eq_by_cmp_equiv}
 use Rattle.std.specs.Option.{option_or, unwrap_or}
@@ -12,7 +13,6 @@ use Rattle.mfotl_model.specs.declared.interval.Interval.{Interval}
 use Rattle.mfotl_model.specs.declared.value.Value.{Value}
 use Rattle.relations.proofs.MapLemmas.{same_row}
 use Rattle.relations.specs.KeptRows.{filled}
-use Rattle.eval_since.proofs.GroupLemmas.{or_false}
 use Rattle.eval_since.specs.Groups.{times_in}
 use Rattle.eval_since.specs.Times.{reaches}
 
@@ -91,27 +91,19 @@ module _ (first : List Value) where
       → has_row (rows ++ first ∷ []) u ≡ (has_row rows u || reaches interval (times_in ((first, ts) ∷ []) u) x)
   one_more interval ts x rows u hits =
       list_any-append (eq_by_cmp row_cmp u) rows (first ∷ [])
-      ∙ ap (λ b. has_row rows u || b) (or_false (eq_by_cmp row_cmp u first)
+      ∙ ap (λ b. has_row rows u || b) (or-false (eq_by_cmp row_cmp u first)
       ∙ (eq_by_cmp_equiv row_total).symm u first
-      ∙ alone (eq_by_cmp row_cmp first u) ∙ ap (λ b. eq_by_cmp row_cmp first u && b) (sym hits)
+      ∙ sym (and-true (eq_by_cmp row_cmp first u)) ∙ ap (λ b. eq_by_cmp row_cmp first u && b) (sym hits)
       ∙ one_reaches interval u ts x)
-    where
-      alone : (b : Bool) → b ≡ (b && true)
-      alone true = refl
-      alone false = refl
 
   -- where it doesn't, nothing is
   pub no_more : (interval : Interval) (ts : List ℕ) (x : ℕ) (rows : List (List Value)) (u : List Value)
       → reaches interval ts x ≡ false
       → has_row rows u ≡ (has_row rows u || reaches interval (times_in ((first, ts) ∷ []) u) x)
   no_more interval ts x rows u misses =
-      sym (or_false (has_row rows u)) ∙ ap (λ b. has_row rows u || b)
-      (neither (eq_by_cmp row_cmp first u) ∙ ap (λ b. eq_by_cmp row_cmp first u && b) (sym misses)
+      sym (or-false (has_row rows u)) ∙ ap (λ b. has_row rows u || b)
+      (sym (and-false (eq_by_cmp row_cmp first u)) ∙ ap (λ b. eq_by_cmp row_cmp first u && b) (sym misses)
       ∙ one_reaches interval u ts x)
-    where
-      neither : (b : Bool) → false ≡ (b && false)
-      neither true = refl
-      neither false = refl
 
   -- the same of the rows that are wanted
   one_wanted : (interval : Interval) (ts : List ℕ) (x : ℕ) (wanted : List Value → Bool) (u : List Value)
@@ -131,26 +123,19 @@ module _ (first : List Value) where
       ≡ (has_row rows u || (reaches interval (times_in ((first, ts) ∷ []) u) x && wanted u))
   one_match interval ts x wanted rows u hits is =
       list_any-append (eq_by_cmp row_cmp u) rows (first ∷ [])
-      ∙ ap (λ b. has_row rows u || b) (or_false (eq_by_cmp row_cmp u first)
+      ∙ ap (λ b. has_row rows u || b) (or-false (eq_by_cmp row_cmp u first)
       ∙ (eq_by_cmp_equiv row_total).symm u first
-      ∙ alone (eq_by_cmp row_cmp first u) ∙ ap₂ (λ b d. eq_by_cmp row_cmp first u && (b && d)) (sym hits) (sym is)
+      ∙ sym (and-true (eq_by_cmp row_cmp first u))
+      ∙ ap₂ (λ b d. eq_by_cmp row_cmp first u && (b && d)) (sym hits) (sym is)
       ∙ one_wanted interval ts x wanted u)
-    where
-      alone : (b : Bool) → b ≡ (b && true)
-      alone true = refl
-      alone false = refl
 
   pub no_match : (interval : Interval) (ts : List ℕ) (x : ℕ) (wanted : List Value → Bool) (rows : List (List Value))
       (u : List Value) → (reaches interval ts x && wanted first) ≡ false
       → has_row rows u ≡ (has_row rows u || (reaches interval (times_in ((first, ts) ∷ []) u) x && wanted u))
   no_match interval ts x wanted rows u misses =
-      sym (or_false (has_row rows u)) ∙ ap (λ b. has_row rows u || b)
-      (neither (eq_by_cmp row_cmp first u) ∙ ap (λ b. eq_by_cmp row_cmp first u && b) (sym misses)
+      sym (or-false (has_row rows u)) ∙ ap (λ b. has_row rows u || b)
+      (sym (and-false (eq_by_cmp row_cmp first u)) ∙ ap (λ b. eq_by_cmp row_cmp first u && b) (sym misses)
       ∙ one_wanted interval ts x wanted u)
-    where
-      neither : (b : Bool) → false ≡ (b && false)
-      neither true = refl
-      neither false = refl
 
   pub one_poured : (o : Option (List ℕ)) (ts : List ℕ) (u : List Value)
       → option_or o (cond (is_at (row_cmp u) first) (filled ts) None)

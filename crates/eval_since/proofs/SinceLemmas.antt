@@ -2,41 +2,18 @@
 use Rattle.std.proofs.Common.{◌≡◌, ℕ, ◌+◌, ◌-◌, ◌<◌, Bool, true, false, ◌&&◌, ◌||◌, List, [], ◌∷◌, refl, sym, ap}
 use Rattle.std.proofs.Common.{ap₂, ◌∙◌, arith}
 use Rattle.std.proofs.lemmas.List.Folds.{list_any-append, list_all-append}
+use Rattle.std.proofs.Math.Bool.{and-true, or-false, and_assoc}
 use Rattle.std.specs.List.{list_any, list_all, range_with_len}
 use Rattle.mfotl_model.specs.Intervals.{in_interval}
 use Rattle.mfotl_model.specs.Satisfaction.{time_at, truth_at, since}
 use Rattle.mfotl_model.proofs.LogicLemmas.{any_same, all_same, range_suc}
+use Rattle.mfotl_model.proofs.RowLemmas.{any_and_last}
 use Rattle.eval_since.specs.SinceBefore.{since_before}
 use Rattle.eval_since.specs.SinceLaws.{BeginsFalse, SinceRecurrence, SinceIs, DecidedBelow}
 
 pub begins_false : BeginsFalse
 unfolding since_before
 begins_false interval times a b x = refl
-
-and_true : (b : Bool) → (b && true) ≡ b
-and_true true = refl
-and_true false = refl
-
-or_false : (b : Bool) → (b || false) ≡ b
-or_false true = refl
-or_false false = refl
-
-and_grouped : (a b c : Bool) → ((a && b) && c) ≡ (a && (b && c))
-and_grouped true b c = refl
-and_grouped false b c = refl
-
--- a test on which nothing of the element hangs may be taken out
-any_and_out : {X : Type 0} (p : X → Bool) (c : Bool) (xs : List X)
-    → list_any (λ x. p x && c) xs ≡ (list_any p xs && c)
-any_and_out p true [] = refl
-any_and_out p false [] = refl
-any_and_out p c (x ∷ xs) = ap (λ r. (p x && c) || r) (any_and_out p c xs) ∙ by (p x) (list_any p xs) c
-  where
-    by : (a b c : Bool) → ((a && c) || (b && c)) ≡ ((a || b) && c)
-    by true b true = refl
-    by true true false = refl
-    by true false false = refl
-    by false b c = refl
 
 -- the later positions below p + 1
 all_more : (a : List Bool) (j p : ℕ) → j < p
@@ -49,7 +26,7 @@ all_more a j p low =
     ∙ ap (list_all (truth_at a)) (range_suc (j + 1) (p - (j + 1)))
     ∙ list_all-append (truth_at a) (range_with_len (j + 1) (p - (j + 1))) ((j + 1 + (p - (j + 1))) ∷ [])
     ∙ ap (λ k. list_all (truth_at a) (range_with_len (j + 1) (p - (j + 1))) && (truth_at a k && true)) last
-    ∙ ap (λ r. list_all (truth_at a) (range_with_len (j + 1) (p - (j + 1))) && r) (and_true (truth_at a p))
+    ∙ ap (λ r. list_all (truth_at a) (range_with_len (j + 1) (p - (j + 1))) && r) (and-true (truth_at a p))
 
 all_none : (a : List Bool) (p : ℕ) → list_all (truth_at a) (range_with_len (p + 1) (p + 1 - (p + 1))) ≡ true
 all_none a p = let none : p + 1 - (p + 1) ≡ 0 = omega arith in ap
@@ -67,9 +44,9 @@ goes_on interval times a b p x =
     ∙ ap₂ (λ c d. c || d)
     (any_same new (λ j. old j && truth_at a p) 0 p
     (λ j low high. ap (λ r. at j && r) (all_more a j p (omega arith))
-    ∙ sym (and_grouped (at j) (list_all (truth_at a) (range_with_len (j + 1) (p - (j + 1)))) (truth_at a p)))
-    ∙ any_and_out old (truth_at a p) (range_with_len 0 p))
-    (ap (λ k. new k || false) last ∙ or_false (new p) ∙ ap (λ r. at p && r) (all_none a p) ∙ and_true (at p))
+    ∙ sym (and_assoc (at j) (list_all (truth_at a) (range_with_len (j + 1) (p - (j + 1)))) (truth_at a p)))
+    ∙ any_and_last (truth_at a p) old (range_with_len 0 p))
+    (ap (λ k. new k || false) last ∙ or-false (new p) ∙ ap (λ r. at p && r) (all_none a p) ∙ and-true (at p))
 
 pub since_is : SinceIs
 unfolding since since_before

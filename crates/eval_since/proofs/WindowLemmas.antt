@@ -5,6 +5,7 @@ use Rattle.std.proofs.Common.{◌∙◌, arith, inl, inr}
 use Rattle.std.proofs.lemmas.Bool.{cases_lt, eq-eqb}
 use Rattle.std.proofs.lemmas.Bool.Decides.{nat_tests}
 use Rattle.std.proofs.lemmas.List.{get_or_append_left, get_or_push, length_push}
+use Rattle.std.proofs.Math.Bool.{and-false, or-false}
 use Rattle.std.specs.BTreeMap.{is_at}
 use Rattle.std.specs.Cmp.{eq_by_cmp_equiv}
 use Rattle.std.specs.List.{filter}
@@ -15,14 +16,6 @@ use Rattle.mfotl_model.specs.Tables.{has_row, part}
 use Rattle.eval_since.specs.Times.{ArePast, is_new, added, recent}
 use Rattle.relations.proofs.MapLemmas.{same_row}
 use Rattle.relations.proofs.TableRows.{has_more}
-
-and_false : (b : Bool) → (b && false) ≡ false
-and_false true = refl
-and_false false = refl
-
-or_false : (b : Bool) → (b || false) ≡ b
-or_false true = refl
-or_false false = refl
 
 -- one row of a table, before the rest of it
 pub rows_rest : (h : List ℕ → List ℕ) → ((ts : List ℕ) → h (h ts) ≡ h ts)
@@ -65,7 +58,7 @@ pub one_row : (h : List ℕ → List ℕ) → ((ts : List ℕ) → h (h ts) ≡ 
     → key ≡ part right left x → new ≡ cond (is_at (row_cmp key) q && is_at (row_cmp x) v) (h cur) cur
     → new ≡ cond (is_at (row_cmp (part right left v)) q && has_row (x ∷ []) v) (h cur) cur
 one_row h twice right left x key q v cur new is step =
-    sym (ap (λ b. cond b (h new) new) (and_false (is_at (row_cmp (part right left v)) q)))
+    sym (ap (λ b. cond b (h new) new) (and-false (is_at (row_cmp (part right left v)) q)))
     ∙ rows_rest h twice right left x key q v [] cur new is step
 
 -- one more row of a table
@@ -92,8 +85,8 @@ rows_more h twice right left rows i x key q v old cur new low e is before step =
 
     away : (k b c : Bool) (ts cs : List ℕ) → cs ≡ cond (b && c) (h ts) ts
         → cond (k && false) (h cs) cs ≡ cond (b && (c || false)) (h ts) ts
-    away k b c ts cs e = ap (λ r. cond r (h cs) cs) (and_false k) ∙ e
-        ∙ ap (λ r. cond (b && r) (h ts) ts) (sym (or_false c))
+    away k b c ts cs e = ap (λ r. cond r (h cs) cs) (and-false k) ∙ e
+        ∙ ap (λ r. cond (b && r) (h ts) ts) (sym (or-false c))
 
     by : (a : Bool) → is_at (row_cmp x) v ≡ a
         → cond (is_at (row_cmp key) q && a) (h (times_at cur q v)) (times_at cur q v)
@@ -138,7 +131,7 @@ not_new bounded ys x =
     let n : length (ys ++ x ∷ []) ≡ length ys + 1 = length_push ys x in
     let some : nat_eq (length (ys ++ x ∷ [])) 0 ≡ false = grind (arith, nat_tests) in
     let same : nat_eq (slice_index (ys ++ x ∷ []) (length (ys ++ x ∷ []) - 1)) x ≡ true = eq-eqb _ x (last_is ys x) in
-    ap₂ (λ b c. b || (bounded && not c)) some same ∙ and_false bounded
+    ap₂ (λ b c. b || (bounded && not c)) some same ∙ and-false bounded
 
 -- the same time once more changes nothing
 pub added_twice : (bounded : Bool) (x : ℕ) (ys : List ℕ) → added bounded (added bounded ys x) x ≡ added bounded ys x

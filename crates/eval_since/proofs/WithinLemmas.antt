@@ -5,6 +5,7 @@ use Rattle.std.proofs.Common.{arith, inl, inr}
 use Rattle.std.proofs.lemmas.Bool.{or_left, and_parts, and_from, leb-true}
 use Rattle.std.proofs.lemmas.Bool.Decides.{nat_tests}
 use Rattle.std.proofs.lemmas.List.Folds.{list_any-append, list_any_at}
+use Rattle.std.proofs.Math.Bool.{and-false, and-true, or-false}
 use Rattle.std.specs.BTreeMap.{is_at}
 use Rattle.std.specs.Cmp.{eq_by_cmp_equiv}
 use Rattle.std.specs.List.{filter}
@@ -15,26 +16,9 @@ use Rattle.mfotl_model.specs.declared.interval.Interval.{Interval}
 use Rattle.mfotl_model.specs.declared.value.Value.{Value}
 use Rattle.eval_since.specs.Groups.{times_at}
 use Rattle.mfotl_model.specs.Tables.{has_row, part}
+use Rattle.mfotl_model.proofs.TimeLemmas.{too_far}
 use Rattle.eval_since.specs.Times.{reaches, ArePast, is_new, added, recent}
 use Rattle.eval_since.specs.Windows.{Past, IsThinned}
-
-and_false : (b : Bool) → (b && false) ≡ false
-and_false true = refl
-and_false false = refl
-
-and_true : (b : Bool) → (b && true) ≡ b
-and_true true = refl
-and_true false = refl
-
-or_false : (b : Bool) → (b || false) ≡ b
-or_false true = refl
-or_false false = refl
-
--- too far for the interval
-too_far : (interval : Interval) (hi d : ℕ) → interval.hi ≡ Some hi → hi < d → in_interval interval d ≡ false
-too_far interval hi d e far = ap (λ o. nat_le interval.lo d && at_most o d) e
-    ∙ ap (λ b. nat_le interval.lo d && b) (let f : nat_le d hi ≡ false = grind (arith, nat_tests) in f)
-    ∙ and_false (nat_le interval.lo d)
 
 -- the old times reach nothing any more
 reaches_recent : (interval : Interval) (hi now x : ℕ) (ys : List ℕ) → interval.hi ≡ Some hi → now ≤ x
@@ -101,14 +85,14 @@ reaches_added interval ys now x past = by (is_new (is_some interval.hi) ys now) 
     by : (b : Bool) → is_new (is_some interval.hi) ys now ≡ b
         → reaches interval (cond b (ys ++ now ∷ []) ys) x ≡ (reaches interval ys x || in_interval interval (x - now))
     by true e = list_any-append (λ y. in_interval interval (x - y)) ys (now ∷ [])
-        ∙ ap (λ b. reaches interval ys x || b) (or_false (in_interval interval (x - now)))
+        ∙ ap (λ b. reaches interval ys x || b) (or-false (in_interval interval (x - now)))
     by false e = absorbs (reaches interval ys x) (in_interval interval (x - now)) (not_kept interval ys now x past e)
 
 -- the left operand's table
 reaches_held : (interval : Interval) (ys zs : List ℕ) (x : ℕ) (holds : Bool) → zs ≡ cond holds ys []
     → reaches interval zs x ≡ (reaches interval ys x && holds)
-reaches_held interval ys zs x true e = ap (λ r. reaches interval r x) e ∙ sym (and_true (reaches interval ys x))
-reaches_held interval ys zs x false e = ap (λ r. reaches interval r x) e ∙ sym (and_false (reaches interval ys x))
+reaches_held interval ys zs x true e = ap (λ r. reaches interval r x) e ∙ sym (and-true (reaches interval ys x))
+reaches_held interval ys zs x false e = ap (λ r. reaches interval r x) e ∙ sym (and-false (reaches interval ys x))
 
 -- the right operand's table
 reaches_joined : (interval : Interval) (ys zs : List ℕ) (now x : ℕ) (new : Bool) → ArePast now ys
@@ -116,10 +100,10 @@ reaches_joined : (interval : Interval) (ys zs : List ℕ) (now x : ℕ) (new : B
     → reaches interval zs x ≡ (reaches interval ys x || (in_interval interval (x - now) && new))
 reaches_joined interval ys zs now x true past e = ap (λ r. reaches interval r x) e
     ∙ reaches_added interval ys now x past ∙ ap (λ b. reaches interval ys x || b)
-    (sym (and_true (in_interval interval (x - now))))
+    (sym (and-true (in_interval interval (x - now))))
 reaches_joined interval ys zs now x false past e = ap (λ r. reaches interval r x) e
-    ∙ sym (ap (λ b. reaches interval ys x || b) (and_false (in_interval interval (x - now)))
-    ∙ or_false (reaches interval ys x))
+    ∙ sym (ap (λ b. reaches interval ys x || b) (and-false (in_interval interval (x - now)))
+    ∙ or-false (reaches interval ys x))
 
 -- both, at a row's own group
 pub reaches_step : (interval : Interval) (right left : List ℕ) (goes : List Value → Bool) (rights : List (List Value))

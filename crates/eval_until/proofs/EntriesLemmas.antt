@@ -5,6 +5,7 @@ use borrow.Author.Tests.{ltb-true}
 use Rattle.std.proofs.lemmas.Bool.{and_parts, and_from}
 use Rattle.std.proofs.lemmas.Bool.Decides.{nat_tests}
 use Rattle.std.proofs.lemmas.List.Folds.{list_all-append}
+use Rattle.std.proofs.Math.Bool.{and-false}
 use Rattle.std.specs.List.{list_all}
 use Rattle.mfotl_model.specs.Intervals.{in_interval}
 use Rattle.mfotl_model.specs.declared.interval.Interval.{Interval}
@@ -96,15 +97,11 @@ ascend_push (f ∷ fs) e ascend all =
       ascend_push fs e ascend.1 parts.1,
     )
 
-and_false : (b : Bool) → (b && false) ≡ false
-and_false true = refl
-and_false false = refl
-
 gone : (interval : Interval) (i x next : ℕ) (e : Entry) → next ≤ i → e.place < next → meets interval i x e ≡ false
 gone interval i x next e l m =
     let f : nat_le i e.place ≡ false = grind (arith, nat_tests) in
     ap (λ b. nat_le e.start i && b && in_interval interval (e.ts - x)) f
-    ∙ ap (λ b. b && in_interval interval (e.ts - x)) (and_false (nat_le e.start i))
+    ∙ ap (λ b. b && in_interval interval (e.ts - x)) (and-false (nat_le e.start i))
 
 -- what stands before a position meets nothing from there on
 pub met_from : (interval : Interval) (i x next : ℕ) (es : List Entry) → next ≤ i

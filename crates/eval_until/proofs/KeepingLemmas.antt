@@ -6,6 +6,7 @@ use borrow.Author.Tests.{ltb-true}
 use Rattle.std.proofs.lemmas.Bool.{and_from, and_parts}
 use Rattle.std.proofs.lemmas.Bool.Decides.{nat_tests}
 use Rattle.std.proofs.lemmas.List.Folds.{list_any-append, list_all-append}
+use Rattle.std.proofs.Math.Bool.{or-false}
 use Rattle.std.specs.List.{list_all}
 use Rattle.std.specs.Option.{IfSome, unwrap_or}
 use Rattle.mfotl_model.specs.Tables.{all_sized, has_row, part}
@@ -205,15 +206,11 @@ pub met_taken : (interval : Interval) (i x : ℕ) (b : Bool) (old new : List Ent
     → met_by interval i x new ≡ (met_by interval i x old || (b && meets interval i x e))
 met_taken interval i x b old new e step = ap (met_by interval i x) step ∙ by b
   where
-    or_false : (c : Bool) → (c || false) ≡ c
-    or_false true = refl
-    or_false false = refl
-
     by : (c : Bool) → met_by interval i x (cond c (old ++ e ∷ []) old)
         ≡ (met_by interval i x old || (c && meets interval i x e))
     by true = list_any-append (meets interval i x) old (e ∷ [])
-        ∙ ap (λ r. met_by interval i x old || r) (or_false (meets interval i x e))
-    by false = sym (or_false (met_by interval i x old))
+        ∙ ap (λ r. met_by interval i x old || r) (or-false (meets interval i x e))
+    by false = sym (or-false (met_by interval i x old))
 
 -- where a run begins after one position more
 pub start_stepped : (negated has : Bool) (p d : ℕ) (old new : Option ℕ) → d ≡ unwrap_or old (cond negated 0 p)

@@ -6,6 +6,7 @@ use borrow.Author.Tests.{ltb-true}
 use Rattle.std.proofs.lemmas.Bool.{or_left, or_right, or_cases, eq-eqb, eqb-true, and_parts, and_from, leb-true}
 use Rattle.std.proofs.lemmas.Bool.Decides.{nat_tests}
 use Rattle.std.proofs.lemmas.List.Folds.{list_any-append, list_all-append}
+use Rattle.std.proofs.Math.Bool.{and-false, or-false}
 use Rattle.std.specs.List.{list_all}
 use Rattle.std.specs.Option.{IfSome}
 use Rattle.mfotl_model.specs.Tables.{has_row}
@@ -16,10 +17,6 @@ use Rattle.eval_until.specs.Entries.{from_place}
 use Rattle.eval_until.specs.Keeping.{Fresh, IsLater, NotAfter, Rising, breaks_before, names}
 use Rattle.eval_until.specs.Starts.{later_start}
 use Rattle.eval_until.proofs.RowsLemmas.{later_twice}
-
-and_false : (b : Bool) → (b && false) ≡ false
-and_false true = refl
-and_false false = refl
 
 -- the entries that are left stand in the rest of the queue
 names_left : (next : ℕ) (q : Taken) (qs : List Taken) (u : List Value) (es : List Entry) → q.place < next
@@ -48,7 +45,7 @@ names_other q qs u (e ∷ es) lacks all =
     let parts = and_parts (names (q ∷ qs) u e.place) (list_all (λ f. names (q ∷ qs) u f.place) es) all in
     and_from (names qs u e.place) (list_all (λ f. names qs u f.place) es)
     (sym (ap (λ b. (nat_eq q.place e.place && b) || names qs u e.place) lacks
-    ∙ ap (λ b. b || names qs u e.place) (and_false (nat_eq q.place e.place))) ∙ parts.0)
+    ∙ ap (λ b. b || names qs u e.place) (and-false (nat_eq q.place e.place))) ∙ parts.0)
     (names_other q qs u es lacks parts.1)
 
 pub covered_more : (next : ℕ) (q : Taken) (qs : List Taken) (u : List Value) (cur new : List Entry)
@@ -87,7 +84,7 @@ breaks_more negated next q qs w cur new is low covered step =
     by false at None named e = subst (λ (n : Option ℕ). IfSome n (λ s. breaks_before qs w s ≡ true)) (sym e) tt
     by false at (Some s) named e = subst (λ (n : Option ℕ). IfSome n (λ s. breaks_before qs w s ≡ true)) (sym e)
         (sym (ap (λ b. (nat_eq (q.place + 1) s && b) || breaks_before qs w s) at
-        ∙ ap (λ b. b || breaks_before qs w s) (and_false (nat_eq (q.place + 1) s))) ∙ named)
+        ∙ ap (λ b. b || breaks_before qs w s) (and-false (nat_eq (q.place + 1) s))) ∙ named)
 
 -- one table more whose starts are forgotten
 pub later_more : (negated : Bool) (next : ℕ) (old cur new : Option ℕ) (b : Bool) → IsLater negated next old cur
@@ -250,20 +247,16 @@ module _ (queue : List Taken) (q : Taken) where
       by true = refl
       by false = refl
 
-  or_none : (b : Bool) → (b || false) ≡ b
-  or_none true = refl
-  or_none false = refl
-
   names_kept : q.rights.items ≡ [] → (u : List Value) (j : ℕ) → names (queue ++ q ∷ []) u j ≡ names queue u j
   names_kept none u j = list_any-append (λ r. nat_eq r.place j && has_row r.rights.items u) queue (q ∷ [])
       ∙ ap (λ b. names queue u j || b) (no_row q.rights.items (nat_eq q.place j) u none)
-      ∙ or_none (names queue u j)
+      ∙ or-false (names queue u j)
 
   breaks_kept : q.breaks.items ≡ [] → (w : List Value) (s : ℕ)
       → breaks_before (queue ++ q ∷ []) w s ≡ breaks_before queue w s
   breaks_kept none w s = list_any-append (λ r. nat_eq (r.place + 1) s && has_row r.breaks.items w) queue (q ∷ [])
       ∙ ap (λ b. breaks_before queue w s || b) (no_row q.breaks.items (nat_eq (q.place + 1) s) w none)
-      ∙ or_none (breaks_before queue w s)
+      ∙ or-false (breaks_before queue w s)
 
   pub covered_kept : q.rights.items ≡ [] → (u : List Value) (es : List Entry)
       → list_all (λ e. names (queue ++ q ∷ []) u e.place) es ≡ true

@@ -14,8 +14,8 @@ use Rattle.mfotl_model.specs.Tables.{TableOf, all_apart, has_row}
 use Rattle.mfotl_model.specs.Values.{row_cmp}
 use Rattle.mfotl_model.specs.declared.interval.Interval.{Interval}
 use Rattle.mfotl_model.specs.declared.value.Value.{Value}
-use Rattle.relations.specs.KeptRows.{RowsAscend, kept_for, last_for}
-use Rattle.relations.proofs.KeptLemmas.{ascending_differ, each_kept, last_is, or_none}
+use Rattle.relations.specs.KeptRows.{RowsAscend, kept_for}
+use Rattle.relations.proofs.KeptLemmas.{each_kept}
 use Rattle.relations.proofs.TestLemmas.{all_weaker}
 use Rattle.eval_until.specs.AheadView.{AheadOf}
 use Rattle.eval_until.specs.Entries.{entries_for, met_by}
@@ -189,12 +189,6 @@ keeps_resumed negated right pulled taken starts rows queue apart sized some wait
         both_some (λ s. pulled < s) (λ s. s ≤ taken) (λ s. p s ≡ true) gives (kept_start starts w) (above is w)
         (below w))
     only false is p gives = refl
-
--- the look-ups of a map that was filled with rows that ascend
-pub filled_map : {X : Type 0} (es entries : List (List Value × X)) → RowsAscend es
-    → ((u : List Value) → kept_for entries u ≡ last_for es u None)
-    → (u : List Value) → kept_for entries u ≡ kept_for es u
-filled_map es entries up filled u = filled u ∙ last_is es (ascending_differ es up) u None ∙ or_none (kept_for es u)
 
 -- each row's entries ascend
 pub each_ascends : (rows : List (List Value × List Entry)) → RowsAscend rows → Ascending rows

@@ -5,6 +5,7 @@ use Rattle.std.proofs.Common.{◌∙◌, arith, subst}
 use Rattle.std.proofs.lemmas.Bool.{eqb-true}
 use Rattle.std.proofs.lemmas.Bool.Decides.{nat_tests}
 use Rattle.std.proofs.lemmas.Map.Keys.{IsDistinct-from_sorted}
+use Rattle.std.proofs.Math.Bool.{or-false}
 use Rattle.std.specs.BTreeMap.{is_at}
 use Rattle.std.specs.Cmp.{eq_by_cmp_equiv}
 use Rattle.std.specs.List.{AllByRecursion, IsDistinct, list_any}
@@ -23,10 +24,6 @@ use Rattle.relations.proofs.TableRows.{has_more}
 use Rattle.eval_until.specs.declared.entries.Entry.{Entry}
 use Rattle.eval_until.specs.Entries.{entries_for, met_by}
 use Rattle.eval_until.specs.Starts.{later_start}
-
-or_false : (b : Bool) → (b || false) ≡ b
-or_false true = refl
-or_false false = refl
 
 -- what holds of each item holds of that at a place
 equals_one : (eq : List Value → List Value → Bool) (k : List Value) (rows : List (List Value)) (i : ℕ)
@@ -79,7 +76,7 @@ added_more table k x u entry e old cur new low is lacks made before step =
         (made ∙ ap entry (same_row x u at))
         ∙ sym (there (has_row (take k table) u))
     by false at = before ∙ ap (λ b. cond b (entries_for old u ++ entry u ∷ []) (entries_for old u))
-        (sym (or_false (has_row (take k table) u)))
+        (sym (or-false (has_row (take k table) u)))
 
 -- what the entries of the next row are, before it is added
 pub still_old : (table : List (List Value)) (k : ℕ) (x : List Value) (more old cur : List Entry)
@@ -136,7 +133,7 @@ kept_more table k row w starts s cur new low e from before step =
     by : (b : Bool) → is_at (row_cmp row) w ≡ b → cond b (Some s) (lookup (is_at (row_cmp w)) cur)
         ≡ cond (has_row (take k table) w || b) (Some (starts w)) None
     by true at = ap (λ n. Some n) (from ∙ ap starts (same_row row w at)) ∙ here (has_row (take k table) w)
-    by false at = before ∙ ap (λ b. cond b (Some (starts w)) None) (sym (or_false (has_row (take k table) w)))
+    by false at = before ∙ ap (λ b. cond b (Some (starts w)) None) (sym (or-false (has_row (take k table) w)))
 
 -- one more run that breaks
 pub broken_more : (table : List (List Value)) (k : ℕ) (row w : List Value) (behind : ℕ)
@@ -211,7 +208,7 @@ hit_is interval i x u (e ∷ es) h = by (is_at (row_cmp u) e.0) refl
     by true at rest =
         ap (λ r. met_by interval i x e.1 || r) (rest ∙ ap (λ o. met_by interval i x (unwrap_or o []))
         (none_behind u e es h at))
-        ∙ or_false (met_by interval i x e.1)
+        ∙ or-false (met_by interval i x e.1)
     by false at rest = rest
 
 -- after a change at one row, a row that is kept has an entry, if it had one, and if what is put there has one

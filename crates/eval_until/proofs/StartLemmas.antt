@@ -1,6 +1,7 @@
 -- Starts of runs where one has no others beside it.
-use Rattle.std.proofs.Common.{◌≡◌, ℕ, ◌||◌, Bool, true, false, cond, List, [], ◌∷◌, Some, None, length}
+use Rattle.std.proofs.Common.{◌≡◌, ℕ, Bool, true, false, cond, List, [], ◌∷◌, Some, None, length}
 use Rattle.std.proofs.Common.{get_or, refl, sym, ap, ◌∙◌, arith}
+use Rattle.std.proofs.Math.Bool.{or-false}
 use Rattle.std.specs.BTreeMap.{is_at}
 use Rattle.std.specs.Cmp.{eq_by_cmp_equiv}
 use Rattle.std.specs.List.{IsDistinct}
@@ -72,11 +73,7 @@ pub only_row : (table : List (List Value)) (row w : List Value) → length table
 only_row [] row w one is = absurd (omega (arith, one))
 only_row (r ∷ q ∷ rs) row w one is = absurd (omega (arith, one))
 only_row (r ∷ []) row w one is = (eq_by_cmp_equiv row_total).symm row w ∙ ap (λ x. is_at (row_cmp w) x) is
-    ∙ or_true (is_at (row_cmp w) r)
-  where
-    or_true : (b : Bool) → b ≡ (b || false)
-    or_true true = refl
-    or_true false = refl
+    ∙ sym (or-false (is_at (row_cmp w) r))
 
 -- a start that is put in place of all
 pub only_put : (row copy w : List Value) (starts : List Value → ℕ) (s : ℕ) → copy ≡ row → s ≡ starts row

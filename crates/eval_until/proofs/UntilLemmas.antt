@@ -1,29 +1,18 @@
 -- The recursive laws of UNTIL.
 use Rattle.std.proofs.Common.{◌≡◌, ℕ, zero, suc, ◌+◌, ◌-◌, ◌<◌, ◌≤◌, Bool, true, false, cond, ◌&&◌, ◌||◌, nat_le}
-use Rattle.std.proofs.Common.{List, [], ◌∷◌, Some, refl, sym, ap, ◌∙◌, arith, inl, inr, add-one}
+use Rattle.std.proofs.Common.{List, [], ◌∷◌, refl, sym, ap, ◌∙◌, arith, inl, inr, add-one}
 use Rattle.std.proofs.lemmas.Bool.{cases_lt}
 use Rattle.std.proofs.lemmas.Bool.Decides.{nat_tests}
 use Rattle.std.proofs.lemmas.List.Folds.{list_any-append, list_all-append}
+use Rattle.std.proofs.Math.Bool.{and-true, and-false, or-false}
 use Rattle.std.specs.List.{list_any, list_all, range_with_len}
-use Rattle.mfotl_model.specs.Intervals.{in_interval, at_most}
+use Rattle.mfotl_model.specs.Intervals.{in_interval}
 use Rattle.mfotl_model.specs.Satisfaction.{time_at, truth_at, until}
-use Rattle.mfotl_model.specs.declared.interval.Interval.{Interval}
 use Rattle.mfotl_model.proofs.LogicLemmas.{range_suc}
+use Rattle.mfotl_model.proofs.TimeLemmas.{too_far}
 use Rattle.eval_until.specs.UntilBefore.{until_before, start}
 use Rattle.eval_until.specs.UntilLaws.{UntilIs, NoneYet, OneMore, StartMore, StartIs, StartLow, StartRises}
 use Rattle.eval_until.specs.UntilLaws.{PastTheBound}
-
-and_true : (b : Bool) → (b && true) ≡ b
-and_true true = refl
-and_true false = refl
-
-and_false : (b : Bool) → (b && false) ≡ false
-and_false true = refl
-and_false false = refl
-
-or_false : (b : Bool) → (b || false) ≡ b
-or_false true = refl
-or_false false = refl
 
 pub until_is : UntilIs
 unfolding until until_before
@@ -80,7 +69,7 @@ start_is a (suc p) i low = elim (cases_lt p i) [
       ∙ ap (list_all (truth_at a)) (range_suc i (p - i))
       ∙ list_all-append (truth_at a) (range_with_len i (p - i)) ((i + (p - i)) ∷ [])
       ∙ ap (λ k. list_all (truth_at a) (range_with_len i (p - i)) && (truth_at a k && true)) last
-      ∙ ap (λ r. list_all (truth_at a) (range_with_len i (p - i)) && r) (and_true (truth_at a p)))
+      ∙ ap (λ r. list_all (truth_at a) (range_with_len i (p - i)) && r) (and-true (truth_at a p)))
 ]
   where
     at_end : (b : Bool) → start a p ≤ p → p < i → cond b (start a p) (suc p) ≤ i
@@ -89,9 +78,9 @@ start_is a (suc p) i low = elim (cases_lt p i) [
 
     by : (b : Bool) → i ≤ p → nat_le (start a p) i ≡ list_all (truth_at a) (range_with_len i (p - i))
         → nat_le (cond b (start a p) (suc p)) i ≡ (list_all (truth_at a) (range_with_len i (p - i)) && b)
-    by true l e = e ∙ sym (and_true (list_all (truth_at a) (range_with_len i (p - i))))
+    by true l e = e ∙ sym (and-true (list_all (truth_at a) (range_with_len i (p - i))))
     by false l e = let f : nat_le (suc p) i ≡ false = grind (arith, nat_tests) in f
-        ∙ sym (and_false (list_all (truth_at a) (range_with_len i (p - i))))
+        ∙ sym (and-false (list_all (truth_at a) (range_with_len i (p - i))))
 
 pub one_more : OneMore
 unfolding until_before
@@ -104,14 +93,9 @@ one_more interval t a b p i low =
     ∙ ap (list_any test) (range_suc i (p - i))
     ∙ list_any-append test (range_with_len i (p - i)) ((i + (p - i)) ∷ [])
     ∙ ap (λ k. list_any test (range_with_len i (p - i)) || (test k || false)) last
-    ∙ ap (λ r. list_any test (range_with_len i (p - i)) || r) (or_false (test p))
+    ∙ ap (λ r. list_any test (range_with_len i (p - i)) || r) (or-false (test p))
     ∙ ap (λ r. list_any test (range_with_len i (p - i)) ||
     (in_interval interval (time_at t p - time_at t i) && truth_at b p && r)) (sym (start_is a p i low))
-
-too_far : (interval : Interval) (hi d : ℕ) → interval.hi ≡ Some hi → hi < d → in_interval interval d ≡ false
-too_far interval hi d e far = ap (λ o. nat_le interval.lo d && at_most o d) e
-    ∙ ap (λ b. nat_le interval.lo d && b) (let f : nat_le d hi ≡ false = grind (arith, nat_tests) in f)
-    ∙ and_false (nat_le interval.lo d)
 
 pub past_the_bound : PastTheBound
 past_the_bound interval hi t a b i p zero e low far = let z : p + 0 ≡ p = omega arith in
@@ -123,7 +107,7 @@ past_the_bound interval hi t a b i p (suc n) e low far =
     ∙ one_more interval t a b (p + n) i (omega arith)
     ∙ ap (λ c. until_before interval t a b (p + n) i || (c && truth_at b (p + n) && nat_le (start a (p + n)) i))
     (too_far interval hi (time_at t (p + n) - time_at t i) e (omega arith))
-    ∙ or_false (until_before interval t a b (p + n) i)
+    ∙ or-false (until_before interval t a b (p + n) i)
     ∙ past_the_bound interval hi t a b i p n e low (λ j l m. far j l (omega arith))
 
 pub ruleset position_by_position = (

@@ -6,7 +6,7 @@ use Rattle.std.proofs.lemmas.Bool.{and_parts}
 use Rattle.std.proofs.lemmas.List.FromFn.{length-map-range_with_len}
 use Rattle.std.specs.List.{filter, list_all, list_any}
 use Rattle.mfotl_model.proofs.AscendingLemmas.{any_ascending}
-use Rattle.mfotl_model.proofs.LogicLemmas.{any_alike, funext}
+use Rattle.mfotl_model.proofs.LogicLemmas.{any_alike, funext, with_true, all_any}
 use Rattle.mfotl_model.proofs.RowLemmas.{event_exact}
 use Rattle.mfotl_model.specs.Ascending.{ascending}
 use Rattle.mfotl_model.specs.Events.{event_cmp, event_total}
@@ -21,10 +21,6 @@ use Rattle.mfotl_model.specs.declared.term.Atom.{Atom as OneAtom}
 use Rattle.event_splitter.proofs.PartLemmas.{ascending_filter}
 use Rattle.event_splitter.specs.Parts.{part_for, parts_for}
 use Rattle.event_splitter.specs.Readings.{is_seen}
-
-with_true : (a b : Bool) → b ≡ true → (a && b) ≡ a
-with_true true b e = e
-with_true false b e = refl
 
 all_kept : {A : Type 0} (p q : A → Bool) (xs : List A) → ((x : A) → p x ≡ q x) → list_all q xs ≡ true → filter p xs ≡ xs
 all_kept p q [] same all = refl
@@ -41,14 +37,6 @@ kept_pass p (x ∷ xs) = at (p x) refl (kept_pass p xs)
         → list_all p (cond b (x ∷ filter p xs) (filter p xs)) ≡ true
     at true e rest = ap (λ b. b && list_all p (filter p xs)) e ∙ rest
     at false e rest = rest
-
-no_other : {A : Type 0} (p : A → Bool) (xs : List A) → list_all p xs ≡ not (list_any (λ x. not (p x)) xs)
-no_other p [] = refl
-no_other p (x ∷ xs) = ap (λ b. p x && b) (no_other p xs) ∙ at (p x) (list_any (λ x. not (p x)) xs)
-  where
-    at : (b c : Bool) → (b && not c) ≡ not (not b || c)
-    at true c = refl
-    at false c = refl
 
 none_kept : {A : Type 0} (p : A → Bool) (xs : List A) → list_any p xs ≡ false → filter p xs ≡ []
 none_kept p [] none = refl
@@ -71,9 +59,9 @@ kept_none p (x ∷ xs) none = at (p x) none (λ e. kept_none p xs e)
 all_ascending : (p : Event → Bool) (events : List Event)
     → list_all p (ascending event_cmp events) ≡ list_all p events
 all_ascending p events =
-    no_other p (ascending event_cmp events)
+    all_any p (ascending event_cmp events)
     ∙ ap not (any_ascending event_total event_exact (λ event. not (p event)) events)
-    ∙ sym (no_other p events)
+    ∙ sym (all_any p events)
 
 -- a region that has each row sees each event that some atom stands for
 seen_alike : (near : Region) → ((vs : List ℕ) (v : Valuation) → near vs v ≡ true) → (atoms : List OneAtom)
@@ -177,7 +165,3 @@ none_are_seen near count covers atoms point events are e =
     sym (any_seen near count one covers atoms events)
     ∙ ap (list_any sees_it) are
     ∙ kept_none sees_it point.db none
-
-pub not_true : (b : Bool) → not b ≡ true → b ≡ false
-not_true false e = refl
-not_true true e = absurd cc

@@ -1,7 +1,6 @@
 -- The events of parts.
-use Rattle.std.proofs.Common.{◌≡◌, ◌∙◌, ap, ap₂, sym, refl, arith, ℕ, zero, suc, ◌+◌, Bool, true, false, nat_eq, cond}
-use Rattle.std.proofs.Common.{◌&&◌, ◌||◌, List, [], ◌∷◌, ◌++◌, map, length, replicate, take, drop}
-use Rattle.std.proofs.lemmas.Bool.{cond-true, cond-false, eqb-true}
+use Rattle.std.proofs.Common.{◌≡◌, ◌∙◌, ap, ap₂, sym, refl, arith, ℕ, zero, suc, ◌+◌, Bool, true, false, cond}
+use Rattle.std.proofs.Common.{◌&&◌, List, [], ◌∷◌, ◌++◌, map, length, replicate, take, drop, append-nil}
 use Rattle.std.proofs.lemmas.List.{drop_all, take_all}
 use Rattle.std.proofs.lemmas.List.Elements.{filter-append}
 use Rattle.std.proofs.lemmas.List.Kept.{IsStrictlySortedBy-filter}
@@ -10,15 +9,16 @@ use Rattle.std.proofs.lemmas.Map.Views.{any-filter_same, tells_apart}
 use Rattle.std.specs.BTreeSet.{BTreeSet, insert_key}
 use Rattle.std.specs.List.{filter, flat_map, list_any, range_with_len}
 use Rattle.std.specs.Ordering.{eq_by_cmp}
+use Rattle.std.specs.Cmp.{both_ways}
 use Rattle.mfotl_model.proofs.AscendingLemmas.{any_ascending, insert_behind, sorted_ascending}
-use Rattle.mfotl_model.proofs.LogicLemmas.{among_distinct, any_alike, any_map, funext}
+use Rattle.mfotl_model.proofs.LogicLemmas.{among_distinct, any_alike, any_map, funext, any_filter}
 use Rattle.mfotl_model.proofs.RowLemmas.{event_exact}
+use Rattle.mfotl_model.proofs.ColumnLemmas.{read_own}
 use Rattle.mfotl_model.specs.Ascending.{ascending}
 use Rattle.mfotl_model.specs.Events.{event_cmp, event_total}
-use Rattle.mfotl_model.specs.FreeVariables.{among, variable_in, variables_in}
+use Rattle.mfotl_model.specs.FreeVariables.{variable_in, variables_in}
 use Rattle.mfotl_model.specs.Matching.{is_match, reads}
 use Rattle.mfotl_model.specs.Regions.{Passes, Region}
-use Rattle.mfotl_model.specs.Satisfaction.{Valuation}
 use Rattle.mfotl_model.specs.Slices.{sees, slice}
 use Rattle.mfotl_model.specs.Tables.{valuation}
 use Rattle.mfotl_model.specs.declared.event.Event.{Event}
@@ -44,38 +44,6 @@ ascending_filter p xs =
     (λ k h. ap p (sym (tells_apart event_exact q k h))) (ascending event_cmp xs)))
     event_exact
 
-same_truth : (x y : Bool) → (x ≡ true → y ≡ true) → (y ≡ true → x ≡ true) → x ≡ y
-same_truth true y h k = sym (h refl)
-same_truth false true h k = k refl
-same_truth false false h k = refl
-
--- a row is read back at its columns
-read_own : (v : Valuation) (columns : List ℕ) (y : ℕ) → among y columns ≡ true
-    → valuation columns (map v columns) y ≡ v y
-read_own v [] y m = cc
-read_own v (x ∷ columns) y m = by (nat_eq y x) refl (read_own v columns y)
-  where
-    by : (b : Bool) → nat_eq y x ≡ b → (among y columns ≡ true → valuation columns (map v columns) y ≡ v y)
-        → valuation (x ∷ columns) (map v (x ∷ columns)) y ≡ v y
-    by true e rest = cond-true (nat_eq y x) (v x) (valuation columns (map v columns) y) e ∙ ap v (sym (eqb-true y x e))
-    by false e rest =
-        cond-false (nat_eq y x) (v x) (valuation columns (map v columns) y) e
-        ∙ rest (sym (ap (λ b. b || among y columns) e) ∙ m)
-
-any_kept : {X : Type 0} (test p : X → Bool) (xs : List X)
-    → list_any test (filter p xs) ≡ list_any (λ x. p x && test x) xs
-any_kept test p [] = refl
-any_kept test p (x ∷ xs) = step (p x) ∙ ap (λ t. (p x && test x) || t) (any_kept test p xs)
-  where
-    step : (b : Bool) → list_any test (cond b (x ∷ filter p xs) (filter p xs))
-        ≡ ((b && test x) || list_any test (filter p xs))
-    step true = refl
-    step false = refl
-
-append-nil : {X : Type 0} (xs : List X) → xs ++ [] ≡ xs
-append-nil [] = refl
-append-nil (x ∷ xs) = ap (λ ys. x ∷ ys) (append-nil xs)
-
 module _ (free : List ℕ) (near : Region) (passes : Passes free near) where
   -- a region doesn't ask how often the variables stand there
   near_alike : (event : Event) (atom : OneAtom)
@@ -83,7 +51,7 @@ module _ (free : List ℕ) (near : Region) (passes : Passes free near) where
   near_alike event atom =
       let vs = flat_map variable_in atom.args in
       let r = reads atom event in
-      same_truth (near vs (valuation vs (map r vs))) (near (variables_in atom.args) r)
+      both_ways (near vs (valuation vs (map r vs))) (near (variables_in atom.args) r)
       (passes vs (variables_in atom.args) (valuation vs (map r vs)) r
       (λ y m f. (sym (among_distinct y vs) ∙ m, read_own r vs y (sym (among_distinct y vs) ∙ m))))
       (passes (variables_in atom.args) vs r (valuation vs (map r vs))
@@ -95,7 +63,7 @@ module _ (free : List ℕ) (near : Region) (passes : Passes free near) where
   unfolding readings_of
   near_sees atoms event =
       any_map (is_near near) (reading_of event) (filter (λ atom. is_match atom event) atoms)
-      ∙ any_kept (λ atom. is_near near (reading_of event atom)) (λ atom. is_match atom event) atoms
+      ∙ any_filter (λ atom. is_near near (reading_of event atom)) (λ atom. is_match atom event) atoms
       ∙ any_alike (λ atom. is_match atom event && is_near near (reading_of event atom)) (sees near event) atoms
       (λ atom. ap (λ b. is_match atom event && b) (near_alike event atom))
 
@@ -171,10 +139,6 @@ parts_none near n ts atoms = by 0 n
     by : (a n : ℕ) → replicate n (record { ts = ts; db = [] }) ≡ map (part_of near atoms ts []) (range_with_len a n)
     by a zero = refl
     by a (suc n) = ap (λ ps. record { ts = ts; db = [] } ∷ ps) (by (a + 1) n)
-
-pub parts_size : (f : ℕ → TimePoint) (a n : ℕ) → length (map f (range_with_len a n)) ≡ n
-parts_size f a zero = refl
-parts_size f a (suc n) = ap suc (parts_size f (a + 1) n)
 
 -- the parts stay as many, so what is written back is all of them
 pub written_back : (new old : List TimePoint) (count : ℕ) → length new ≡ length old → length old ≡ count

@@ -1,24 +1,22 @@
 -- One event put into the parts of the workers that it concerns, one worker after another.
-use Rattle.std.proofs.Common.{◌≡◌, ◌∙◌, ap, sym, refl, arith, ℕ, zero, suc, ◌+◌, ◌<◌, ◌≤◌, Bool, true, false, nat_eq}
+use Rattle.std.proofs.Common.{◌≡◌, ◌∙◌, ap, sym, refl, arith, ℕ, zero, suc, ◌+◌, ◌<◌, ◌≤◌, Bool, true, false}
 use Rattle.std.proofs.Common.{◌&&◌, ◌||◌, cond, nat_lt, inl, inr, ◌⊎◌, List, [], ◌∷◌, ◌++◌, length, set, get_or, take}
 use Rattle.std.proofs.Common.{Option, Some, None, min}
-use Rattle.std.proofs.lemmas.Bool.{cases_eq, cases_lt, eq-eqb, or_left, or_right}
+use Rattle.std.proofs.lemmas.Bool.{cases_lt, or_left, or_right, or_from}
 use Rattle.std.proofs.lemmas.Bool.Decides.{nat_tests}
 use Rattle.std.proofs.lemmas.List.{take_more}
 use Rattle.std.proofs.lemmas.List.Folds.{list_any-append}
+use Rattle.std.proofs.Math.Bool.{or-false, and-false, and-true}
 use Rattle.std.specs.List.{range_with_len}
-use Rattle.mfotl_model.specs.FreeVariables.{among}
 use Rattle.mfotl_model.specs.Regions.{Region}
 use Rattle.mfotl_model.specs.declared.event.Event.{Event}
 use Rattle.mfotl_model.specs.declared.event.TimePoint.{TimePoint}
+use Rattle.mfotl_model.proofs.LogicLemmas.{among_range}
 use Rattle.slice_strategy.specs.Slicers.{BindsAll, NoneFrom}
 use Rattle.event_splitter.specs.Parts.{given_to, with_event}
 use Rattle.event_splitter.specs.Readings.{IsFirst, ReadingOf, earlier, is_near, some_near}
 
 -- ---- the first worker of several readings
-
-neither : (a b : Bool) → a ≡ false → b ≡ false → (a || b) ≡ false
-neither a b no_a no_b = rw no_a no_b
 
 -- the first that passes either of two tests
 pub first_of_both : (p q : ℕ → Bool) (from count : ℕ) (a b : Option ℕ) → IsFirst p from count a → IsFirst q from count b
@@ -27,28 +25,28 @@ first_of_both p q from count None None at_a at_b =
     record {
       reached = tt;
       passes = tt;
-      first = λ k up low. neither (p k) (q k) (at_a.first k up low) (at_b.first k up low);
+      first = λ k up low. or_from (p k) (q k) (at_a.first k up low) (at_b.first k up low);
     }
 first_of_both p q from count None (Some b) at_a at_b =
     record {
       reached = at_b.reached;
       passes = or_right (p b) (q b) at_b.passes;
       first = λ k up low.
-          neither (p k) (q k) (at_a.first k up (omega (arith, low, at_b.reached.1))) (at_b.first k up low);
+          or_from (p k) (q k) (at_a.first k up (omega (arith, low, at_b.reached.1))) (at_b.first k up low);
     }
 first_of_both p q from count (Some a) None at_a at_b =
     record {
       reached = at_a.reached;
       passes = or_left (p a) (q a) at_a.passes;
       first = λ k up low.
-          neither (p k) (q k) (at_a.first k up low) (at_b.first k up (omega (arith, low, at_a.reached.1)));
+          or_from (p k) (q k) (at_a.first k up low) (at_b.first k up (omega (arith, low, at_a.reached.1)));
     }
 first_of_both p q from count (Some a) (Some b) at_a at_b =
     record {
       reached = (omega (arith, at_a.reached.0, at_b.reached.0), omega (arith, at_a.reached.1, at_b.reached.1));
       passes = by (cases_lt a b);
       first = λ k up low.
-          neither (p k) (q k) (at_a.first k up (omega (arith, low))) (at_b.first k up (omega (arith, low)));
+          or_from (p k) (q k) (at_a.first k up (omega (arith, low))) (at_b.first k up (omega (arith, low)));
     }
   where
     by : (a < b) ⊎ (b ≤ a) → (p (min a b) || q (min a b)) ≡ true
@@ -70,10 +68,6 @@ first_same p q from count (Some a) same at =
       first = λ k up low. sym (same k) ∙ at.first k up low;
     }
 
-right_false : (b : Bool) → (b || false) ≡ b
-right_false true = refl
-right_false false = refl
-
 -- one reading more
 pub first_more : (near : ℕ → Region) (readings : List ReadingOf) (i from count : ℕ) (found next : Option ℕ)
     (reading : ReadingOf) → i < length readings → reading ≡ get_or readings i reading
@@ -86,7 +80,7 @@ first_more near readings i from count found next reading low is so_far here =
     (λ k. sym (ap (λ rs. some_near rs (near k))
     (take_more readings i reading low ∙ ap (λ r. take i readings ++ r ∷ []) (sym is))
     ∙ list_any-append (is_near (near k)) (take i readings) (reading ∷ [])
-    ∙ ap (λ b. some_near (take i readings) (near k) || b) (right_false (is_near (near k) reading))))
+    ∙ ap (λ b. some_near (take i readings) (near k) || b) (or-false (is_near (near k) reading))))
     (first_of_both (λ k. some_near (take i readings) (near k)) (λ k. is_near (near k) reading) from count found next
     so_far here)
 
@@ -136,19 +130,11 @@ given_at p q event y (suc i) (part ∷ parts) other low no_p is_q same =
     (given_at p q event (y + 1) i parts other (omega (arith, low)) (sym (ap p next) ∙ no_p) (sym (ap q next) ∙ is_q)
     (λ k up k_low apart. same k (omega (arith, up)) (omega (arith, k_low)) (λ e. apart (e ∙ next))))
 
-and_false : (b : Bool) → (b && false) ≡ false
-and_false true = refl
-and_false false = refl
-
-and_true : (b : Bool) → (b && true) ≡ b
-and_true true = refl
-and_true false = refl
-
 pub given_start : (test : ℕ → Bool) (event : Event) (parts : List TimePoint)
     → parts ≡ given_to (up_to test 0) event 0 parts
 given_start test event parts = given_none (up_to test 0) event 0 parts (λ k.
     let above : nat_lt k 0 ≡ false = search arith in
-    ap (λ b. test k && b) above ∙ and_false (test k))
+    ap (λ b. test k && b) above ∙ and-false (test k))
 
 -- the next worker's part is given the event
 pub given_next : (test : ℕ → Bool) (event : Event) (parts : List TimePoint) (from k : ℕ) (other : TimePoint)
@@ -162,13 +148,13 @@ given_next test event parts from k other up low is none =
     out : up_to test from (0 + k) ≡ false
     out =
         let above : nat_lt (0 + k) from ≡ false = grind (arith, nat_tests) in
-        ap (λ b. test (0 + k) && b) above ∙ and_false (test (0 + k))
+        ap (λ b. test (0 + k) && b) above ∙ and-false (test (0 + k))
 
     inside : up_to test (k + 1) (0 + k) ≡ true
     inside =
         let below : nat_lt (0 + k) (k + 1) ≡ true = grind (arith, nat_tests) in
         let here : 0 + k ≡ k = omega arith in
-        ap (λ b. test (0 + k) && b) below ∙ and_true (test (0 + k)) ∙ ap test here ∙ is
+        ap (λ b. test (0 + k) && b) below ∙ and-true (test (0 + k)) ∙ ap test here ∙ is
 
     same : (j : ℕ) → 0 ≤ j → j < 0 + length parts → (j ≡ 0 + k → ⊥) → up_to test from j ≡ up_to test (k + 1) j
     same j bottom top apart =
@@ -199,20 +185,10 @@ given_end test event parts from none =
     by : (k : ℕ) → k < 0 + length parts → (k < from) ⊎ (from ≤ k) → up_to test from k ≡ test k
     by k top (inl before) =
         let one : nat_lt k from ≡ true = grind (arith, nat_tests) in
-        ap (λ b. test k && b) one ∙ and_true (test k)
+        ap (λ b. test k && b) one ∙ and-true (test k)
     by k top (inr behind) =
         let nothing = none k behind (omega (arith, top)) in
         ap (λ b. b && nat_lt k from) nothing ∙ sym nothing
-
-among_range : (a n y : ℕ) → a ≤ y → y < a + n → among y (range_with_len a n) ≡ true
-among_range a zero y low high = absurd (omega arith)
-among_range a (suc n) y low high =
-    elim (cases_eq y a) [
-      | inl e ↦ or_left (nat_eq y a) (among y (range_with_len (a + 1) n)) (eq-eqb y a e)
-      | inr ne ↦
-          or_right (nat_eq y a) (among y (range_with_len (a + 1) n))
-          (among_range (a + 1) n y (omega arith) (omega arith))
-    ]
 
 -- the first n numbers bind the first n variables
 pub range_binds : (n : ℕ) → BindsAll n (range_with_len 0 n)

@@ -1,6 +1,7 @@
 -- The time-points that tokens give are those of their completed fronts.
-use Rattle.std.proofs.Common.{◌≡◌, ◌⊎◌, inl, inr, ℕ, Bool, true, false, ◌&&◌, List, [], ◌∷◌, ◌++◌, Result, Ok, Err}
+use Rattle.std.proofs.Common.{◌≡◌, ◌⊎◌, inl, inr, ℕ, Bool, true, false, List, [], ◌∷◌, ◌++◌, Result, Ok, Err}
 use Rattle.std.proofs.Common.{refl, sym, ap, subst, ◌∙◌, append_assoc}
+use Rattle.std.proofs.lemmas.Bool.{and_parts}
 use Rattle.mfotl_lex.specs.FirstFault.{Tail}
 use Rattle.mfotl_lex.specs.Lexemes.{Lexeme}
 use Rattle.mfotl_model.specs.declared.event.TimePoint.{TimePoint}
@@ -31,10 +32,6 @@ one_point point [] b e = inl refl
 one_point point (x ∷ a) b e =
     let none : a ≡ [] = no_points a b cc in
     inr cc
-
-both : (a b : Bool) → (a && b) ≡ true → (a ≡ true) × (b ≡ true)
-both true b e = (refl, e)
-both false b e = absurd cc
 
 -- ---- the end of tokens that are all there are
 
@@ -151,7 +148,7 @@ module _ (sig : List PredOf) (limits : Limits) (len : ℕ) (ends : Partial → R
         → completed p t ++ (went_on (step sig limits p t) (λ q. run sig limits ends q ts)).points ≡ a ++ b → Later ts
         → Found p (t ∷ ts) a
     by_token p t ts a b true c e later =
-        let why = both (is_whole p.stage) (ends_point (symbol t)) c in
+        let why = and_parts (is_whole p.stage) (ends_point (symbol t)) c in
         complete p t ts a b (step sig limits p t) refl (completed_one p t c) why.0 why.1
         (rw (completed_one p t c) at e) later
     by_token p t ts a b false c e later =

@@ -3,6 +3,7 @@ use Rattle.std.proofs.Common.{◌≡◌, ◌≤◌, inl, inr, ℕ, Bool, true, f
 use Rattle.std.proofs.Common.{Err, refl, sym, ap, subst, ◌∙◌}
 use Rattle.std.specs.Prelude.{option_and_then}
 use Rattle.std.proofs.lemmas.List.{map-append}
+use Rattle.std.proofs.lemmas.Option.{same_Some}
 use Rattle.mfotl_lex.proofs.FirstFaultLaws.{exact_faults}
 use Rattle.mfotl_lex.specs.FirstFault.{Tail, Broken, End, More, run, FollowsGrammar}
 use Rattle.mfotl_lex.specs.Lexemes.{Lexeme}
@@ -139,9 +140,6 @@ module _ (sig : List PredOf) (limits : Limits) (front : List Lexeme) (p : Partia
 no_truth : true ≡ false → ⊥
 no_truth e = cc
 
-same_there : (s f : Stage) → Some s ≡ Some f → s ≡ f
-same_there s f e = cc
-
 module _ (ts : List Lexeme) (n : ℕ) (p : Partial) (path : paths Between (symbols_of ts) ≡ Some p.stage) where
   -- the end shows Syntax where the tokens aren't accepted
   refused : (b : Bool) → accepts p.stage ≡ b → (fault : LogFault) → ended_at n p p.stage ≡ Err fault
@@ -153,7 +151,7 @@ module _ (ts : List Lexeme) (n : ℕ) (p : Partial) (path : paths Between (symbo
       subst (IsLast ts (End n)) same (record {
         unaccepted = λ accepted.
             let ends = accepted_ends ts accepted in
-            no_truth (sym ends.2 ∙ ap accepts (sym (same_there p.stage ends.0 (sym path ∙ ends.1))) ∙ e);
+            no_truth (sym ends.2 ∙ ap accepts (sym (same_Some p.stage ends.0 (sym path ∙ ends.1))) ∙ e);
         stands = refl;
       })
 

@@ -2,6 +2,7 @@
 use Rattle.std.proofs.Common.{◌≡◌, inl, inr, ℕ, Bool, true, false, cond, List, length, Option, Some, None, Result, Ok}
 use Rattle.std.proofs.Common.{Err, refl, sym, ap, ◌∙◌, arith}
 use Rattle.std.proofs.lemmas.Bool.{le-ltb, ltb-false}
+use Rattle.std.proofs.lemmas.Option.{same_Some}
 use Rattle.mfotl_lex.proofs.FirstFaultLaws.{bind_ok, one_answer}
 use Rattle.mfotl_lex.specs.FirstFault.{◌>>=◌, run, reading as reading_of, ReadIsValue, ValueIsRead, OneAnswer}
 use Rattle.mfotl_lex.specs.Lexemes.{Lexeme}
@@ -29,9 +30,6 @@ whole points = record { points = points; ending = NoFault }
 
 no_fault : (fault : LogFault) → Fault fault ≡ NoFault → ⊥
 no_fault fault e = cc
-
-same_some : (xs ys : List TimePoint) → Some xs ≡ Some ys → xs ≡ ys
-same_some xs ys e = cc
 
 none_some : (xs : List TimePoint) → None ≡ Some xs → ⊥
 none_some xs e = cc
@@ -86,7 +84,7 @@ module _ (sig : List PredOf) (limits : Limits) (len : ℕ) (ts : List Lexeme) wh
   read_of_value : (points : List TimePoint) (s : Spelled points)
       → LogJudged sig limits len nothing_read limits.points s.log ts
       → run_points sig limits (last sig limits len) nothing_read ts ≡ whole points
-  read_of_value points s (inl x) = x.2.reads ∙ ap whole (same_some x.0 points (sym x.1 ∙ s.value))
+  read_of_value points s (inl x) = x.2.reads ∙ ap whole (same_Some x.0 points (sym x.1 ∙ s.value))
   read_of_value points s (inr y) = absurd (none_some points (sym y.0 ∙ s.value))
 
   pub spelled_tokens : (points : List TimePoint) → Spelled points

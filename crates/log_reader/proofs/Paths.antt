@@ -1,6 +1,7 @@
 -- The automaton of the grammar goes on with exactly the symbols of logs, and of what logs begin with.
 use Rattle.std.proofs.Common.{◌≡◌, ℕ, Bool, true, false, cond, List, [], ◌∷◌, ◌++◌, Option, Some, None, refl, sym, ap}
 use Rattle.std.proofs.Common.{◌∙◌}
+use Rattle.std.proofs.lemmas.Option.{same_Some}
 use Rattle.std.specs.Prelude.{option_and_then}
 use Rattle.std.specs.List.{AllByRecursion}
 use Rattle.mfotl_lex.specs.Lexemes.{Lexeme}
@@ -101,9 +102,6 @@ with_mention name r = record r {
       record { name = name; first = r.group; more = r.groups } ∷ r.mentions;
 }
 
-to_stage : (g h : Stage) → Some g ≡ Some h → g ≡ h
-to_stage g h e = cc
-
 -- one symbol more, by where it leads
 before : (s : Stage) (x : Symbol) (g : Stage) (xs : List Symbol) → Transition s x g → Tail g xs → Tail s (x ∷ xs)
 before _ _ _ xs begins_first u =
@@ -151,7 +149,7 @@ ends _ a = absurd cc
 
 -- where the automaton accepts, the symbols spell what the stage needs
 no_more : (s f : Stage) → Some s ≡ Some f → accepts f ≡ true → Tail s []
-no_more s f e a = ends s (ap accepts (to_stage s f e) ∙ a)
+no_more s f e a = ends s (ap accepts (same_Some s f e) ∙ a)
 
 -- the first step of a path
 first_step : (o : Option Stage) (f : Stage) (next : Stage → Option Stage) → option_and_then next o ≡ Some f

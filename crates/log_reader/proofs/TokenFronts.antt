@@ -1,12 +1,12 @@
 -- What is seen straight in a log's bytes is what a lexer would find there.
-use Rattle.std.proofs.Common.{◌≡◌, ℕ, suc, ◌+◌, ◌≤◌, ◌<◌, Bool, true, false, List, [], ◌∷◌, length, take, drop, cond}
-use Rattle.std.proofs.Common.{Option, Some, None, Result, Ok, Err, IfSome, get_or, refl, sym, ap, subst, ◌∙◌, inl, inr, arith}
+use Rattle.std.proofs.Common.{◌≡◌, ℕ, ◌+◌, ◌≤◌, ◌<◌, Bool, true, false, List, [], ◌∷◌, length, take, drop, cond}
+use Rattle.std.proofs.Common.{Option, Some, None, Result, Ok, Err, IfSome, get_or, refl, sym, ap, subst, ◌∙◌, inl, inr}
+use Rattle.std.proofs.Common.{arith}
 use Rattle.std.specs.Prelude.{◌==◌}
 use Rattle.std.specs.List.{prefix_len}
 use Rattle.std.proofs.lemmas.Bool.{cases_Bool, eqb-true, le-ltb, lt-ltb, or_right}
 use Rattle.std.proofs.lemmas.List.{length-take}
-use Rattle.std.proofs.lemmas.Bool.Decides.{nat_tests}
-use Rattle.mfotl_lex.proofs.BlankLemmas.{blank_len-none}
+use Rattle.mfotl_lex.proofs.BlankLemmas.{blank_len-none, blank_space}
 use Rattle.mfotl_lex.proofs.Sequence.{next_is, after_is, scan_at, tokens_step}
 use Rattle.mfotl_lex.specs.Blanks.{blank_len}
 use Rattle.mfotl_lex.specs.Bytes.{quote, hash, is_space, in_log_word}
@@ -22,6 +22,7 @@ use Rattle.mfotl_lex.specs.declared.scan.Scan.{Scan}
 use Rattle.mfotl_lex.specs.declared.scan.Scan.TheVariants.{Unshown, Takes, Fails}
 use Rattle.mfotl_lex.specs.declared.token.Token.{Token}
 use Rattle.log_reader.specs.Tokens.{front_of, blank_before, IsInFront}
+use Rattle.log_reader.proofs.WordLexing.{no_blank, no_comment}
 
 -- a whole token without blanks before it
 record IsWhole (bytes : List ℕ) (kind : Kind) (n : ℕ) : Type 0 where
@@ -87,12 +88,6 @@ mark_in_front b more at kind e = in_front (b ∷ more) at kind 1 (mark_whole b m
 
 -- ---- words
 
-no_blank : (b : ℕ) → in_log_word b ≡ true → is_space b ≡ false
-no_blank b h = grind (arith, nat_tests)
-
-no_comment : (b : ℕ) → in_log_word b ≡ true → (b == hash) ≡ false
-no_comment b h = grind (arith, nat_tests)
-
 first_in : (b : ℕ) (bytes : List ℕ) (n : ℕ) → prefix_len in_log_word (b ∷ bytes) ≡ n → 0 < n
     → in_log_word b ≡ true
 first_in b bytes n e some =
@@ -125,14 +120,9 @@ word_in_front bytes at n e some few inner = in_front bytes at Word n (word_whole
 
 -- ---- one blank
 
-blank_counts : (ended : Bool) (b : ℕ) (bytes : List ℕ) → is_space b ≡ true
-    → blank_len ended (b ∷ bytes) ≡ suc (blank_len ended bytes)
-unfolding blank_len
-blank_counts ended b bytes space = rw space refl
-
 past_blank : (ended : Bool) (b : ℕ) (bytes : List ℕ) (at : ℕ) → is_space b ≡ true
     → past_blanks (front_of (b ∷ bytes) at ended) ≡ past_blanks (front_of bytes (at + 1) ended)
-past_blank ended b bytes at space = rw (blank_counts ended b bytes space)
+past_blank ended b bytes at space = rw (blank_space ended b bytes space)
     (ap (λ (k : ℕ). front_of (drop (blank_len ended bytes) bytes) k ended) (omega arith))
 
 -- behind a token it doesn't matter where its blanks begin

@@ -1,5 +1,5 @@
 -- Writing blanks, words and marks of a log, and cutting them into the same tokens again.
-use Rattle.std.proofs.Common.{◌≡◌, ℕ, suc, ◌+◌, ◌<◌, ◌≤◌, Bool, true, false, not, List, [], ◌∷◌, ◌++◌, length, take}
+use Rattle.std.proofs.Common.{◌≡◌, ℕ, ◌+◌, ◌<◌, ◌≤◌, Bool, true, false, not, List, [], ◌∷◌, ◌++◌, length, take}
 use Rattle.std.proofs.Common.{drop, cond, Some, None, Ok, refl, ap, ◌∙◌, arith}
 use Rattle.std.proofs.Math.Seq.{take-append_seam, drop-append_seam}
 use Rattle.std.proofs.lemmas.Bool.{le-ltb}
@@ -18,7 +18,7 @@ use Rattle.mfotl_lex.specs.declared.kind.Kind.TheVariants.{Word}
 use Rattle.mfotl_lex.specs.declared.kind.Mode.TheVariants.{Log}
 use Rattle.mfotl_lex.specs.declared.fault.LexFaultKind.TheVariants.{TextLong}
 use Rattle.mfotl_lex.specs.declared.scan.Scan.TheVariants.{Takes, Fails}
-use Rattle.mfotl_lex.proofs.BlankLemmas.{blank_len-none}
+use Rattle.mfotl_lex.proofs.BlankLemmas.{blank_len-none, blank_space}
 use Rattle.mfotl_lex.proofs.GrowingLemmas.{tokens_same}
 use Rattle.mfotl_lex.proofs.Sequence.{tokens_token}
 use Rattle.log_reader.specs.Grammar.{symbols_of}
@@ -43,14 +43,9 @@ nothing_cut at = record { seen = refl; whole = refl }
 
 -- ---- blanks
 
-blank_counts : (b : ℕ) (bytes : List ℕ) → is_space b ≡ true
-    → blank_len true (b ∷ bytes) ≡ suc (blank_len true bytes)
-unfolding blank_len
-blank_counts b bytes space = rw space refl
-
 past_blank : (b : ℕ) (bytes : List ℕ) (at : ℕ) → is_space b ≡ true
     → past_blanks (place_of at (b ∷ bytes)) ≡ past_blanks (place_of (at + 1) bytes)
-past_blank b bytes at space = rw (blank_counts b bytes space)
+past_blank b bytes at space = rw (blank_space true b bytes space)
     (ap (λ (k : ℕ). place_of k (drop (blank_len true bytes) bytes)) (omega arith))
 
 -- a blank in front changes nothing
@@ -131,10 +126,10 @@ word_len [] more all a = apart more a
 word_len (b ∷ word) more all a =
     rw (first_in b word all, word_len word more (others_in b word all) a) (omega arith)
 
-no_blank : (b : ℕ) → in_log_word b ≡ true → is_space b ≡ false
+pub no_blank : (b : ℕ) → in_log_word b ≡ true → is_space b ≡ false
 no_blank b h = grind (arith, nat_tests)
 
-no_comment : (b : ℕ) → in_log_word b ≡ true → (b == hash) ≡ false
+pub no_comment : (b : ℕ) → in_log_word b ≡ true → (b == hash) ≡ false
 no_comment b h = grind (arith, nat_tests)
 
 word_first : (b : ℕ) (bytes : List ℕ) → in_log_word b ≡ true → log_scan true (b ∷ bytes)

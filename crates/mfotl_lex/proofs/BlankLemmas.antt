@@ -9,7 +9,7 @@ use Rattle.mfotl_lex.specs.Blanks.{blank_len, comment_len}
 
 -- ---- one byte
 
-blank_space : (ended : Bool) (b : ℕ) (bytes : List ℕ) → is_space b ≡ true
+pub blank_space : (ended : Bool) (b : ℕ) (bytes : List ℕ) → is_space b ≡ true
     → blank_len ended (b ∷ bytes) ≡ suc (blank_len ended bytes)
 unfolding blank_len
 blank_space ended b bytes h = cond-true (is_space b) _ _ h
@@ -19,10 +19,11 @@ blank_hash : (ended : Bool) (b : ℕ) (bytes : List ℕ) → is_space b ≡ fals
 unfolding blank_len
 blank_hash ended b bytes h k = cond-false (is_space b) _ _ h ∙ cond-true (b == hash) _ _ k
 
-blank_other : (ended : Bool) (b : ℕ) (bytes : List ℕ) → is_space b ≡ false → (b == hash) ≡ false
+-- no blank stands before a byte that is neither whitespace nor `#`
+pub blank_len-none : (ended : Bool) (b : ℕ) (bytes : List ℕ) → is_space b ≡ false → (b == hash) ≡ false
     → blank_len ended (b ∷ bytes) ≡ 0
 unfolding blank_len
-blank_other ended b bytes h k = cond-false (is_space b) _ _ h ∙ cond-false (b == hash) _ _ k
+blank_len-none ended b bytes h k = cond-false (is_space b) _ _ h ∙ cond-false (b == hash) _ _ k
 
 comment_closed : (ended : Bool) (count b : ℕ) (bytes : List ℕ) → (b == line_feed) ≡ true
     → comment_len ended count (b ∷ bytes) ≡ suc count + blank_len ended bytes
@@ -87,7 +88,7 @@ mutual
                   drop_from (m - 1) m b bytes (omega arith),
                 ) refl
           ]
-          | inr k ↦ rw (blank_other false b bytes h k) (sym (zero-add _))
+          | inr k ↦ rw (blank_len-none false b bytes h k) (sym (zero-add _))
         ]
       ]
 
@@ -145,7 +146,7 @@ mutual
               rw (blank_hash true b bytes h k) at lt in
               rw (blank_hash false b bytes h k, blank_hash true b bytes h k)
               (comment_before_end 1 bytes (omega arith))
-          | inr k ↦ rw (blank_other false b bytes h k, blank_other true b bytes h k) refl
+          | inr k ↦ rw (blank_len-none false b bytes h k, blank_len-none true b bytes h k) refl
         ]
       ]
 
@@ -190,7 +191,7 @@ mutual
                 rw (blank_hash false b bytes h k, take_from (m - 1) m b bytes (omega arith))
                 (blank_hash false b (take (m - 1) bytes) h k ∙ w.1)
           ]
-          | inr k ↦ rw (blank_other false b bytes h k) (blank_nil false)
+          | inr k ↦ rw (blank_len-none false b bytes h k) (blank_nil false)
         ]
       ]
 
@@ -285,11 +286,6 @@ no_hash b bytes none =
       | inl k ↦ absurd (omega (arith, comment_counts 1 bytes, sym (blank_hash true b bytes h k) ∙ none))
       | inr k ↦ k
     ]
-
--- no blank stands before a byte that is neither whitespace nor `#`
-pub blank_len-none : (ended : Bool) (b : ℕ) (bytes : List ℕ) → is_space b ≡ false → (b == hash) ≡ false
-    → blank_len ended (b ∷ bytes) ≡ 0
-blank_len-none ended b bytes h k = blank_other ended b bytes h k
 
 -- ---- a comment that stays open
 

@@ -2,6 +2,7 @@
 use Rattle.std.proofs.Common.{◌≡◌, Bool, true, false, ◌||◌, List, [], ◌∷◌, ◌++◌, refl, sym, ap, ◌∙◌}
 use Rattle.std.proofs.lemmas.List.Folds.{list_any-append}
 use Rattle.std.proofs.lemmas.Map.Lookups.{btree_set_from_contains, CmpEqualImpliesEq}
+use Rattle.std.proofs.Math.Bool.{or_self_left}
 use Rattle.std.specs.BTreeSet.{BTreeSet, insert_key}
 use Rattle.std.specs.Cmp.{IsTotalOrder}
 use Rattle.std.specs.List.{list_any, AllByRecursion}
@@ -10,16 +11,7 @@ use Rattle.std.specs.Ordering.{eq_by_cmp, match_ordering, ordering_reverse}
 use Rattle.std.specs.declared.cmp.Ordering.{Ordering}
 use Rattle.std.specs.declared.cmp.Ordering.TheVariants.{Less, Equal, Greater}
 use Rattle.mfotl_model.specs.Ascending.{ascending}
-
-or_swapped : (a b c : Bool) → (b || (a || c)) ≡ (a || (b || c))
-or_swapped true true c = refl
-or_swapped true false c = refl
-or_swapped false true c = refl
-or_swapped false false c = refl
-
-or_doubled : (a c : Bool) → (a || c) ≡ (a || (a || c))
-or_doubled true c = refl
-or_doubled false c = refl
+use Rattle.mfotl_model.proofs.LogicLemmas.{or_moved}
 
 or_last : (a b : Bool) → (a || (b || false)) ≡ (b || a)
 or_last true true = refl
@@ -39,8 +31,9 @@ module _ {K : Type 0} {cmp : K → K → Ordering} (total : IsTotalOrder cmp) (e
           → list_any p (match_ordering order (k ∷ x ∷ xs) (x ∷ xs) (x ∷ insert_key cmp xs k))
           ≡ (p k || (p x || list_any p xs))
       by more Less e = refl
-      by more Equal e = or_doubled (p x) (list_any p xs) ∙ ap (λ y. p y || (p x || list_any p xs)) (sym (exact k x e))
-      by more Greater e = ap (λ b. p x || b) more ∙ or_swapped (p k) (p x) (list_any p xs)
+      by more Equal e = sym (or_self_left (p x) (list_any p xs))
+          ∙ ap (λ y. p y || (p x || list_any p xs)) (sym (exact k x e))
+      by more Greater e = ap (λ b. p x || b) more ∙ or_moved (p x) (p k) (list_any p xs)
 
   -- a test finds in the list in order what it finds in the list
   pub any_ascending : (p : K → Bool) (xs : List K) → list_any p (ascending cmp xs) ≡ list_any p xs

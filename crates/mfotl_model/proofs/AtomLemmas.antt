@@ -6,12 +6,12 @@ use Rattle.std.proofs.lemmas.Bool.{cases_eq, eq-eqb, ne_eqb, or_left, or_right}
 use Rattle.std.proofs.lemmas.List.{length-map}
 use Rattle.std.proofs.lemmas.List.Folds.{list_any-append}
 use Rattle.std.proofs.lemmas.Map.Views.{tells_apart}
-use Rattle.std.specs.Cmp.{unsigned_tied}
+use Rattle.std.specs.Cmp.{unsigned_tied, tied_then}
 use Rattle.std.specs.List.{flat_map, list_all, zip}
 use Rattle.std.specs.Ordering.{eq_by_cmp, nat_cmp}
 use Rattle.mfotl_model.proofs.LogicLemmas.{same_number}
 use Rattle.mfotl_model.proofs.MatchingLemmas.{first_more}
-use Rattle.mfotl_model.proofs.RowLemmas.{eq_then, row_exact}
+use Rattle.mfotl_model.proofs.RowLemmas.{row_exact}
 use Rattle.mfotl_model.specs.FreeVariables.{among, variable_in}
 use Rattle.mfotl_model.specs.Satisfaction.{term_value}
 use Rattle.mfotl_model.specs.Values.{row_cmp, value_cmp}
@@ -82,8 +82,8 @@ compared terms values (t ∷ ts) (a ∷ vs) same has =
     (split y ∙ or_left (among y (variable_in t)) (among y (flat_map variable_in ts)) h)))
     (compared terms values ts vs (omega arith)
     (λ y h. has y (split y ∙ or_right (among y (variable_in t)) (among y (flat_map variable_in ts)) h)))
-    ∙ sym (eq_then (value_cmp (term_value (read_off terms values) t) a)
-    (row_cmp (map (term_value (read_off terms values)) ts) vs))
+    ∙ tied_then (value_cmp (term_value (read_off terms values) t) a)
+    (row_cmp (map (term_value (read_off terms values)) ts) vs)
 
 -- the terms stand for the values: where there are as many of both, and never else
 pub gives_back : (terms : List Term) (values : List Value) → length terms ≡ length values
@@ -109,7 +109,7 @@ match_parts : (atom : OneAtom) (event : Event)
 unfolding is_match give_back
 match_parts atom event =
     let args = map (term_value (reads atom event)) atom.args in
-    eq_then (nat_cmp atom.pred event.pred) (row_cmp args event.args)
+    sym (tied_then (nat_cmp atom.pred event.pred) (row_cmp args event.args))
     ∙ ap (λ b. b && eq_by_cmp row_cmp args event.args) (unsigned_tied atom.pred event.pred)
 
 pub match_by_terms : (atom : OneAtom) (event : Event) → atom.pred ≡ event.pred

@@ -1,7 +1,9 @@
 -- How many positions are settled.
-use Rattle.std.proofs.Common.{◌≡◌, ℕ, zero, suc, ◌+◌, ◌<◌, ◌≤◌, Bool, true, false, cond, length, refl, ap, ◌∙◌, inl}
-use Rattle.std.proofs.Common.{inr, arith}
+use Rattle.std.proofs.Common.{◌≡◌, ℕ, zero, suc, ◌+◌, ◌<◌, ◌≤◌, Bool, true, false, cond, length, refl, ap, ◌∙◌, inl, []}
+use Rattle.std.proofs.Common.{inr, arith, ◌∷◌, sym, add-one}
 use Rattle.std.proofs.lemmas.Bool.{cases_lt}
+use Rattle.std.proofs.lemmas.List.Sums.{take_while-cons}
+use Rattle.std.specs.List.{range_with_len, take_while}
 use Rattle.mfotl_model.specs.Counts.{passing, settled_count}
 use Rattle.mfotl_model.specs.Laws.{CountedSettled, NextUnsettled}
 use Rattle.mfotl_model.specs.Settled.{settled}
@@ -45,3 +47,16 @@ next_unsettled times f less =
     let count : ℕ = passing (settled times f) 0 (length times) in
     let at : count ≡ 0 + count = omega arith in
     ap (settled times f) at ∙ count_stops (settled times f) 0 (length times) less
+
+taken_by : (p : ℕ → Bool) (i n : ℕ) (b : Bool)
+    → take_while p (range_with_len (i + 1) n) ≡ range_with_len (i + 1) (passing p (i + 1) n)
+    → cond b (i ∷ take_while p (range_with_len (i + 1) n)) []
+    ≡ range_with_len i (cond b (passing p (i + 1) n + 1) 0)
+taken_by p i n true rest = ap (λ xs. i ∷ xs) rest ∙ ap (range_with_len i) (sym (add-one (passing p (i + 1) n)))
+taken_by p i n false rest = refl
+
+-- the numbers before the first that fails the test
+pub passing_taken : (p : ℕ → Bool) (i n : ℕ) → take_while p (range_with_len i n) ≡ range_with_len i (passing p i n)
+passing_taken p i zero = refl
+passing_taken p i (suc n) =
+    take_while-cons p i (range_with_len (i + 1) n) ∙ taken_by p i n (p i) (passing_taken p (i + 1) n)

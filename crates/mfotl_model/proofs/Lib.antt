@@ -10,3 +10,4 @@ pub mod AtomLemmas
 pub mod RegionLemmas
 pub mod ExactLemmas
 pub mod CountLemmas
+pub mod ColumnLemmas

@@ -1,5 +1,5 @@
 -- What the laws of the logic share: functions that agree, tests, ranges of positions, lists of variables.
-use Rattle.std.proofs.Common.{◌≡◌, ℕ, zero, suc, ◌+◌, ◌<◌, ◌≤◌, Bool, true, false, not, ◌&&◌, ◌||◌, nat_eq, List}
+use Rattle.std.proofs.Common.{◌≡◌, ℕ, zero, suc, ◌+◌, ◌<◌, ◌≤◌, Bool, true, false, not, ◌&&◌, ◌||◌, nat_eq, List, cond}
 use Rattle.std.proofs.Common.{[], ◌∷◌, ◌++◌, map, refl, sym, ap, ap₂, ◌∙◌, inl, inr, arith, zero-add, add-zero}
 use Rattle.std.proofs.Common.{suc-add, map-id}
 use Rattle.std.proofs.lemmas.Bool.{or_left, or_right, or_cases, and_parts, and_from, eq-eqb, eqb-true, cases_eq}
@@ -32,9 +32,22 @@ all_alike p q xs h = ap (λ r. list_all r xs) (funext p q h)
 pub same_number : (x : ℕ) → nat_eq x x ≡ true
 same_number x = eq-eqb x x refl
 
-or_grouped : (a b c : Bool) → ((a || b) || c) ≡ (a || (b || c))
-or_grouped true b c = refl
-or_grouped false b c = refl
+-- one of three tests moved to the front
+pub or_moved : (a b c : Bool) → (a || (b || c)) ≡ (b || (a || c))
+or_moved true true c = refl
+or_moved true false c = refl
+or_moved false true c = refl
+or_moved false false c = refl
+
+pub and_moved : (a b c : Bool) → (a && (b && c)) ≡ (b && (a && c))
+and_moved true b c = refl
+and_moved false true c = refl
+and_moved false false c = refl
+
+-- a test that holds adds nothing
+pub with_true : (a b : Bool) → b ≡ true → (a && b) ≡ a
+with_true true b e = e
+with_true false b e = refl
 
 joined_by : (y : ℕ) (xs ys : List ℕ) (b : Bool) → among y xs ≡ b
     → among y (joined xs ys) ≡ (b || among y ys)
@@ -142,6 +155,17 @@ range_front a (suc m) n =
     rw (suc-add m n) (ap (λ xs. a ∷ xs)
     (range_front (a + 1) m n ∙ ap (λ b. range_with_len (a + 1) m ++ range_with_len b n) (omega arith)))
 
+-- the numbers of a range are among it
+pub among_range : (a n y : ℕ) → a ≤ y → y < a + n → among y (range_with_len a n) ≡ true
+among_range a zero y low high = absurd (omega arith)
+among_range a (suc n) y low high =
+    elim (cases_eq y a) [
+      | inl e ↦ or_left (nat_eq y a) (among y (range_with_len (a + 1) n)) (eq-eqb y a e)
+      | inr ne ↦
+          or_right (nat_eq y a) (among y (range_with_len (a + 1) n))
+          (among_range (a + 1) n y (omega arith) (omega arith))
+    ]
+
 -- the truth value at a position
 pub truth_is : (p : ℕ → Bool) (n j : ℕ) → j < n → truth_at (truths n p) j ≡ p j
 truth_is p n j l = get_or-map-range_with_len p 0 n j j false l (omega arith)
@@ -162,6 +186,41 @@ pub any_flat_map : {X Y : Type 0} (p : Y → Bool) (f : X → List Y) (xs : List
 any_flat_map p f [] = refl
 any_flat_map p f (x ∷ xs) =
     list_any-append p (f x) (flat_map f xs) ∙ ap (λ b. list_any p (f x) || b) (any_flat_map p f xs)
+
+-- what is found among what a filter keeps
+pub any_filter : {X : Type 0} (test p : X → Bool) (xs : List X)
+    → list_any test (filter p xs) ≡ list_any (λ x. p x && test x) xs
+any_filter test p [] = refl
+any_filter test p (x ∷ xs) = step (p x) ∙ ap (λ t. (p x && test x) || t) (any_filter test p xs)
+  where
+    step : (b : Bool) → list_any test (cond b (x ∷ filter p xs) (filter p xs))
+        ≡ ((b && test x) || list_any test (filter p xs))
+    step true = refl
+    step false = refl
+
+-- what is found in what a filter keeps is found in the whole
+pub filtered_found : {X : Type 0} (p q : X → Bool) (xs : List X) → list_any q (filter p xs) ≡ true
+    → list_any q xs ≡ true
+filtered_found p q [] h = h
+filtered_found p q (x ∷ xs) h = at (p x) h (filtered_found p q xs)
+  where
+    at : (b : Bool) → list_any q (cond b (x ∷ filter p xs) (filter p xs)) ≡ true
+        → (list_any q (filter p xs) ≡ true → list_any q xs ≡ true) → (q x || list_any q xs) ≡ true
+    at true h next =
+        elim (or_cases (q x) (list_any q (filter p xs)) h) [
+          | inl here ↦ or_left (q x) (list_any q xs) here
+          | inr there ↦ or_right (q x) (list_any q xs) (next there)
+        ]
+    at false h next = or_right (q x) (list_any q xs) (next h)
+
+-- a test holds of all where its negation finds nothing
+pub all_any : {X : Type 0} (p : X → Bool) (xs : List X) → list_all p xs ≡ not (list_any (λ x. not (p x)) xs)
+all_any p [] = refl
+all_any p (x ∷ xs) = ap (λ b. p x && b) (all_any p xs) ∙ at (p x) (list_any (λ x. not (p x)) xs)
+  where
+    at : (b c : Bool) → (b && not c) ≡ not (not b || c)
+    at true c = refl
+    at false c = refl
 
 -- a test that implies the other
 pub absorbed : (b c : Bool) → (c ≡ true → b ≡ true) → (b && c) ≡ c

@@ -3,18 +3,21 @@ use Rattle.std.proofs.Common.{◌≡◌, ℕ, zero, suc, Bool, true, false, ◌&
 use Rattle.std.proofs.Common.{sym, ap, ◌∙◌}
 use Rattle.std.proofs.Math.Dec.{eqb-suc-zero, eqb-zero-suc, eqb-suc-suc}
 use Rattle.std.proofs.lemmas.Map.Lookups.{CmpEqualImpliesEq, exact_unsigned}
+use Rattle.std.proofs.Math.Bool.{and_comm}
+use Rattle.std.proofs.lemmas.Cmp.{tied_itself}
 use Rattle.std.specs.List.{list_any, list_all}
 use Rattle.std.specs.Ordering.{eq_by_cmp, is_eq, ordering_then, nat_cmp}
 use Rattle.std.specs.declared.cmp.Ordering.{Ordering}
 use Rattle.std.specs.declared.cmp.Ordering.TheVariants.{Less, Equal, Greater}
+use Rattle.std.specs.Cmp.{tied_then}
 use Rattle.mfotl_model.specs.Domains.{in_domain}
 use Rattle.mfotl_model.specs.Events.{event_cmp}
 pub use Rattle.mfotl_model.specs.Hashes.{value_exact, row_exact}
-use Rattle.mfotl_model.specs.Values.{value_cmp, row_cmp}
+use Rattle.mfotl_model.specs.Values.{value_cmp, row_cmp, value_total}
 use Rattle.mfotl_model.specs.Violations.{all_rows}
 use Rattle.mfotl_model.specs.declared.event.Event.{Event}
 use Rattle.mfotl_model.specs.declared.value.Value.{Value}
-use Rattle.mfotl_model.proofs.LogicLemmas.{any_alike, any_map, any_flat_map}
+use Rattle.mfotl_model.proofs.LogicLemmas.{any_alike, any_map, any_flat_map, and_moved}
 
 -- the first of two orders, where both together find no difference
 first_equal : (a b : Ordering) → ordering_then a b ≡ Equal → a ≡ Equal
@@ -36,11 +39,9 @@ event_exact a b h =
     same_event a b (exact_unsigned a.pred b.pred (first_equal (nat_cmp a.pred b.pred) (row_cmp a.args b.args) h))
     (row_exact a.args b.args (second_equal (nat_cmp a.pred b.pred) (row_cmp a.args b.args) h))
 
--- both parts equal
-pub eq_then : (a b : Ordering) → is_eq (ordering_then a b) ≡ (is_eq a && is_eq b)
-eq_then Less b = refl
-eq_then Equal b = refl
-eq_then Greater b = refl
+-- a value equals itself
+pub value_itself : (a : Value) → eq_by_cmp value_cmp a a ≡ true
+value_itself a = ap is_eq (tied_itself value_total a)
 
 -- nothing passes a test that is never true
 pub any_none : {X : Type 0} (xs : List X) → list_any (λ x. false) xs ≡ false
@@ -52,23 +53,13 @@ any_and : {X : Type 0} (b : Bool) (p : X → Bool) (xs : List X)
 any_and true p xs = refl
 any_and false p xs = any_none xs
 
-pub and_turned : (a b : Bool) → (a && b) ≡ (b && a)
-and_turned true true = refl
-and_turned true false = refl
-and_turned false true = refl
-and_turned false false = refl
-
-any_and_last : {X : Type 0} (b : Bool) (p : X → Bool) (xs : List X)
+-- a test beside one that is the same for all
+pub any_and_last : {X : Type 0} (b : Bool) (p : X → Bool) (xs : List X)
     → list_any (λ x. p x && b) xs ≡ (list_any p xs && b)
 any_and_last b p xs =
-    any_alike (λ x. p x && b) (λ x. b && p x) xs (λ x. and_turned (p x) b)
+    any_alike (λ x. p x && b) (λ x. b && p x) xs (λ x. and_comm (p x) b)
     ∙ any_and b p xs
-    ∙ and_turned b (list_any p xs)
-
-and_moved : (a b c : Bool) → (a && (b && c)) ≡ (b && (a && c))
-and_moved true b c = refl
-and_moved false true c = refl
-and_moved false false c = refl
+    ∙ and_comm b (list_any p xs)
 
 -- a row is among the rows of n values of a domain exactly if it has n values, each in the domain
 pub member_all_rows : (n : ℕ) (dom : List Value) (q : List Value)
@@ -88,7 +79,7 @@ member_all_rows (suc n) dom (b ∷ s) =
     (λ a. any_map (eq_by_cmp row_cmp (b ∷ s)) (λ row. a ∷ row) (all_rows n dom)
     ∙ any_alike (λ row. eq_by_cmp row_cmp (b ∷ s) (a ∷ row))
     (λ row. eq_by_cmp value_cmp b a && eq_by_cmp row_cmp s row) (all_rows n dom)
-    (λ row. eq_then (value_cmp b a) (row_cmp s row))
+    (λ row. sym (tied_then (value_cmp b a) (row_cmp s row)))
     ∙ any_and (eq_by_cmp value_cmp b a) (eq_by_cmp row_cmp s) (all_rows n dom))
     ∙ any_and_last (list_any (eq_by_cmp row_cmp s) (all_rows n dom)) (eq_by_cmp value_cmp b) dom
     ∙ ap (λ t. in_domain dom b && t) (member_all_rows n dom s)

@@ -1,8 +1,11 @@
--- Timestamps that never fall.
-use Rattle.std.proofs.Common.{◌≡◌, ◌≤◌, ◌<◌, ℕ, List, ◌++◌, length, length-append, arith}
+-- Timestamps that never fall, and the distances that an interval has.
+use Rattle.std.proofs.Common.{◌≡◌, ◌≤◌, ◌<◌, ℕ, List, ◌++◌, length, length-append, arith, Some, false, nat_le, ap, ◌∙◌}
 use Rattle.std.proofs.lemmas.List.{get_or_append_left}
+use Rattle.std.proofs.lemmas.Bool.{and_right, lt-leb}
 use Rattle.mfotl_model.specs.Laws.{FrontNeverFalls}
 use Rattle.mfotl_model.specs.Satisfaction.{time_at}
+use Rattle.mfotl_model.specs.Intervals.{at_most, in_interval}
+use Rattle.mfotl_model.specs.declared.interval.Interval.{Interval}
 
 same_time : (times more : List ℕ) (j : ℕ) → j < length times → time_at (times ++ more) j ≡ time_at times j
 same_time times more j l = get_or_append_left times more 0 j l
@@ -14,3 +17,8 @@ front_never_falls times more rising i j before within =
     let longer : j < length (times ++ more) = omega (arith, length-append times more) in
     let rises : time_at (times ++ more) i ≤ time_at (times ++ more) j = rising i j before longer in
     omega arith
+
+-- past the greatest distance an interval has nothing
+pub too_far : (interval : Interval) (hi d : ℕ) → interval.hi ≡ Some hi → hi < d → in_interval interval d ≡ false
+too_far interval hi d e far =
+    and_right (nat_le interval.lo d) (at_most interval.hi d) (ap (λ o. at_most o d) e ∙ lt-leb d hi far)

@@ -1,7 +1,7 @@
 -- No bound variable of a policy that was read is free in its formula.
 use Rattle.std.proofs.Common.{◌≡◌, ℕ, zero, suc, ◌+◌, ◌-◌, ◌<◌, ◌≤◌, ◌⊎◌, inl, inr, Bool, true, false, cond, not}
 use Rattle.std.proofs.Common.{◌||◌, nat_eq, List, [], ◌∷◌, length, Option, Some, None, refl, sym, ap, ◌∙◌, arith}
-use Rattle.std.proofs.lemmas.Bool.{cases_lt, lt-ltb, or_cases, and_parts, eqb-true, eq-eqb}
+use Rattle.std.proofs.lemmas.Bool.{cases_lt, lt-ltb, or_cases, and_parts, eqb-true, eq-eqb, or_right}
 use Rattle.std.proofs.lemmas.List.{length-append}
 use Rattle.std.specs.Str.{bytes_eq}
 use Rattle.mfotl_model.specs.declared.policy.Sort.{Sort}
@@ -253,15 +253,11 @@ all_free : (xs : List ℕ) → ((y : ℕ) → among y xs ≡ true → is_free y 
 all_free [] each = refl
 all_free (x ∷ xs) each =
     ap (λ (b : Bool). cond b (x ∷ free_in xs) (free_in xs)) (each x (here x (nat_eq x x) (eq-eqb x x refl)))
-    ∙ ap (λ (r : List ℕ). x ∷ r) (all_free xs (λ y e. each y (there (nat_eq y x) (among y xs) e)))
+    ∙ ap (λ (r : List ℕ). x ∷ r) (all_free xs (λ y e. each y (or_right (nat_eq y x) (among y xs) e)))
   where
     here : (z : ℕ) (b : Bool) → b ≡ true → (b || among z xs) ≡ true
     here z true e = refl
     here z false e = absurd cc
-
-    there : (b c : Bool) → c ≡ true → (b || c) ≡ true
-    there true c e = refl
-    there false c e = e
 
 -- all free variables of a whole policy are numbered as free ones
 pub only_free : (sig : List PredOf) (tree : Tree) (n : SymbolTable)

@@ -2,6 +2,7 @@
 use Rattle.std.proofs.Common.{◌≡◌, ℕ, Bool, true, false, List, [], ◌∷◌, ◌++◌, length, Option, Some, None}
 use Rattle.std.proofs.Common.{Ok, Err, refl, ap, sym, subst, ◌∙◌}
 use Rattle.std.proofs.lemmas.List.{append_assoc}
+use Rattle.std.proofs.lemmas.Bool.{false_from_ne_true}
 use Rattle.std.specs.Prelude.{slice_get}
 use Rattle.std.specs.Option.{option_map}
 use Rattle.mfotl_lex.specs.declared.fault.LexFault.{LexFault}
@@ -173,11 +174,6 @@ early_end (AfterOperand f) c end e =
     shut_end c.names (reduce 0 f c.stack).form (is_closed (reduce 0 f c.stack).stack) end e
 early_end _ c end e = refl
 
--- a Bool that isn't true
-not_true : (b : Bool) → (b ≡ true → ⊥) → b ≡ false
-not_true true never = absurd (never refl)
-not_true false never = refl
-
 abbrev ninth_place : Option (List ℕ × ℕ) → Option ℕ
 ninth_place known = option_map (λ k. k.1) known
 
@@ -257,7 +253,7 @@ module _ (sig : List PredOf) (ts : List Lexeme) (s : Partial) (ran : run (step s
   too_early tail at c =
       ap (λ x. at_tail x s) c.stands
       ∙ early_end s.now s.context at
-      (not_true (is_whole s.now s.context.stack) (λ e. c.unaccepted (whole_formula sig ts s ran e)))
+      (false_from_ne_true (is_whole s.now s.context.stack) (λ e. c.unaccepted (whole_formula sig ts s ran e)))
 
   clashes : (tail : Tail LexFault) (at : ℕ) → SortsClash sig ts tail at → at_tail tail s ≡ Err (SortClash at)
   clashes tail at c =

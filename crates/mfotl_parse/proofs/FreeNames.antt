@@ -76,7 +76,7 @@ variables_bind (LastVariable v) n scope bound binds = binds_more scope bound (na
 variables_bind (MoreVariables v comma rest) n scope bound binds =
     variables_bind rest (bound_more None n) _ (name_of v ∷ bound) (binds_more scope bound (name_of v) _ binds)
 
-variables_free : (vs : WrittenVariables) (n : SymbolTable) → (variables_names vs n).free ≡ n.free
+pub variables_free : (vs : WrittenVariables) (n : SymbolTable) → (variables_names vs n).free ≡ n.free
 variables_free (LastVariable v) n = refl
 variables_free (MoreVariables v comma rest) n = variables_free rest (bound_more None n)
 

@@ -2,7 +2,7 @@
 use Rattle.std.proofs.Common.{◌≡◌, ℕ, zero, suc, ◌+◌, ◌-◌, ◌<◌, ◌≤◌, Bool, true, false, cond, not, ◌&&◌}
 use Rattle.std.proofs.Common.{◌||◌, nat_eq, List, [], ◌∷◌, ◌++◌, length, Option, Some, None, refl, sym, ap}
 use Rattle.std.proofs.Common.{◌∙◌, arith}
-use Rattle.std.proofs.lemmas.Bool.{lt-ltb, le-ltb, eqb-true, eq-eqb}
+use Rattle.std.proofs.lemmas.Bool.{lt-ltb, le-ltb, eqb-true}
 use Rattle.std.proofs.lemmas.List.{append-nil, length-append}
 use Rattle.std.proofs.lemmas.List.Elements.{filter-append}
 use Rattle.std.proofs.lemmas.Map.Views.{any-filter_same}
@@ -15,7 +15,8 @@ use Rattle.mfotl_model.specs.declared.term.Term.TheVariants.{Var, Const}
 use Rattle.mfotl_model.specs.Formulas as forms
 use Rattle.mfotl_model.specs.Formulas.{Form}
 use Rattle.mfotl_model.specs.FreeVariables.{among, without, joined, variable_in, variables_in, fv}
-use Rattle.mfotl_model.proofs.VariableLemmas.{filter-filter, joined_assoc, variables_in-cons}
+use Rattle.mfotl_model.proofs.VariableLemmas.{filter-filter, joined_assoc, variables_in-cons, joined_nothing}
+use Rattle.mfotl_model.proofs.LogicLemmas.{among_range}
 use Rattle.mfotl_sig.specs.Preds.{PredOf, named}
 use Rattle.mfotl_parse.specs.declared.class.Operator.{Operator}
 use Rattle.mfotl_parse.specs.declared.class.Operator.TheVariants as operators
@@ -39,7 +40,7 @@ use Rattle.mfotl_parse.specs.Operands.{truth}
 use Rattle.mfotl_parse.specs.Reduction.{momentary, operator_form, quantified}
 use Rattle.mfotl_parse.specs.States.{SymbolTable}
 use Rattle.mfotl_parse.specs.Limits.{max_free}
-use Rattle.mfotl_parse.proofs.FreeNames.{placed_free, compared_free}
+use Rattle.mfotl_parse.proofs.FreeNames.{placed_free, compared_free, variables_free}
 use Rattle.mfotl_parse.proofs.NamesOrder.{Grows, term_grows}
 use Rattle.mfotl_parse.proofs.NamesOrder.{arguments_grow, tree_grows, found_within}
 
@@ -87,22 +88,6 @@ free_without x xs above = filter-filter is_free (λ y. not (nat_eq y x)) is_free
 abbrev pub seen : SymbolTable → List ℕ
 seen n = range_with_len 0 (length n.free)
 
-among_range : (a k n : ℕ) → k < n → among (a + k) (range_with_len a n) ≡ true
-among_range a k zero below = absurd (omega (arith, below))
-among_range a zero (suc n) below =
-    ap (λ (b : Bool). b || among (a + 0) (range_with_len (a + 1) n)) (eq-eqb (a + 0) a (omega arith))
-among_range a (suc k) (suc n) below =
-    by_head (nat_eq (a + suc k) a)
-    (ap (λ (m : ℕ). among m (range_with_len (a + 1) n)) next ∙ among_range (a + 1) k n (omega (arith, below)))
-  where
-    next : a + suc k ≡ a + 1 + k
-    next = omega arith
-
-    by_head : (b : Bool) → among (a + suc k) (range_with_len (a + 1) n) ≡ true
-        → (b || among (a + suc k) (range_with_len (a + 1) n)) ≡ true
-    by_head true e = refl
-    by_head false e = e
-
 past_range : (a k n : ℕ) → a + n ≤ k → among k (range_with_len a n) ≡ false
 past_range a k zero above = refl
 past_range a k (suc n) above = by_head (nat_eq k a) refl (past_range (a + 1) k n (omega (arith, above)))
@@ -120,9 +105,6 @@ range_more n = go 0 n n (omega arith)
     go a (suc m) k e = ap (λ (xs : List ℕ). a ∷ xs) (go (a + 1) m k (omega (arith, e)))
 
 -- ---- one term
-
-joined_nothing : (xs : List ℕ) → joined xs [] ≡ xs
-joined_nothing xs = append-nil xs
 
 joined_known : (xs : List ℕ) (k : ℕ) → among k xs ≡ true → joined xs (k ∷ []) ≡ xs
 joined_known xs k e = ap (λ (b : Bool). xs ++ cond (not b) (k ∷ []) []) e ∙ append-nil xs
@@ -150,7 +132,8 @@ name_order name at n None few = by_place (free_place name n) refl few
         let same : place ≡ 0 + place = omega arith in
         ap (joined (seen n)) (free_one place (omega (arith, within, below)))
         ∙ joined_known (seen n) place
-        (ap (λ (k : ℕ). among k (seen n)) same ∙ among_range 0 place (length n.free) within)
+        (ap (λ (k : ℕ). among k (seen n)) same
+        ∙ among_range 0 (length n.free) (0 + place) (omega arith) (omega (arith, within)))
     by_place None e below =
         let longer = length-append n.free ((name, at) ∷ []) in
         let one_more : suc (length n.free) ≡ length (n.free ++ (name, at) ∷ []) = omega (arith, longer) in
@@ -251,10 +234,6 @@ joined_order operators.Implies i f g = refl
 joined_order operators.Equiv i f g = refl
 joined_order operators.Since i f g = refl
 joined_order operators.Until i f g = refl
-
-variables_free : (vs : WrittenVariables) (n : SymbolTable) → (variables_names vs n).free ≡ n.free
-variables_free (LastVariable v) n = refl
-variables_free (MoreVariables v comma rest) n = variables_free rest (bound_more None n)
 
 pub truth_order : (which : Bool) → fv (truth which) ≡ []
 unfolding fv

@@ -1,10 +1,9 @@
 -- What the slow programs need of positions and of formulas, case by case.
-use Rattle.std.proofs.Common.{◌≡◌, ℕ, ◌+◌, Bool, not, List, [], ◌∷◌, ◌++◌, length, map, refl, ap, sym, ◌∙◌, zero-add}
+use Rattle.std.proofs.Common.{◌≡◌, ℕ, ◌+◌, Bool, not, List, [], ◌∷◌, ◌++◌, length, map, refl, ap, sym, ◌∙◌}
 use Rattle.std.proofs.lemmas.List.{length-map}
 use Rattle.std.proofs.lemmas.Result.{IfOk-weaker}
 use Rattle.std.specs.Prelude.{Result, IfOk}
 use Rattle.std.specs.declared.alloc.AllocError.{AllocError}
-use Rattle.std.proofs.lemmas.List.FromFn.{map-range_with_len_more}
 use Rattle.std.specs.List.{list_all, list_any, range_with_len}
 use Rattle.mfotl_model.specs.declared.event.TimePoint.{TimePoint}
 use Rattle.mfotl_model.specs.declared.formula.Bound.{Bound}
@@ -15,16 +14,13 @@ use Rattle.mfotl_model.specs.Formulas.{Form, form}
 use Rattle.mfotl_model.specs.Formulas.Form.{Exists, Forall, Historically, Always, Since, Until}
 use Rattle.mfotl_model.specs.Log.{times}
 use Rattle.mfotl_model.specs.Satisfaction.{Valuation, sat, since, truths, until, with_value}
+use Rattle.mfotl_model.proofs.LogicLemmas.{truths_more}
 use Rattle.mfotl_plain.specs.Operators.{every, in_time}
 use Rattle.mfotl_plain.specs.declared.temporal.Modality.TheVariants as modality
 
 -- there are as many timestamps as time-points
 pub times_len : (points : List TimePoint) → length (times points) ≡ length points
 times_len points = length-map points (λ p. p.ts)
-
--- the truth values at one more position
-pub truths_more : (holds : ℕ → Bool) (n : ℕ) → truths (n + 1) holds ≡ truths n holds ++ holds n ∷ []
-truths_more holds n = map-range_with_len_more holds 0 n n (zero-add n)
 
 -- the truth values after one more was pushed
 pub truths_pushed : (holds : ℕ → Bool) (n : ℕ) (before after : List Bool) (held : Bool)
@@ -34,7 +30,7 @@ truths_pushed holds n before after held was is adds =
     adds
     ∙ ap (λ b. b ++ held ∷ []) was
     ∙ ap (λ b. truths n holds ++ b ∷ []) is
-    ∙ sym (truths_more holds n)
+    ∙ sym (truths_more n holds)
 
 -- negated one by one
 negated : (p : ℕ → Bool) (xs : List ℕ) → map not (map p xs) ≡ map (λ j. not (p j)) xs

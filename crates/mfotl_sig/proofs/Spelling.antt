@@ -1,5 +1,6 @@
 -- What is spelled in front of a rest, and tokens behind it.
 use Rattle.std.proofs.Common.{◌≡◌, List, [], ◌∷◌, ◌++◌, Option, Some, None, refl, ap, ◌∙◌}
+use Rattle.std.proofs.SliceLists.{all_by_recursion_push}
 use Rattle.std.specs.List.{AllByRecursion}
 use Rattle.mfotl_lex.specs.declared.kind.Kind.TheVariants.{CloseParen, Comma}
 use Rattle.mfotl_lex.specs.Lexemes.{Lexeme}
@@ -37,11 +38,6 @@ preds_more : (ws : List WrittenPredicate) (w : WrittenPredicate) (ts : List Lexe
 preds_more [] w ts = refl
 preds_more (v ∷ ws) w ts = rw (preds_more ws w ts)
 
-all_more : {X : Type 0} (P : X → Type 0) (xs : List X) (x : X) → AllByRecursion P xs → P x
-    → AllByRecursion P (xs ++ x ∷ [])
-all_more P [] x all one = (one, tt)
-all_more P (y ∷ xs) x all one = (all.0, all_more P xs x all.1 one)
-
 module _ (front rest : List Lexeme) (t : Lexeme) (b : Begun front rest) where
   -- the same predicate, gone on
   gone_on : (after more : List Lexeme) (ls : List Listed) → AllByRecursion FitsListed ls
@@ -71,7 +67,7 @@ module _ (front rest : List Lexeme) (t : Lexeme) (b : Begun front rest) where
       → Begun (front ++ t ∷ []) []
   begun_listed a is fits kind =
       let l : Listed = record { argument = a; comma = t } in
-      gone_on _ [] (b.listed ++ l ∷ []) (all_more FitsListed b.listed l b.arguments (fits, kind))
+      gone_on _ [] (b.listed ++ l ∷ []) (all_by_recursion_push FitsListed b.listed l b.arguments (fits, kind))
       (behind ∙ simp (is, argument_behind, listed_more))
 
   -- a `)` behind all arguments
@@ -83,4 +79,4 @@ module _ (front rest : List Lexeme) (t : Lexeme) (b : Begun front rest) where
       let so : Fits w =
       record { named = b.named; opens = b.opens; listed = b.arguments; last = fits; closes = kind } in
       let spelled = behind ∙ simp (is, last_behind, preds_more) in
-      (b.whole ++ w ∷ [], record { fits = all_more Fits b.whole w b.fits so; spelled = spelled })
+      (b.whole ++ w ∷ [], record { fits = all_by_recursion_push Fits b.whole w b.fits so; spelled = spelled })

@@ -16,6 +16,7 @@ use Rattle.monitor_main.specs.declared.refusal.Refusal.TheVariants.{Usage, Read,
 use Rattle.monitor_main.specs.Answer.{Answer, check_answer, command_answer, demo_answer, run_answer}
 use Rattle.worker_pool.specs.Texts.{text_on}
 use Rattle.worker_pool.specs.Effects.{Effect}
+use Rattle.worker_pool.proofs.PointLemmas.{rose_later}
 use Rattle.monitor_main.specs.Decisions.{CarriesOut, ComesTo, CommandFails, Ends}
 use Rattle.monitor_main.specs.Decisions.{FailsInLog, Finishes, HasCauses, MonitorsLog}
 use Rattle.monitor_main.specs.DemoRuns.{IsDemoFault}
@@ -26,7 +27,6 @@ use Rattle.monitor_main.specs.Tasks.{CheckedPolicy, Task, policy_at, task_at, ta
 use Rattle.monitor_main.specs.Unread.{bytes_of, ok_value, seen_of, text_at_failure, text_before, text_of_seen}
 use Rattle.monitor_main.specs.Words.{RunOptions, Sources, Run, Check, Demo}
 use Rattle.monitor_main.proofs.DecideLemmas.{comes_as}
-use Rattle.monitor_main.proofs.LoadLemmas.{rose_later}
 use Rattle.monitor_main.proofs.StopLemmas.{policy_reached}
 use Rattle.monitor_main.proofs.ToldLemmas.{asked_none, asked_twice, told_all, told_at, told_both, told_map}
 

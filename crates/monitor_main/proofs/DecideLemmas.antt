@@ -2,6 +2,7 @@
 use Rattle.std.proofs.Common.{◌≡◌, ap, arith, subst, sym, refl, inl, inr, ℕ, ◌≤◌, Bool, List}
 use Rattle.std.proofs.Common.{[], Option, Some, None}
 use Rattle.std.proofs.lemmas.Result.{IfErr-weaker, IfOk-weaker}
+use Rattle.std.proofs.KnownBytes.{Appends-nil}
 use Rattle.std.specs.Prelude.{Result, Err, MatchOption, ◌≢◌}
 use Rattle.clap.specs.Words.{Text}
 use Rattle.mon_outside.specs.Causes.{Rose}
@@ -23,8 +24,8 @@ use Rattle.monitor_main.specs.Refusals.{words_refusal}
 use Rattle.monitor_main.specs.declared.words.WordsFault.{WordsFault}
 use Rattle.monitor_main.specs.declared.words.WordsFault.TheVariants as fault
 use Rattle.monitor_main.specs.Words.{Command, command_of}
-use Rattle.monitor_main.proofs.LoadLemmas.{rose_later}
-use Rattle.worker_pool.proofs.SinkLemmas.{appends_none, no_front}
+use Rattle.worker_pool.proofs.SinkLemmas.{no_front}
+use Rattle.worker_pool.proofs.PointLemmas.{rose_later}
 use Rattle.monitor_main.proofs.ToldLemmas.{asked_none, told_all, told_map}
 
 module _ (a b : Answer) (same : a ≡ b) (fails others : InputFile → Type 0) (more : (name : InputFile) → fails name
@@ -50,7 +51,7 @@ pub comes_memory : (a : Answer) (fails : InputFile → Type 0) (old : Option (Li
 comes_memory a fails old = record { ok = tt; refused = tt; front = no_front old a.out }
 
 pub refuses_at : (r : Refusal) (old : Option (List ℕ)) → Refuses (refused r) old old r
-refuses_at r old = record { status = refl; err = refl; out = appends_none old }
+refuses_at r old = record { status = refl; err = refl; out = Appends-nil old }
 
 -- a refusal before anything was written
 pub comes_refused : (r : Refusal) (fails : InputFile → Type 0) (old : Option (List ℕ))

@@ -1,6 +1,6 @@
 -- That strategies that are read are for the core of their policy.
-use Rattle.std.proofs.Common.{◌≡◌, ◌∙◌, ap, subst, sym, ℕ, List, [], ◌∷◌, ◌++◌, length}
-use Rattle.std.proofs.lemmas.List.{length-set, length-replicate}
+use Rattle.std.proofs.Common.{◌≡◌, ◌∙◌, ap, subst, sym, ℕ, List, [], ◌∷◌, length}
+use Rattle.std.proofs.Permutation.{every_append}
 use Rattle.std.specs.List.{AllByRecursion, range_with_len}
 use Rattle.mfotl_model.specs.Strategies.{Strategy}
 use Rattle.mfotl_model.specs.declared.policy.Var.{Var}
@@ -10,27 +10,18 @@ use Rattle.rescale_core.specs.Workers.{IsFor}
 use Rattle.slice_strategy.specs.ChangeGrammar.{Script, NoChange, Change}
 use Rattle.slice_strategy.specs.ChangeRules.{IsValue, changes_of}
 use Rattle.slice_strategy.specs.Entries.{HasWorkers}
-use Rattle.slice_strategy.specs.Grammar.{Entries, NoEntry, Then}
-use Rattle.slice_strategy.specs.Rules.{strategy_of}
 use Rattle.slice_strategy.specs.declared.change.Change.{Change as ChangeOf}
+use Rattle.slice_strategy.proofs.EntryLaws.{strategy_size}
 use Rattle.worker_pool.specs.Policies.{IsCoreOf}
 use Rattle.monitor_main.specs.CheckedPolicies.{Divides, HasVariables}
 use Rattle.monitor_main.specs.ReadyTasks.{AreFor}
 
 -- ---- each strategy has an entry for each variable
 
-sized : (vars : List Var) (es : Entries) → length (strategy_of vars es) ≡ length vars
-sized vars NoEntry = length-replicate (length vars) _
-sized vars (Then es o is) = length-set (strategy_of vars es) _ _ ∙ sized vars es
-
-module _ (P : ChangeOf → Type 0) where
-  both_all : (xs ys : List ChangeOf) → AllByRecursion P xs → AllByRecursion P ys → AllByRecursion P (xs ++ ys)
-  both_all [] ys h k = k
-  both_all (x ∷ xs) ys h k = (h.0, both_all xs ys h.1 k)
-
 all_sized : (vars : List Var) (s : Script) → AllByRecursion (λ c. length c.strategy ≡ length vars) (changes_of vars s)
 all_sized vars NoChange = tt
-all_sized vars (Change s word n es) = both_all _ (changes_of vars s) _ (all_sized vars s) (sized vars es, tt)
+all_sized vars (Change s word n es) =
+    every_append _ (changes_of vars s) _ (all_sized vars s) (strategy_size vars es, tt)
 
 pair_all : (vars : List Var) (cs : List ChangeOf) → AllByRecursion (λ c. length c.strategy ≡ length vars) cs
     → AllByRecursion (λ c. HasWorkers c.strategy) cs → AllByRecursion (λ c. Divides vars c.strategy) cs

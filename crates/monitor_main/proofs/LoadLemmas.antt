@@ -1,7 +1,7 @@
 -- From the ends of the single files to those of both.
-use Rattle.std.proofs.Common.{◌≡◌, ◌∙◌, ap, arith, refl, ℕ, ◌≤◌, List, [], ◌∷◌, Option, Some}
+use Rattle.std.proofs.Common.{◌≡◌, ◌∙◌, ap, refl, ◌≤◌, List, [], ◌∷◌, Option, Some}
 use Rattle.std.specs.Prelude.{Ok, Err}
-use Rattle.mon_outside.specs.Causes.{Rose}
+use Rattle.worker_pool.proofs.PointLemmas.{rose_later}
 use Rattle.mon_outside.specs.Files.{Files, ToldFiles, content}
 use Rattle.mon_outside.specs.Inputs.{Name, asked_more}
 use Rattle.mon_outside.specs.Views.{InputsView}
@@ -15,10 +15,6 @@ use Rattle.monitor_main.specs.declared.refusal.InputFile.TheVariants as file
 use Rattle.monitor_main.specs.declared.refusal.Refusal.{Refusal}
 use Rattle.monitor_main.specs.declared.refusal.Refusal.TheVariants.{Usage, Read, Write, Memory}
 use Rattle.monitor_main.proofs.ToldLemmas.{asked_twice, told_all, told_both, told_map}
-
--- a count that rose later rose in the whole
-pub rose_later : (before mid now : ℕ) → before ≤ mid → Rose mid now → Rose before now
-rose_later before mid now not_before rose = omega arith
 
 -- ---- the signature is refused
 

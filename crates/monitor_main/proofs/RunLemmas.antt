@@ -1,6 +1,7 @@
 -- From the lines that were written to the answer on the log.
 use Rattle.std.proofs.Common.{◌≡◌, ◌∙◌, ap, arith, subst, sym, refl, ℕ, ◌≤◌, Bool, IfSome}
 use Rattle.std.proofs.Common.{true, false, List, [], ◌∷◌, ◌++◌, Option, Some, None, append-nil}
+use Rattle.std.proofs.KnownBytes.{Appends-nil}
 use Rattle.std.specs.Prelude.{Err, IfOk, IfErr, nat_lt}
 use Rattle.mon_outside.specs.Causes.{Rose}
 use Rattle.mon_outside.specs.Files.{ToldFiles, content}
@@ -35,11 +36,10 @@ use Rattle.log_reader.specs.Growth.{ExtendsReading}
 use Rattle.monitor_main.specs.DemoRuns.{EndsOn}
 use Rattle.monitor_main.specs.LogRuns.{outcome_of}
 use Rattle.log_reader.proofs.GrowthLemmas.{front_stays}
-use Rattle.monitor_main.proofs.LoadLemmas.{rose_later}
 use Rattle.worker_pool.proofs.LogTimes.{read_never_falls}
 use Rattle.worker_pool.proofs.TallyLemmas.{violations_counted}
-use Rattle.worker_pool.proofs.PointLemmas.{first_text}
-use Rattle.worker_pool.proofs.SinkLemmas.{appends_none, longer_front, no_front}
+use Rattle.worker_pool.proofs.PointLemmas.{first_text, rose_later}
+use Rattle.worker_pool.proofs.SinkLemmas.{longer_front, no_front}
 use Rattle.monitor_main.proofs.ToldLemmas.{told_all, told_map}
 
 -- The bytes that were read of a log, and whether they are known to be all. What is left of the log is the rest of
@@ -310,7 +310,7 @@ module _ (checked : CheckedPolicy) (log : Name) (core : CoreForm) (is : IsCoreOf
         refused = log_failed (task_on checked (content files log)) core is before opened opened old old later [] false
             (unopened_read (content files log) opened closed) refl (record {
               shows = ap (λ (r : Reading). r.ending) (nothing_shown checked.sig);
-              written = rw (nothing_shown checked.sig) (appends_none old.written);
+              written = rw (nothing_shown checked.sig) (Appends-nil old.written);
             });
         front = no_front old.written _;
       });

@@ -1,6 +1,7 @@
 -- Where a command is refused before its log: no line was written.
 use Rattle.std.proofs.Common.{◌≡◌, ◌∙◌, ap, arith, subst, sym, refl, ℕ, ◌≤◌, List}
 use Rattle.std.proofs.Common.{[], Option, Some, None, is_some}
+use Rattle.std.proofs.KnownBytes.{Appends-nil}
 use Rattle.std.specs.Prelude.{Result, Ok, Err, option_map}
 use Rattle.mon_outside.specs.Files.{Files, ToldFiles, content}
 use Rattle.mon_outside.specs.Inputs.{Name, StopsIn, asked_more}
@@ -23,8 +24,8 @@ use Rattle.monitor_main.specs.Tasks.{signature_of, strategy_in, task_at, task_on
 use Rattle.monitor_main.specs.Unread.{bytes_of, changes_bytes, ok_value, source_bytes, strategy_at, text_at_failure}
 use Rattle.monitor_main.specs.Words.{Command, RunOptions, Sources, Run, Check, name_if_any}
 use Rattle.monitor_main.proofs.DecideLemmas.{refuses_at, unwritten}
-use Rattle.monitor_main.proofs.LoadLemmas.{rose_later}
-use Rattle.worker_pool.proofs.SinkLemmas.{appends_none, no_front}
+use Rattle.worker_pool.proofs.SinkLemmas.{no_front}
+use Rattle.worker_pool.proofs.PointLemmas.{rose_later}
 use Rattle.monitor_main.proofs.ToldLemmas.{asked_twice, told_both, told_map}
 
 -- ---- any command
@@ -56,7 +57,7 @@ module _ (command : Command) (before after : InputsView) (out : SinkView) (same 
     stops = stops;
     text = [];
     due = due_early command files s.last stops.seen s.is_early;
-    written = appends_none out.written;
+    written = Appends-nil out.written;
   }
 
   ends_there : (files : Files) (all : List ℕ) → bytes_of command files s.last ≡ Some all → (other : Refusal)

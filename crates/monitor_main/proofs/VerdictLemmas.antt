@@ -1,11 +1,11 @@
 -- How the verdicts grow with the log.
 use Rattle.std.proofs.Common.{◌≡◌, ◌∙◌, ap, ap₂, sym, refl, subst, arith, ℕ, zero, suc, ◌+◌, ◌-◌, ◌<◌, ◌≤◌}
-use Rattle.std.proofs.Common.{Bool, true, false}
-use Rattle.std.proofs.Common.{cond, List, [], ◌∷◌, ◌++◌, map, length, None, add-one}
-use Rattle.std.specs.List.{range_with_len, take_while}
+use Rattle.std.proofs.Common.{true}
+use Rattle.std.proofs.Common.{List, [], ◌∷◌, ◌++◌, map, length, None}
+use Rattle.std.specs.List.{range_with_len}
 use Rattle.std.proofs.lemmas.List.{length-map, map-append}
-use Rattle.std.proofs.lemmas.List.Sums.{take_while-cons}
-use Rattle.mfotl_model.proofs.CountLemmas.{counted_settled}
+use Rattle.mfotl_model.proofs.CountLemmas.{counted_settled, passing_taken}
+use Rattle.mfotl_model.proofs.LogicLemmas.{range_front}
 use Rattle.mfotl_model.specs.Counts.{passing, settled_count}
 use Rattle.mfotl_model.specs.Formulas.{Form}
 use Rattle.mfotl_model.specs.Log.{times}
@@ -23,29 +23,6 @@ use Rattle.monitorable.specs.NormalForm.{negative}
 use Rattle.monitor_main.specs.TextLaw.{VerdictsGrow}
 use Rattle.monitor_main.specs.Verdicts.{news, reached}
 
-taken_by : (p : ℕ → Bool) (i n : ℕ) (b : Bool)
-    → take_while p (range_with_len (i + 1) n) ≡ range_with_len (i + 1) (passing p (i + 1) n)
-    → cond b (i ∷ take_while p (range_with_len (i + 1) n)) []
-    ≡ range_with_len i (cond b (passing p (i + 1) n + 1) 0)
-taken_by p i n true rest = ap (λ xs. i ∷ xs) rest ∙ ap (range_with_len i) (sym (add-one (passing p (i + 1) n)))
-taken_by p i n false rest = refl
-
--- the numbers before the first that fails the test
-taken : (p : ℕ → Bool) (i n : ℕ) → take_while p (range_with_len i n) ≡ range_with_len i (passing p i n)
-taken p i zero = refl
-taken p i (suc n) = take_while-cons p i (range_with_len (i + 1) n) ∙ taken_by p i n (p i) (taken p (i + 1) n)
-
-pub range_more : (i n m : ℕ) → range_with_len i (n + m) ≡ range_with_len i n ++ range_with_len (i + n) m
-range_more i zero m =
-    let none : 0 + m ≡ m = omega arith in
-    let at : i ≡ i + 0 = omega arith in
-    ap (range_with_len i) none ∙ ap (λ k. range_with_len k m) at
-range_more i (suc n) m =
-    let count : suc n + m ≡ suc (n + m) = omega arith in
-    let at : i + 1 + n ≡ i + suc n = omega arith in
-    ap (range_with_len i) count
-    ∙ ap (λ xs. i ∷ xs) (range_more (i + 1) n m ∙ ap (λ k. range_with_len (i + 1) n ++ range_with_len k m) at)
-
 mapped : (f g : ℕ → VerdictOf) (i n : ℕ) → ((j : ℕ) → i ≤ j → j < i + n → f j ≡ g j)
     → map f (range_with_len i n) ≡ map g (range_with_len i n)
 mapped f g i zero same = refl
@@ -59,7 +36,7 @@ pub counted : (log : List TimePoint) (policy : Form)
 unfolding settled_count
 counted log policy =
     ap (map (verdict_at log policy))
-    (taken (settled (times log) policy) 0 (length log)
+    (passing_taken (settled (times log) policy) 0 (length log)
     ∙ ap (λ n. range_with_len 0 (passing (settled (times log) policy) 0 n)) (sym (length-map log (λ p. p.ts))))
 
 module _ (log : List TimePoint) (point : TimePoint) (policy : Form)
@@ -95,7 +72,7 @@ module _ (log : List TimePoint) (point : TimePoint) (policy : Form)
         let verdict = verdict_at (log ++ point ∷ []) policy in
         counted (log ++ point ∷ []) policy
         ∙ ap (λ k. map verdict (range_with_len 0 k)) sum
-        ∙ ap (map verdict) (range_more 0 n m)
+        ∙ ap (map verdict) (range_front 0 n m)
         ∙ map-append verdict (range_with_len 0 n) (range_with_len (0 + n) m)
         ∙ ap (λ k. map verdict (range_with_len 0 n) ++ map verdict (range_with_len k m)) start
         ∙ ap (λ vs. vs ++ map verdict (range_with_len n m))

@@ -3,6 +3,7 @@ use Rattle.std.proofs.Common.{◌≡◌, ℕ, zero, suc, ◌+◌, ◌-◌, ◌<�
 use Rattle.std.proofs.Common.{List, ◌++◌, length, refl, sym, ap, ◌∙◌, inl, inr, arith}
 use Rattle.std.proofs.lemmas.Bool.{and_parts, and_from, cases_lt, eqb-true, ltb-true, lt-ltb, or_cases, or_left}
 use Rattle.std.proofs.lemmas.Bool.{or_right}
+use Rattle.std.specs.Cmp.{both_ways}
 use Rattle.mfotl_model.proofs.CountLemmas.{counted_settled, next_unsettled}
 use Rattle.mfotl_model.proofs.LogicLemmas.{all_in, all_from}
 use Rattle.mfotl_model.specs.Counts.{settled_count}
@@ -14,7 +15,6 @@ use Rattle.std.proofs.Common.{ap₂}
 use Rattle.mfotl_model.proofs.LogicLemmas.{funext}
 use Rattle.mfotl_model.specs.Formulas.Form.{Until}
 use Rattle.mfotl_model.specs.Settled.{until_settled}
-use Rattle.monitorable.proofs.DomainLemmas.{same_truth}
 use Rattle.mfotl_model.specs.declared.interval.Interval.{Interval}
 use Rattle.monitorable.proofs.SettledLemmas.{settled_before, settled_in_log}
 use Rattle.monitorable.proofs.SettledStays.{settled_stays}
@@ -180,7 +180,7 @@ count_next t rising interval f n most done =
 -- what is settled is what is counted
 settled_below : (t : List ℕ) → NeverFalls t → (f : Form) (j : ℕ) → settled t f j ≡ nat_lt j (settled_count t f)
 settled_below t rising f j =
-    same_truth (settled t f j) (nat_lt j (settled_count t f))
+    both_ways (settled t f j) (nat_lt j (settled_count t f))
     (λ h. lt-ltb j (settled_count t f) (count_below t rising f j h))
     (λ h. counted_settled t f j (ltb-true j (settled_count t f) h))
 

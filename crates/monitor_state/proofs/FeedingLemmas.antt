@@ -104,8 +104,8 @@ pulled_none columns s =
       rows = λ t a b v h one other. tt;
     }
 
-due_parts : (s : SinceOf) → due s ≡ true → (0 < length s.times) × (0 < length s.lefts) × (0 < length s.rights)
-due_parts s h =
+pub since_due_parts : (s : SinceOf) → due s ≡ true → (0 < length s.times) × (0 < length s.lefts) × (0 < length s.rights)
+since_due_parts s h =
     let outer = and_parts (nat_lt 0 (length s.times) && nat_lt 0 (length s.lefts)) (nat_lt 0 (length s.rights)) h in
     let inner = and_parts (nat_lt 0 (length s.times)) (nat_lt 0 (length s.lefts)) outer.0 in
     (ltb-true 0 (length s.times) inner.0, ltb-true 0 (length s.lefts) inner.1, ltb-true 0 (length s.rights) outer.1)
@@ -134,7 +134,7 @@ pulled_more columns old s new tables table ordered before ready advances follows
     let n : length (tables ++ ordered ∷ []) ≡ length tables + 1 = omega arith in
     let pulled : s.pulled ≡ old.pulled + length tables = before.pulled in
     let next : new.pulled ≡ s.pulled + 1 = advances.pulled in
-    let parts = due_parts s ready in
+    let parts = since_due_parts s ready in
     let times : length tables + 1 ≤ length old.times =
     room_more (length tables) old.times s.times before.in_times before.times parts.0 in
     let lefts : length tables + 1 ≤ length old.lefts =

@@ -3,6 +3,7 @@ use Rattle.std.proofs.Common.{subst, ◌≡◌, Bool, true, false, not, ◌&&◌
 use Rattle.std.proofs.Common.{sym, ap, ◌∙◌}
 use Rattle.std.proofs.Common.{arith, append-nil, inl, inr, ℕ}
 use Rattle.std.proofs.lemmas.Bool.{and_parts, not-true, or_cases, or_right}
+use Rattle.std.proofs.Math.Bool.{or-false}
 use Rattle.std.specs.List.{list_any}
 use Rattle.mfotl_model.specs.Exact.{AllExact, View}
 use Rattle.mfotl_model.specs.FreeVariables.{among, fv}
@@ -127,12 +128,8 @@ unfolding bound_by
 bound_by_right y f g m =
     among_both y (bound_by f) (bound_by g) ∙ or_right (among y (bound_by f)) (among y (bound_by g)) m
 
-or_nothing : (b : Bool) → (b || false) ≡ b
-or_nothing true = refl
-or_nothing false = refl
-
 pub bound_by_left : (y : ℕ) (f g : CoreForm) → among y (bound_by g) ≡ false
     → among y (bound_by (And f g)) ≡ among y (bound_by f)
 unfolding bound_by
 bound_by_left y f g m = among_both y (bound_by f) (bound_by g)
-    ∙ ap (λ b. among y (bound_by f) || b) m ∙ or_nothing (among y (bound_by f))
+    ∙ ap (λ b. among y (bound_by f) || b) m ∙ or-false (among y (bound_by f))

@@ -6,6 +6,7 @@ use Rattle.std.proofs.lemmas.Bool.{cases_Bool, cond-false, cond-true, or_cases, 
 use Rattle.std.proofs.lemmas.List.Folds.{list_any-append}
 use Rattle.mfotl_model.proofs.CountLemmas.{counted_settled}
 use Rattle.mfotl_model.proofs.LogicLemmas.{among_joined}
+use Rattle.mfotl_model.proofs.ColumnLemmas.{read_own}
 use Rattle.mfotl_model.specs.Exact.{View, AllExact, Exact}
 use Rattle.mfotl_model.specs.FreeVariables.{among, fv, joined}
 use Rattle.mfotl_model.specs.Log.{times}
@@ -20,11 +21,12 @@ use Rattle.monitorable.proofs.Coincidence.{coincidence}
 use Rattle.monitorable.specs.CoreForms.{CoreForm, meaning, True, Compare, Not, And, Since, Until}
 use Rattle.monitorable.specs.Fragment.{binds, bound_by}
 use Rattle.monitorable.specs.Soundness.{IsWellFormedIn}
-use Rattle.relations.proofs.JoinLemmas.{member_of_all, read_own}
+use Rattle.relations.proofs.JoinLemmas.{member_of_all}
+use Rattle.relations.proofs.InsideLemmas.{joined_within}
 use Rattle.relations.specs.Pushed.{turned}
 use Rattle.monitor_state.proofs.CountLemmas.{and_below, count_and, count_below}
 use Rattle.monitor_state.proofs.ExactLemmas.{all_stay, exact_append, reached_grows, reached_within, rising_before}
-use Rattle.monitor_state.proofs.RegionLemmas.{all_from_each, joined_inside, joined_within, near_left, near_right}
+use Rattle.monitor_state.proofs.RegionLemmas.{all_from_each, joined_inside, near_left, near_right}
 use Rattle.monitor_state.proofs.RegionLemmas.{right_inside}
 use Rattle.monitor_state.proofs.SinceSteps.{free_operand, reached_operand}
 use Rattle.monitor_state.proofs.WindowSteps.{window_due_at, window_fed, window_gone, window_means, window_settled}

@@ -1,13 +1,13 @@
 -- A conjunction's state over one step.
 use Rattle.std.proofs.Common.{subst, ◌≡◌, ℕ, ◌+◌, ◌-◌, ◌<◌, ◌≤◌, Bool, true, false, not, cond, ◌&&◌, nat_lt, nat_le}
 use Rattle.std.proofs.Common.{List, [], ◌∷◌, ◌++◌, length, drop, map, refl, sym, ap, ap₂, ◌∙◌, arith, length-append}
-use Rattle.std.proofs.Common.{append-nil}
-use Rattle.std.proofs.Math.Bool.{beq}
+use Rattle.std.proofs.Math.Bool.{beq, and_assoc}
 use Rattle.std.proofs.lemmas.Bool.{lt-ltb, ltb-true, leb-true, le-leb, and_parts, and_from}
 use Rattle.std.proofs.lemmas.List.{length-drop}
 use Rattle.std.specs.List.{list_all}
 use Rattle.mfotl_model.proofs.CountLemmas.{counted_settled}
-use Rattle.mfotl_model.proofs.VariableLemmas.{joined_assoc, joined_none}
+use Rattle.mfotl_model.proofs.VariableLemmas.{joined_assoc, joined_none, joined_nothing}
+use Rattle.mfotl_model.proofs.LogicLemmas.{and_moved}
 use Rattle.mfotl_model.specs.Exact.{View, Covers, AllExact}
 use Rattle.mfotl_model.specs.FreeVariables.{joined, fv, variables_in}
 use Rattle.mfotl_model.specs.Log.{times}
@@ -53,9 +53,6 @@ columns_append (TestPart c wanted ∷ ps) qs =
     ∙ sym (joined_assoc (variables_in (c.left ∷ c.right ∷ [])) (conjunct_columns (map conjunct_as ps))
     (conjunct_columns (map conjunct_as qs)))
 
-joined_nothing : (xs : List ℕ) → joined xs [] ≡ xs
-joined_nothing xs = append-nil xs
-
 negated_columns : (f : CoreForm) → conjunct_columns (map conjunct_as (negated_part f ∷ [])) ≡ fv (meaning f)
 unfolding fv
 negated_columns (Compare c) = joined_nothing (variables_in (c.left ∷ c.right ∷ []))
@@ -96,15 +93,6 @@ chosen_is true false = refl
 chosen_is false true = refl
 chosen_is false false = refl
 
-regroup_child : (a b c : Bool) → ((a && b) && c) ≡ (a && (b && c))
-regroup_child true b c = refl
-regroup_child false b c = refl
-
-regroup_test : (a b c : Bool) → (a && (b && c)) ≡ (b && (a && c))
-regroup_test true b c = refl
-regroup_test false true c = refl
-regroup_test false false c = refl
-
 module _ (view : View) (passes : Passes (fv view.whole) view.near) where
   -- what joins of exact tables is what the conjuncts mean
   joins_mean : (i : ℕ) (parts : List PartForm) (cs : List ChildOf)
@@ -124,7 +112,7 @@ module _ (view : View) (passes : Passes (fv view.whole) view.near) where
       ap (λ (x : ChildOf). x.negated) (head_same (bare c)
       (record { columns = fv (meaning f); negated = negated; tables = [] }) (map bare cs)
       (children_of (map conjunct_as parts)) is) in
-      regroup_child (turned c.negated (first_has v c.tables)) (list_all (child_holds v) cs)
+      and_assoc (turned c.negated (first_has v c.tables)) (list_all (child_holds v) cs)
       (list_all (test_holds v) (tests_of (map conjunct_as parts)))
       ∙ ap₂ (λ b r. b && r)
       (ap₂ turned own
@@ -137,7 +125,7 @@ module _ (view : View) (passes : Passes (fv view.whole) view.near) where
       stand.1 readies.1 dom v covers
       (near_right (fv view.whole) view.near passes (fv (meaning f)) (conjunct_columns (map conjunct_as parts)) v near))
   joins_mean i (TestPart c wanted ∷ parts) cs is stand ready dom v covers near =
-      regroup_test (list_all (child_holds v) cs)
+      and_moved (list_all (child_holds v) cs)
       (beq wanted (compares c.sign (term_value v c.left) (term_value v c.right)))
       (list_all (test_holds v) (tests_of (map conjunct_as parts)))
       ∙ ap₂ (λ b r. b && r) (chosen_is wanted (compares c.sign (term_value v c.left) (term_value v c.right)))

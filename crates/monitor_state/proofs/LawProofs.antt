@@ -1,5 +1,6 @@
 -- What is always true of a monitor's steps.
 use Rattle.std.proofs.Common.{List, [], ◌++◌, refl, sym, ap, subst, ◌∙◌, append_assoc, append-nil}
+use Rattle.std.specs.Cmp.{both_ways}
 use Rattle.mfotl_model.proofs.RegionLemmas.{everywhere_passes, slice_has}
 use Rattle.mfotl_model.specs.Exact.{View}
 use Rattle.mfotl_model.specs.FreeVariables.{fv}
@@ -8,7 +9,6 @@ use Rattle.mfotl_model.specs.Satisfaction.{event_of, has_event}
 use Rattle.mfotl_model.specs.Slices.{HasEach, slice}
 use Rattle.mfotl_model.specs.declared.event.Event.{Event}
 use Rattle.mfotl_model.specs.declared.term.Atom.{Atom as OneAtom}
-use Rattle.monitorable.proofs.DomainLemmas.{same_truth}
 use Rattle.monitorable.proofs.SoundLaw.{parts_are_sound}
 use Rattle.monitorable.proofs.TableLaw.{tables_satisfy}
 use Rattle.monitorable.specs.Atoms.{atoms_of}
@@ -43,7 +43,7 @@ module _ (view : View) (given db : List Event) (passes : Passes (fv view.whole) 
     enough True before after has = tt
     enough False before after has = tt
     enough (Atom a) before after has = λ v near.
-        same_truth (has_event given (event_of v a)) (has_event db (event_of v a)) (below (event_of v a))
+        both_ways (has_event given (event_of v a)) (has_event db (event_of v a)) (below (event_of v a))
         (λ h. has (event_of v a) (slice_has (fv view.whole) view.near passes a v before after db near ∙ h))
     enough (Compare c) before after has = tt
     enough (Not f) before after has = enough f before after has

@@ -5,18 +5,13 @@ use Rattle.mfotl_model.specs.FreeVariables.{joined}
 use Rattle.mfotl_model.specs.Satisfaction.{Valuation, since, until}
 use Rattle.mfotl_model.specs.Tables.{TableOf, all_among, has}
 use Rattle.mfotl_model.specs.Times.{NeverFalls}
+use Rattle.mfotl_model.proofs.LogicLemmas.{with_true}
 use Rattle.eval_since.specs.SinceView.{Advances, Follows, SinceOf}
 use Rattle.eval_until.specs.UntilView.{Follows as FollowsUntil, UntilOf}
 use Rattle.monitor_state.specs.FilterFeeding.{Finds, Joins}
 use Rattle.monitor_state.specs.WindowNode.{WindowHolds, window_columns}
 use Rattle.monitor_state.specs.declared.window.Window.{Window}
 use Rattle.monitor_state.specs.declared.window.Window.TheVariants as window
-
-both_true : (b c : Bool) → c ≡ true → (b && c) ≡ b
-both_true true true e = refl
-both_true false true e = refl
-both_true true false e = absurd (cc)
-both_true false false e = refl
 
 pub since_finds : (old new : SinceOf) (keys found : TableOf) → Advances old new
     → ((t : List ℕ) (a b : List Bool) (v : Valuation) → Follows old t a b v → Follows new t a b v)
@@ -31,7 +26,7 @@ since_finds old new keys found moves follows over rows =
       over = over ∙ moves.right;
       rows = λ v key t a b f.
           rows t a b v (follows t a b v f) (omega arith)
-          ∙ both_true (since new.window.interval t a b (new.pulled - 1)) (has keys v) key
+          ∙ with_true (since new.window.interval t a b (new.pulled - 1)) (has keys v) key
           ∙ ap₂ (λ i p. since i t a b p) moves.interval last;
     }
 

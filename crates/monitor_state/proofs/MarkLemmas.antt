@@ -22,7 +22,7 @@ use Rattle.relations.specs.KeptRows.{kept_for}
 use Rattle.monitor_state.specs.StateStands.{mark_meets, marks_for, marks_kept}
 
 -- the entries of a row are those of its marks
-entries_are : (p : ℕ) (next : List ℕ) (u : List Value) (rows : List KeptMarks)
+pub entries_are : (p : ℕ) (next : List ℕ) (u : List Value) (rows : List KeptMarks)
     → entries_for (entries_kept p next rows) u ≡ map (entry_at p next) (marks_for rows u)
 entries_are p next u [] = refl
 entries_are p next u (k ∷ ks) = by (is_at (row_cmp u) k.row) (entries_are p next u ks)

@@ -35,7 +35,7 @@ roots role.Part f = children (conjuncts_of f)
 roots role.Negated f = children (negated_part f ∷ [])
 roots role.Left f = left_operand f ∷ []
 
-children_append : (ps qs : List PartForm) → children (ps ++ qs) ≡ children ps ++ children qs
+pub children_append : (ps qs : List PartForm) → children (ps ++ qs) ≡ children ps ++ children qs
 children_append [] qs = refl
 children_append (ChildPart f n ∷ ps) qs = ap (λ fs. f ∷ fs) (children_append ps qs)
 children_append (TestPart c w ∷ ps) qs = children_append ps qs

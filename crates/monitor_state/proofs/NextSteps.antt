@@ -1,7 +1,7 @@
 -- A NEXT's state over one step.
 use Rattle.std.proofs.Common.{subst, ◌≡◌, ℕ, ◌+◌, ◌-◌, ◌<◌, ◌≤◌, Bool, true, false, ◌&&◌, cond, nat_lt, List, [], ◌∷◌}
 use Rattle.std.proofs.Common.{◌++◌, length, drop, refl, sym, ap, ap₂, ◌∙◌, arith, length-append, append-nil}
-use Rattle.std.proofs.lemmas.Bool.{and_from, lt-ltb}
+use Rattle.std.proofs.lemmas.Bool.{and_from, lt-ltb, true_from_ne_false}
 use Rattle.std.proofs.lemmas.List.{drop-drop, length-drop, length-map}
 use Rattle.mfotl_model.specs.Exact.{View, Covers, AllExact}
 use Rattle.mfotl_model.specs.Formulas.{Form}
@@ -46,10 +46,6 @@ bare_after : (b : Bool) (tables : List TableOf) → next_started b tables ≡ fa
 bare_after true tables h = let clash : true ≡ false = h in cc
 bare_after false [] h = (refl, refl)
 bare_after false (table ∷ tables) h = let clash : true ≡ false = h in cc
-
-either_bool : (b : Bool) → (b ≡ false → ⊥) → b ≡ true
-either_bool true never = refl
-either_bool false never = absurd (never refl)
 
 started_count : (b : Bool) (n m k : ℕ) → cond b n 0 ≡ m → k < m → (b ≡ true) × (n ≡ m)
 started_count true n m k is low = (refl, is)
@@ -186,7 +182,7 @@ module _ (view : View) (point : TimePoint) (i : Interval) (f : CoreForm)
 
   new_started : 0 < new.pulled → new.started ≡ true
   new_started some =
-      either_bool new.started (λ h. let none : new.pulled ≡ 0 = (new_bare h).0 in absurd (omega arith))
+      true_from_ne_false new.started (λ h. let none : new.pulled ≡ 0 = (new_bare h).0 in absurd (omega arith))
 
   later_count : 0 < new.pulled → new.pulled + 1 + length new.tables ≡ reached (longer view point) f
   later_count some = sym (ap (λ b. cond b (new.pulled + 1 + length new.tables) 0) (new_started some)) ∙ new_pushed

@@ -6,7 +6,9 @@ use Rattle.std.proofs.Common.{append-nil}
 use Rattle.std.proofs.lemmas.Bool.{and_parts, lt-ltb, ltb-true, cond-true, cond-false, ne_eqb}
 use Rattle.std.proofs.lemmas.List.{length-map, map-append}
 use Rattle.std.proofs.Math.Seq.{get_or-append_seam}
+use Rattle.std.proofs.Math.Bool.{and_self}
 use Rattle.std.specs.List.{list_any}
+use Rattle.std.specs.Cmp.{both_ways}
 use Rattle.mfotl_model.proofs.LogicLemmas.{among_without, same_number}
 use Rattle.mfotl_model.specs.ActiveDomain.{adom, constants}
 use Rattle.mfotl_model.specs.Counts.{settled_count}
@@ -28,7 +30,7 @@ use Rattle.mfotl_model.specs.declared.value.Value.{Value}
 use Rattle.eval_since.specs.PreviousView.{PrevOf}
 use Rattle.eval_since.specs.SinceView.{SinceOf}
 use Rattle.monitorable.proofs.DomainLaw.{domain}
-use Rattle.monitorable.proofs.DomainLemmas.{any_with, any_witness, same_truth}
+use Rattle.monitorable.proofs.DomainLemmas.{any_with, any_witness}
 use Rattle.monitorable.proofs.DomainRows.{has_constants, has_log}
 use Rattle.monitorable.specs.CoreForms.{CoreForm, meaning, True, False, Atom, Compare, Not, And, Or, Exists, Previous}
 use Rattle.monitorable.specs.CoreForms.{Next, Since}
@@ -149,10 +151,6 @@ both_childless [] qs h = (refl, h)
 both_childless (ChildPart f n ∷ ps) qs h = absurd (let e : (f ∷ children (ps ++ qs)) ≡ [] = h in cc)
 both_childless (TestPart c w ∷ ps) qs h = both_childless ps qs h
 
-same_both : (b : Bool) → (b && b) ≡ b
-same_both true = refl
-same_both false = refl
-
 -- a conjunction of tests alone is settled wherever the log is
 module _ (t : List ℕ) (i : ℕ) where
   negated_all : (f : CoreForm) → children (negated_part f ∷ []) ≡ [] → settled t (meaning f) i ≡ nat_lt i (length t)
@@ -164,7 +162,7 @@ module _ (t : List ℕ) (i : ℕ) where
   unfolding settled conjuncts_of
   tests_all (And f g) none =
       let both = both_childless (conjuncts_of f) (conjuncts_of g) none in
-      ap₂ (λ a b. a && b) (tests_all f both.0) (tests_all g both.1) ∙ same_both (nat_lt i (length t))
+      ap₂ (λ a b. a && b) (tests_all f both.0) (tests_all g both.1) ∙ and_self (nat_lt i (length t))
   tests_all (Not f) none = negated_all f none
   tests_all (Compare c) none = refl
   tests_all f none = absurd (let e : (f ∷ []) ≡ [] = none in cc)
@@ -293,7 +291,7 @@ module _ (view : View) (x : Bound) (f whole : CoreForm) (passes : Passes (fv vie
       record {
         columns = is.columns ∙ ap (without x.number) exact.columns;
         rows = λ dom v covers near.
-            same_truth (has quantified v) (list_any (λ a. sat view.log dom (with_value v x.number a) i (meaning f)) dom)
+            both_ways (has quantified v) (list_any (λ a. sat view.log dom (with_value v x.number a) i (meaning f)) dom)
             (λ h.
             let w = (is.rows v).0 h in
             let holds : sat view.log dom (with_value v x.number w.0) i (meaning f) ≡ true =

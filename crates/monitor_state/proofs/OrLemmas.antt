@@ -10,6 +10,7 @@ use Rattle.eval_bool.specs.Firsts.{first_has}
 use Rattle.eval_bool.specs.OrView.{OrOf, or_advanced, or_due, or_pushed}
 use Rattle.relations.proofs.PushedLemmas.{over_push, stand_push}
 use Rattle.monitor_state.specs.OrFeeding.{OrPulled, operand_fed}
+use Rattle.monitor_state.proofs.FeedingLemmas.{room_more}
 
 fed_none_by : (s : OrOf) (first : Bool)
     → s ≡ cond first (record s { lefts = s.lefts ++ [] }) (record s { rights = s.rights ++ [] })
@@ -51,10 +52,6 @@ or_due_parts s h =
     let parts = and_parts (nat_lt 0 (length s.lefts)) (nat_lt 0 (length s.rights)) h in
     (ltb-true 0 (length s.lefts) parts.0, ltb-true 0 (length s.rights) parts.1)
 
--- where one more lies behind the first n
-behind : {X : Type 0} (n : ℕ) (xs ys : List X) → ys ≡ drop n xs → n ≤ length xs → 0 < length ys → n + 1 ≤ length xs
-behind n xs ys is low some = let size : length ys ≡ length xs - n = ap length is ∙ length-drop n xs in omega arith
-
 pub or_pulled_more : (old s new : OrOf) (tables items : List TableOf) (answer : Option TableOf) (table : TableOf)
     → OrPulled old s tables → answer ≡ Some table
     → is_some answer ≡ or_due s
@@ -80,9 +77,9 @@ or_pulled_more old s new tables items answer table before is ready state over ro
           })
           (drop-drop 1 (length tables) old.rights ∙ ap (λ n. drop n old.rights) (sym size));
       in_lefts = (let more : length tables + 1 ≤ length old.lefts =
-          behind (length tables) old.lefts s.lefts lefts before.in_lefts some.0 in omega (arith, size));
+          room_more (length tables) old.lefts s.lefts before.in_lefts lefts some.0 in omega (arith, size));
       in_rights = (let more : length tables + 1 ≤ length old.rights =
-          behind (length tables) old.rights s.rights rights before.in_rights some.1 in omega (arith, size));
+          room_more (length tables) old.rights s.rights before.in_rights rights some.1 in omega (arith, size));
       over = over_push old.left tables table before.over (columns ∙ ap (λ (x : OrOf). x.left) before.state);
       rows = λ v.
           stand_push (λ k x. has x v ≡ (first_has v (drop k old.lefts) || first_has v (drop k old.rights))) 0 tables

@@ -6,7 +6,7 @@ use Rattle.std.proofs.lemmas.Bool.{or_left, or_right}
 use Rattle.std.proofs.lemmas.List.Folds.{list_any-append}
 use Rattle.std.specs.List.{list_any}
 use Rattle.std.specs.Ordering.{eq_by_cmp}
-use Rattle.mfotl_model.proofs.LogicLemmas.{among_without, same_number}
+use Rattle.mfotl_model.proofs.LogicLemmas.{among_without}
 use Rattle.mfotl_model.specs.ActiveDomain.{constants}
 use Rattle.mfotl_model.specs.Domains.{Includes, in_domain}
 use Rattle.mfotl_model.specs.Exact.{View}
@@ -15,7 +15,7 @@ use Rattle.mfotl_model.specs.Values.{value_cmp}
 use Rattle.mfotl_model.specs.declared.event.Event.{Event}
 use Rattle.mfotl_model.specs.declared.formula.Bound.{Bound}
 use Rattle.mfotl_model.specs.declared.value.Value.{Value}
-use Rattle.monitorable.proofs.FragmentLemmas.{no_first, no_variable, none_first, none_outside}
+use Rattle.monitorable.proofs.FragmentLemmas.{no_first, no_variable, none_first, none_outside, used_variable}
 use Rattle.monitorable.specs.CoreForms.{CoreForm, meaning, Atom, And, Exists, Not, Since, Until}
 use Rattle.monitorable.specs.Fragment.{Names, at_variable, bound_by, fault_in, first, first_outside, guards, needed_by}
 use Rattle.monitorable.specs.Fragment.{named_variable, uses, with_name}
@@ -114,13 +114,6 @@ led_uses a x g m =
       | inl same ↦ ap (λ z. among z (fv (meaning g))) (eqb-true y x.number same) ∙ m
       | inr none ↦ absurd (let clash : false ≡ true = none in cc)
     ])))
-
-used : (x : Bound) (g : CoreForm) → uses x g ≡ None → among x.number (fv (meaning g)) ≡ true
-used x g e =
-    none_outside (fv (meaning g)) (x.number ∷ []) x.number
-    (no_variable (λ y. UnusedBound (record { number = y; name = x.name }))
-    (first_outside (fv (meaning g)) (x.number ∷ [])) e)
-    (or_left (nat_eq x.number x.number) false (same_number x.number))
 
 within_both : (b : Value) (xs ys : List Value) → in_domain (xs ++ ys) b ≡ (in_domain xs b || in_domain ys b)
 within_both b xs ys = list_any-append (eq_by_cmp value_cmp b) xs ys
@@ -310,7 +303,7 @@ asked_accepted f x g on a =
           (none_first (first (fault_in inner role.Whole under) (uses x under)) None
           (none_first (fault_in inner role.Whole under) (uses x under)
           (led_whole inner (first_conjunct f) g asks.0 asks.1 parts.0)
-          (led_uses (first_conjunct f) x g (used x g parts.1))) refl)
+          (led_uses (first_conjunct f) x g (used_variable x g parts.1))) refl)
           (asked_guarded names f x g asks.0 rest.1)),
     )
 

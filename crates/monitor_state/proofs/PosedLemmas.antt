@@ -4,6 +4,7 @@ use Rattle.std.proofs.Common.{filter, refl, sym, ap, ap₂, ◌∙◌, inl, inr}
 use Rattle.std.proofs.lemmas.Bool.{and_parts, cases_Bool, cond-false, cond-true, eqb-true, not-true}
 use Rattle.std.proofs.lemmas.Bool.{or_left, or_right}
 use Rattle.std.proofs.lemmas.List.Elements.{filter-append}
+use Rattle.std.proofs.Math.Bool.{or_assoc, and_assoc}
 use Rattle.std.specs.List.{list_any}
 use Rattle.mfotl_model.proofs.LogicLemmas.{among_joined, funext, same_number}
 use Rattle.mfotl_model.proofs.VariableLemmas.{filter-filter}
@@ -16,14 +17,6 @@ use Rattle.mfotl_model.specs.declared.value.Value.{Value}
 use Rattle.monitorable.proofs.Coincidence.{coincidence}
 use Rattle.monitorable.specs.CoreForms.{CoreForm, meaning, And, Exists, Not}
 use Rattle.monitor_state.specs.Nodes.{first_conjunct, is_atom, leads, led, posed, shares_window}
-
-or_assoc : (a b c : Bool) → ((a || b) || c) ≡ (a || (b || c))
-or_assoc true b c = refl
-or_assoc false b c = refl
-
-and_assoc : (a b c : Bool) → ((a && b) && c) ≡ (a && (b && c))
-and_assoc true b c = refl
-and_assoc false b c = refl
 
 -- ---- a conjunction with one more conjunct before the others
 

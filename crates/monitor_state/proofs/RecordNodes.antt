@@ -1,12 +1,7 @@
 -- The nodes' data, where the nodes stand for a log.
-use Rattle.std.proofs.Common.{◌≡◌, ℕ, ◌+◌, ◌-◌, ◌≤◌, true, min, List, [], ◌∷◌, ◌++◌, length, sym, subst, ap, ◌∙◌}
-use Rattle.std.proofs.Common.{arith}
-use Rattle.std.proofs.lemmas.Bool.{eqb-true}
-use Rattle.std.proofs.lemmas.List.{length-drop, length-map}
+use Rattle.std.proofs.Common.{◌≡◌, ℕ, ◌+◌, ◌-◌, ◌≤◌, true, List, [], ◌∷◌, ◌++◌, length, sym, subst, ap, ◌∙◌}
 use Rattle.mfotl_model.specs.Exact.{AllExact, View}
-use Rattle.mfotl_model.specs.Log.{times}
 use Rattle.mfotl_model.specs.Tables.{TableOf}
-use Rattle.mfotl_model.specs.declared.interval.Interval.{Interval}
 use Rattle.eval_bool.specs.BoolData.{JoinRule, TablesOver, join_of, kept_tables, with_tables}
 use Rattle.eval_bool.specs.JoinView.{ChildOf, JoinOf}
 use Rattle.eval_bool.specs.OrView.{OrOf}
@@ -14,16 +9,16 @@ use Rattle.eval_bool.specs.declared.recalled.JoinData.{JoinData}
 use Rattle.eval_since.specs.PreviousView.{PrevOf}
 use Rattle.eval_since.specs.SinceView.{SinceOf}
 use Rattle.eval_until.specs.NextView.{NextOf, tables_pushed}
-use Rattle.eval_until.specs.UntilView.{UntilOf, to_take, took_all}
+use Rattle.eval_until.specs.UntilView.{UntilOf}
 use Rattle.monitorable.specs.CoreForms.{CoreForm, meaning, Not, And, Or, Previous, Next, Since, Until}
 use Rattle.monitor_state.proofs.ExactLemmas.{reached_within}
 use Rattle.monitor_state.proofs.RecordLemmas.{since_recorded, until_recorded}
+use Rattle.monitor_state.proofs.UntilSteps.{until_all_taken}
 use Rattle.monitor_state.specs.Nodes.{left_operand, operands}
 use Rattle.monitor_state.specs.Recording.{NodeRecorded, NodesRecorded, WindowRecorded}
 use Rattle.monitor_state.specs.Stands.{ChildrenStand, IsNodeFor, JoinStands, NodeStands, NodesStand}
 use Rattle.monitor_state.specs.StateStands.{JoinDataStands, NodeDataStands, NodesDataStand, TablesStand}
 use Rattle.monitor_state.specs.StateStands.{WindowDataStands}
-use Rattle.monitor_state.specs.UntilNode.{UntilStandsAt}
 use Rattle.monitor_state.specs.Views.{reached}
 use Rattle.monitor_state.specs.WindowNode.{IsWindow, WindowStands, window_took_all}
 use Rattle.monitor_state.specs.declared.filter.FilterState.{FilterState}
@@ -36,27 +31,13 @@ use Rattle.monitor_state.specs.declared.state.WindowData.TheVariants as data_of
 use Rattle.monitor_state.specs.declared.window.Window.{Window}
 use Rattle.monitor_state.specs.declared.window.Window.TheVariants as window
 
--- a state that took all that it can took the positions at which both operands are settled
-pub all_taken : (view : View) (p : ℕ) (i : Interval) (f g : CoreForm) (s : UntilOf) → UntilStandsAt view p i f g s
-    → took_all s ≡ true → p ≤ length view.log → s.ahead.taken ≡ min (reached view f) (reached view g)
-all_taken view p i f g s stands all inside =
-    let none : to_take s ≡ 0 = eqb-true (to_take s) 0 all in
-    let lefts : s.ahead.taken + length s.lefts ≡ reached view f = stands.left_pushed in
-    let rights : s.ahead.taken + length s.rights ≡ reached view g = stands.right_pushed in
-    let pulled : s.ahead.pulled ≡ p = stands.pulled in
-    let most : reached view f ≤ length view.log = reached_within view f in
-    let size : length s.times ≡ length (times view.log) - s.ahead.pulled =
-    ap length stands.kept ∙ length-drop s.ahead.pulled (times view.log) in
-    let logged : length (times view.log) ≡ length view.log = length-map view.log (λ p. p.ts) in
-    omega arith
-
 pub window_recorded : (view : View) (p : ℕ) (w : CoreForm) (s : Window) (k : WindowData) → p ≤ length view.log
     → window_took_all s ≡ true → IsWindow w s → WindowStands view p w s → WindowRecorded s k
     → WindowDataStands view p w k
 window_recorded view p (Since i f g) (window.Since s) (data_of.Since k) inside all is stands rec =
     since_recorded view p i f g s k is stands rec
 window_recorded view p (Until i f g) (window.Until s) (data_of.Until k) inside all is stands rec =
-    until_recorded view p i f g s k is stands (all_taken view p i f g s stands all inside) rec
+    until_recorded view p i f g s k is stands (until_all_taken view p i f g s stands all inside) rec
 window_recorded view p (Since i f g) (window.Since s) (data_of.Until k) inside all is stands rec = absurd rec
 window_recorded view p (Until i f g) (window.Until s) (data_of.Since k) inside all is stands rec = absurd rec
 window_recorded view p w s k inside all is stands rec = absurd is

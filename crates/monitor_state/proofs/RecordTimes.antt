@@ -2,7 +2,7 @@
 use Rattle.std.proofs.Common.{◌≡◌, ℕ, ◌-◌, ◌<◌, ◌≤◌, Bool, true, false, cond, min}
 use Rattle.std.proofs.Common.{nat_lt, List, [], ◌∷◌, length, drop, refl, sym, ap, ◌∙◌, arith}
 use Rattle.std.proofs.lemmas.Bool.{ltb-true, ltb-false}
-use Rattle.std.proofs.lemmas.List.{length-drop, length-map}
+use Rattle.std.proofs.lemmas.List.{length-drop}
 use Rattle.mfotl_model.specs.Exact.{View}
 use Rattle.mfotl_model.specs.Log.{times}
 use Rattle.eval_since.specs.PreviousView.{PrevOf}
@@ -12,6 +12,7 @@ use Rattle.eval_until.specs.UntilView.{UntilOf}
 use Rattle.mfotl_model.specs.Tables.{TableOf}
 use Rattle.monitorable.specs.CoreForms.{CoreForm, And, Previous, Next, Since, Until}
 use Rattle.monitor_state.proofs.ExactLemmas.{reached_within}
+use Rattle.monitor_state.proofs.ResumeTimes.{log_size}
 use Rattle.monitor_state.specs.Nodes.{left_operand}
 use Rattle.monitor_state.specs.Recording.{NodeRecorded, NodesRecorded, WindowRecorded, longer_of, longest, node_stamps}
 use Rattle.monitor_state.specs.Recording.{window_stamps}
@@ -60,13 +61,10 @@ pub record Knows (view : View) (asks : ℕ) (known : List ℕ) : Type 0 where
   pub stamps : known ≡ drop asks (times view.log)
   pub inside : asks ≤ length (times view.log)
 
-logged : (view : View) → length (times view.log) ≡ length view.log
-logged view = length-map view.log (λ p. p.ts)
-
 window_knows : (view : View) (p : ℕ) (w : CoreForm) (s : Window) (k : WindowData) → p ≤ length view.log
     → IsWindow w s → WindowStands view p w s → WindowRecorded s k → Knows view (window_asks k) (window_stamps s)
 window_knows view p (Since i f g) (window.Since s) (data_of.Since k) inside is stands rec =
-    let size : length (times view.log) ≡ length view.log = logged view in
+    let size : length (times view.log) ≡ length view.log = log_size view in
     let pulled : k.kept.pulled ≡ s.pulled = rec.pulled in
     let at : s.pulled ≡ p = stands.pulled in
     record {
@@ -74,7 +72,7 @@ window_knows view p (Since i f g) (window.Since s) (data_of.Since k) inside is s
       inside = omega arith;
     }
 window_knows view p (Until i f g) (window.Until s) (data_of.Until k) inside is stands rec =
-    let size : length (times view.log) ≡ length view.log = logged view in
+    let size : length (times view.log) ≡ length view.log = log_size view in
     let pulled : k.kept.pulled ≡ s.ahead.pulled = ap (λ (x : UntilOf). x.ahead.pulled) rec.same in
     let at : s.ahead.pulled ≡ p = stands.pulled in
     record {
@@ -124,7 +122,7 @@ previous_more : (view : View) (f : CoreForm) (s : PrevOf) (k : NodeData) (place 
     → NodeStands view f (node.Previous s) → NodeRecorded (node.Previous s) k
     → Lengthens view place (node.Previous s) k own
 previous_more view (Previous i f) s (kept.Previous k) place own inside is for stands rec =
-    let size : length (times view.log) ≡ length view.log = logged view in
+    let size : length (times view.log) ≡ length view.log = log_size view in
     let pulled : k.pulled ≡ s.pulled = ap (λ (x : PrevOf). x.pulled) rec.0 in
     let at : s.pulled ≡ reached view (Previous i f) = stands.pulled in
     let most : reached view (Previous i f) ≤ length view.log = reached_within view (Previous i f) in
@@ -140,7 +138,7 @@ next_more : (view : View) (f : CoreForm) (s : NextOf) (k : NodeData) (place : �
     → place ≤ length (times view.log) → own ≡ drop place (times view.log) → IsNodeFor f (node.Next s)
     → NodeStands view f (node.Next s) → NodeRecorded (node.Next s) k → Lengthens view place (node.Next s) k own
 next_more view (Next i f) s (kept.Next k) place own inside is for stands rec =
-    let size : length (times view.log) ≡ length view.log = logged view in
+    let size : length (times view.log) ≡ length view.log = log_size view in
     let pulled : k.pulled ≡ s.pulled = ap (λ (x : NextOf). x.pulled) rec.0 in
     let at : s.pulled ≡ reached view (Next i f) = stands.pulled in
     let most : reached view (Next i f) ≤ length view.log = reached_within view (Next i f) in

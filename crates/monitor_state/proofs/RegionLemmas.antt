@@ -1,7 +1,7 @@
 -- Near rows and their parts.
-use Rattle.std.proofs.Common.{◌≡◌, ℕ, Bool, true, not, ◌||◌, cond, nat_eq, List, [], ◌∷◌, ◌++◌, filter, append-nil}
-use Rattle.std.proofs.Common.{refl, sym, ap, ◌∙◌, inl, inr}
-use Rattle.std.proofs.lemmas.Bool.{or_left, or_right, or_cases, and_from, and_parts}
+use Rattle.std.proofs.Common.{◌≡◌, ℕ, Bool, true, ◌||◌, nat_eq, List, [], ◌∷◌}
+use Rattle.std.proofs.Common.{refl, sym, ◌∙◌, inl, inr}
+use Rattle.std.proofs.lemmas.Bool.{or_left, or_right, or_cases, and_from}
 use Rattle.mfotl_model.proofs.LogicLemmas.{among_joined, same_number}
 use Rattle.mfotl_model.specs.FreeVariables.{among, joined}
 use Rattle.mfotl_model.specs.Regions.{Region, Passes}
@@ -32,17 +32,6 @@ all_from_each (x ∷ wanted) columns each =
   where
     or_left_true : (b : Bool) → nat_eq x x ≡ true → (nat_eq x x || b) ≡ true
     or_left_true b e = or_left (nat_eq x x) b e
-
-none_outside : (xs ys : List ℕ) → all_among ys xs ≡ true → filter (λ y. not (among y xs)) ys ≡ []
-none_outside xs [] h = refl
-none_outside xs (y ∷ ys) h =
-    let parts = and_parts (among y xs) (all_among ys xs) h in
-    ap (λ b. cond (not b) (y ∷ filter (λ z. not (among z xs)) ys) (filter (λ z. not (among z xs)) ys)) parts.0
-    ∙ none_outside xs ys parts.1
-
--- variables that are all among others add none to them
-pub joined_within : (xs ys : List ℕ) → all_among ys xs ≡ true → joined xs ys ≡ xs
-joined_within xs ys h = ap (λ zs. xs ++ zs) (none_outside xs ys h) ∙ append-nil xs
 
 -- near passes to variables that are all among others
 pub near_part : (free : List ℕ) (near : Region) → Passes free near → (xs ys : List ℕ)

@@ -1,7 +1,7 @@
 -- A SINCE's state over one step.
 use Rattle.std.proofs.Common.{subst, ◌≡◌, ℕ, ◌+◌, ◌-◌, ◌<◌, ◌≤◌, Bool, true, false, not, ◌&&◌, nat_lt, List, [], ◌∷◌}
 use Rattle.std.proofs.Common.{◌++◌, length, drop, refl, sym, ap, ap₂, ◌∙◌, arith, length-append}
-use Rattle.std.proofs.lemmas.Bool.{and_parts, lt-ltb, ltb-true}
+use Rattle.std.proofs.lemmas.Bool.{lt-ltb}
 use Rattle.std.proofs.lemmas.List.{length-drop}
 use Rattle.mfotl_model.specs.Counts.{settled_count}
 use Rattle.mfotl_model.specs.Exact.{View, Covers, AllExact}
@@ -25,6 +25,7 @@ use Rattle.monitor_state.proofs.ExactLemmas.{exact_tell, log_more, reached_withi
 use Rattle.monitor_state.proofs.ExactLemmas.{truths_tell}
 use Rattle.monitor_state.proofs.StampLemmas.{known_more, stamps_moved, stamps_pulled, stamps_pushed}
 use Rattle.monitor_state.proofs.RegionLemmas.{joined_inside, near_part, near_right, right_inside}
+use Rattle.monitor_state.proofs.FeedingLemmas.{since_due_parts}
 use Rattle.monitor_state.specs.Feeding.{SinceFeeds, SincePulled, SinceTakes}
 use Rattle.monitor_state.specs.Nodes.{is_negated, left_operand}
 use Rattle.monitor_state.specs.SinceNode.{IsSince, IsSinceState, SinceStands, SinceStandsAt}
@@ -248,15 +249,6 @@ pulled_moves columns old new tables pulls =
       in_rights = pulls.in_rights;
       follows = pulls.follows;
     }
-
-pub since_due_parts : (s : SinceOf) → due s ≡ true → (0 < length s.times) × (0 < length s.lefts) × (0 < length s.rights)
-since_due_parts s h =
-    let one = and_parts (nat_lt 0 (length s.times) && nat_lt 0 (length s.lefts)) (nat_lt 0 (length s.rights)) h in
-    let two = and_parts (nat_lt 0 (length s.times)) (nat_lt 0 (length s.lefts)) one.0 in (
-      ltb-true 0 (length s.times) two.0,
-      ltb-true 0 (length s.lefts) two.1,
-      ltb-true 0 (length s.rights) one.1,
-    )
 
 -- one position was pulled
 pub one_moves : (old new : SinceOf) → due old ≡ true → Advances old new

@@ -316,20 +316,19 @@ module _ (view : View) (rising : NeverFalls (times view.log)) (i : Interval) (f 
       due_settled s is.interval (omega arith) stands.kept stands.left_pushed stands.right_pushed
       ∙ ap (settled (times view.log) (meaning (Until i f g))) stands.pulled
 
-  -- what a state has taken that stands and took all that it can
-  pub until_all_taken : (p : ℕ) (s : UntilOf) → UntilStandsAt view p i f g s → p ≤ length view.log → took_all s ≡ true
-      → s.ahead.taken ≡ min (reached view f) (reached view g)
-  until_all_taken p s stands low all =
-      let none : to_take s ≡ 0 = eqb-true (to_take s) 0 all in
-      let lefts : s.ahead.taken + length s.lefts ≡ reached view f = stands.left_pushed in
-      let rights : s.ahead.taken + length s.rights ≡ reached view g = stands.right_pushed in
-      let size : length s.times ≡ length (times view.log) - s.ahead.pulled =
-      ap length stands.kept ∙ length-drop s.ahead.pulled (times view.log) in
-      let whole : length (times view.log) ≡ length view.log = length-map view.log (λ p. p.ts) in
-      let in_left : reached view f ≤ length view.log = reached_within view f in
-      let in_right : reached view g ≤ length view.log = reached_within view g in
-      let pulled : s.ahead.pulled ≡ p = stands.pulled in
-      omega arith
+-- a state that took all that it can took the positions at which both operands are settled
+pub until_all_taken : (view : View) (p : ℕ) (i : Interval) (f g : CoreForm) (s : UntilOf) → UntilStandsAt view p i f g s
+    → took_all s ≡ true → p ≤ length view.log → s.ahead.taken ≡ min (reached view f) (reached view g)
+until_all_taken view p i f g s stands all inside =
+    let none : to_take s ≡ 0 = eqb-true (to_take s) 0 all in
+    let lefts : s.ahead.taken + length s.lefts ≡ reached view f = stands.left_pushed in
+    let rights : s.ahead.taken + length s.rights ≡ reached view g = stands.right_pushed in
+    let pulled : s.ahead.pulled ≡ p = stands.pulled in
+    let most : reached view f ≤ length view.log = reached_within view f in
+    let size : length s.times ≡ length (times view.log) - s.ahead.pulled =
+    ap length stands.kept ∙ length-drop s.ahead.pulled (times view.log) in
+    let logged : length (times view.log) ≡ length view.log = length-map view.log (λ p. p.ts) in
+    omega arith
 
 -- what a state that stands tells of a near row
 pub until_right : (view : View) (i : Interval) (f g : CoreForm) (p : ℕ) (s : UntilOf) → UntilStandsAt view p i f g s
@@ -462,8 +461,8 @@ module _ (view : View) (point : TimePoint) (i : Interval) (f g : CoreForm)
       record {
         at = subst (λ p. UntilStandsAt (longer view point) p i f g new) count new_stands;
         taken =
-            until_all_taken (longer view point) rising i f g (reached view (Until i f g) + length tables) new new_stands
-            fed_inside takes.all;
+            until_all_taken (longer view point) (reached view (Until i f g) + length tables) i f g new new_stands
+            takes.all fed_inside;
       }
 
   pub until_news : News view point (Until i f g) tables

@@ -2,6 +2,7 @@
 use Rattle.std.proofs.Common.{subst, ◌≡◌, ℕ, ◌+◌, ◌<◌, ◌≤◌, Bool, true, ◌&&◌, nat_lt, List, [], ◌∷◌, length, sym, ap₂}
 use Rattle.std.proofs.Common.{◌∙◌, arith}
 use Rattle.std.proofs.lemmas.Bool.{and_from, lt-ltb}
+use Rattle.std.specs.Cmp.{both_ways}
 use Rattle.mfotl_model.specs.Exact.{View, Covers}
 use Rattle.mfotl_model.specs.FreeVariables.{fv}
 use Rattle.mfotl_model.specs.Log.{times}
@@ -15,16 +16,16 @@ use Rattle.mfotl_model.specs.declared.interval.Interval.{Interval}
 use Rattle.mfotl_model.specs.declared.value.Value.{Value}
 use Rattle.eval_since.specs.SinceView.{SinceOf, due}
 use Rattle.eval_until.specs.UntilView.{UntilOf, to_take}
-use Rattle.monitorable.proofs.DomainLemmas.{same_truth}
 use Rattle.monitorable.specs.CoreForms.{CoreForm, meaning, Since, Until}
 use Rattle.monitorable.specs.Soundness.{IsWellFormedIn}
 use Rattle.monitor_state.proofs.CountLemmas.{since_counted}
 use Rattle.monitor_state.proofs.ExactLemmas.{reached_within}
 use Rattle.monitor_state.proofs.RegionLemmas.{near_right}
-use Rattle.monitor_state.proofs.SinceSteps.{one_moves, since_due_parts, since_fed, since_fed_is, since_moved}
+use Rattle.monitor_state.proofs.SinceSteps.{one_moves, since_fed, since_fed_is, since_moved}
 use Rattle.monitor_state.proofs.SinceSteps.{since_moved_is, since_right}
 use Rattle.monitor_state.proofs.UntilSteps.{UntilMoves, until_due_at, until_fed, until_fed_is, until_moved}
 use Rattle.monitor_state.proofs.UntilSteps.{until_moved_is, until_right}
+use Rattle.monitor_state.proofs.FeedingLemmas.{since_due_parts}
 use Rattle.monitor_state.specs.FilterFeeding.{UntilSettles, WindowFeeds, WindowGoes, WindowSettles}
 use Rattle.monitor_state.specs.Nodes.{window_operands}
 use Rattle.monitor_state.specs.SinceNode.{IsSinceState, SinceStandsAt}
@@ -139,7 +140,7 @@ since_due_at view rising i f g s p stands =
     let lefts : s.pulled + length s.lefts ≡ reached view f = stands.left_pushed in
     let rights : s.pulled + length s.rights ≡ reached view g = stands.right_pushed in
     let counted = since_counted (times view.log) rising i (meaning f) (meaning g) p in
-    same_truth (due s) (settled (times view.log) (meaning (Since i f g)) p)
+    both_ways (due s) (settled (times view.log) (meaning (Since i f g)) p)
     (λ h.
     let some = since_due_parts s h in
     let in_lefts : 0 < length s.lefts = some.1 in

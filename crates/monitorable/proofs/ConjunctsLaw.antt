@@ -1,6 +1,7 @@
 -- A formula holds exactly where all its conjuncts do.
 use Rattle.std.proofs.Common.{◌≡◌, ℕ, Bool, true, false, not, ◌&&◌, cond, List, refl, sym, ap₂, ◌∙◌}
 use Rattle.std.proofs.lemmas.List.Folds.{list_all-append}
+use Rattle.std.proofs.Math.Bool.{and-true}
 use Rattle.monitorable.specs.CoreForms.{CoreForm, meaning, True, False, Atom, Compare, Not, And, Or, Exists}
 use Rattle.monitorable.specs.CoreForms.{Previous, Next, Since, Until}
 use Rattle.mfotl_model.specs.Satisfaction.{Valuation, sat}
@@ -10,10 +11,6 @@ use Rattle.monitorable.specs.Conjuncts.{conjuncts_of, negated_part, part_holds}
 use Rattle.monitorable.specs.Conjuncts.PartForm.{Child, Test}
 use Rattle.monitorable.specs.Fragment.{binds}
 use Rattle.monitorable.specs.Laws.{ConjunctsMean}
-
-alone : (b : Bool) → b ≡ (b && true)
-alone true = refl
-alone false = refl
 
 negated : (log : List TimePoint) (dom : List Value) (f : CoreForm) (v : Valuation) (i : ℕ)
     → not (sat log dom v i (meaning f)) ≡ part_holds log dom v i (negated_part f)
@@ -36,9 +33,9 @@ conjuncts_mean log dom (And f g) v i =
     ap₂ (λ b c. b && c) (conjuncts_mean log dom f v i) (conjuncts_mean log dom g v i)
     ∙ sym (list_all-append (part_holds log dom v i) (conjuncts_of f) (conjuncts_of g))
 conjuncts_mean log dom (Not f) v i =
-    negated log dom f v i ∙ alone (part_holds log dom v i (negated_part f))
+    negated log dom f v i ∙ sym (and-true (part_holds log dom v i (negated_part f)))
 conjuncts_mean log dom (Compare c) v i =
-    held (binds c) ∙ alone (part_holds log dom v i (cond (binds c) (Child (Compare c) false) (Test c true)))
+    held (binds c) ∙ sym (and-true (part_holds log dom v i (cond (binds c) (Child (Compare c) false) (Test c true))))
   where
     held : (b : Bool) → sat log dom v i (meaning (Compare c))
         ≡ part_holds log dom v i (cond b (Child (Compare c) false) (Test c true))
@@ -46,10 +43,10 @@ conjuncts_mean log dom (Compare c) v i =
     held false = refl
 conjuncts_mean log dom True v i = refl
 conjuncts_mean log dom False v i = refl
-conjuncts_mean log dom (Atom atom) v i = alone (sat log dom v i (meaning (Atom atom)))
-conjuncts_mean log dom (Or f g) v i = alone (sat log dom v i (meaning (Or f g)))
-conjuncts_mean log dom (Exists x f) v i = alone (sat log dom v i (meaning (Exists x f)))
-conjuncts_mean log dom (Previous interval f) v i = alone (sat log dom v i (meaning (Previous interval f)))
-conjuncts_mean log dom (Next interval f) v i = alone (sat log dom v i (meaning (Next interval f)))
-conjuncts_mean log dom (Since interval f g) v i = alone (sat log dom v i (meaning (Since interval f g)))
-conjuncts_mean log dom (Until interval f g) v i = alone (sat log dom v i (meaning (Until interval f g)))
+conjuncts_mean log dom (Atom atom) v i = sym (and-true (sat log dom v i (meaning (Atom atom))))
+conjuncts_mean log dom (Or f g) v i = sym (and-true (sat log dom v i (meaning (Or f g))))
+conjuncts_mean log dom (Exists x f) v i = sym (and-true (sat log dom v i (meaning (Exists x f))))
+conjuncts_mean log dom (Previous interval f) v i = sym (and-true (sat log dom v i (meaning (Previous interval f))))
+conjuncts_mean log dom (Next interval f) v i = sym (and-true (sat log dom v i (meaning (Next interval f))))
+conjuncts_mean log dom (Since interval f g) v i = sym (and-true (sat log dom v i (meaning (Since interval f g))))
+conjuncts_mean log dom (Until interval f g) v i = sym (and-true (sat log dom v i (meaning (Until interval f g))))

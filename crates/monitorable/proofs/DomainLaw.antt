@@ -7,7 +7,7 @@ use Rattle.std.proofs.lemmas.Map.Views.{tells_apart}
 use Rattle.std.specs.List.{list_any, flat_map}
 use Rattle.std.specs.Ordering.{eq_by_cmp}
 use Rattle.mfotl_model.proofs.LogicLemmas.{funext, among_without, among_distinct, same_number}
-use Rattle.mfotl_model.proofs.RowLemmas.{value_exact}
+use Rattle.mfotl_model.proofs.RowLemmas.{value_exact, value_itself}
 use Rattle.mfotl_model.specs.ActiveDomain.{constants, constant_in, log_values}
 use Rattle.mfotl_model.specs.FreeVariables.{fv, among, variable_in, variables_in}
 use Rattle.monitorable.specs.CoreForms.{CoreForm, meaning, True, False, Atom, Compare, Not, And, Or, Exists}
@@ -25,7 +25,7 @@ use Rattle.mfotl_model.specs.declared.term.Term.TheVariants.{Var, Const}
 use Rattle.mfotl_model.specs.declared.value.Value.{Value}
 use Rattle.monitorable.proofs.DomainLemmas.{any_witness, any_in_domains, includes_left, includes_right, value_among}
 use Rattle.monitorable.proofs.DomainLemmas.{event_value, since_witness, until_witness, previous_witness}
-use Rattle.monitorable.proofs.DomainLemmas.{next_witness, value_itself}
+use Rattle.monitorable.proofs.DomainLemmas.{next_witness}
 use Rattle.monitorable.proofs.FragmentLemmas.{no_first, covered, part_of_whole, even_variables, used_variable}
 use Rattle.monitorable.proofs.FragmentLemmas.{right_variable}
 use Rattle.mfotl_model.specs.Domains.{in_domain, Includes}

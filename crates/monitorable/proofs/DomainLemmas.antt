@@ -2,22 +2,22 @@
 use Rattle.std.proofs.Common.{◌≡◌, ℕ, zero, suc, ◌+◌, ◌-◌, Bool, true, false, ◌&&◌, ◌||◌, nat_lt, nat_eq, List, []}
 use Rattle.std.proofs.Common.{◌∷◌, ◌++◌, map, length, refl, sym, ap, ap₂, ◌∙◌, inl, inr, arith}
 use Rattle.std.proofs.lemmas.Bool.{and_parts, or_cases, or_left, or_right, eqb-true, cases_lt}
-use Rattle.std.proofs.lemmas.Cmp.{tied_itself}
 use Rattle.std.proofs.lemmas.List.{get_or_past}
 use Rattle.std.proofs.lemmas.List.Folds.{list_any-append}
 use Rattle.std.proofs.lemmas.List.FromFn.{length-map-range_with_len}
 use Rattle.std.proofs.lemmas.Map.Views.{tells_apart}
 use Rattle.std.specs.List.{list_any, list_all, flat_map, range_with_len}
-use Rattle.std.specs.Ordering.{eq_by_cmp, is_eq}
+use Rattle.std.specs.Ordering.{eq_by_cmp}
+use Rattle.std.specs.Cmp.{both_ways}
 use Rattle.mfotl_model.proofs.LogicLemmas.{any_in, any_flat_map, truth_is}
-use Rattle.mfotl_model.proofs.RowLemmas.{value_exact, event_exact}
+use Rattle.mfotl_model.proofs.RowLemmas.{value_exact, event_exact, value_itself}
 use Rattle.mfotl_model.specs.ActiveDomain.{log_values}
 use Rattle.mfotl_model.specs.Events.{event_cmp}
 use Rattle.mfotl_model.specs.FreeVariables.{among, variable_in}
 use Rattle.mfotl_model.specs.Intervals.{in_interval}
 use Rattle.mfotl_model.specs.Satisfaction.{Valuation, term_value, has_event, database_at, time_at, truth_at, truths}
 use Rattle.mfotl_model.specs.Satisfaction.{since, until, previous, next}
-use Rattle.mfotl_model.specs.Values.{value_cmp, value_total}
+use Rattle.mfotl_model.specs.Values.{value_cmp}
 use Rattle.mfotl_model.specs.declared.event.Event.{Event}
 use Rattle.mfotl_model.specs.declared.event.TimePoint.{TimePoint}
 use Rattle.mfotl_model.specs.declared.interval.Interval.{Interval}
@@ -36,10 +36,6 @@ any_member p q (x ∷ xs) h e =
       | inr there ↦ or_right (q x) (list_any q xs) (any_member p q xs h there)
     ]
 
--- a value is in a list that has it
-pub value_itself : (a : Value) → eq_by_cmp value_cmp a a ≡ true
-value_itself a = ap is_eq (tied_itself value_total a)
-
 pub any_witness : (q : Value → Bool) (dom : List Value) → list_any q dom ≡ true
     → (a : Value) × (q a ≡ true) × (in_domain dom a ≡ true)
 any_witness q [] h = cc
@@ -57,16 +53,11 @@ any_with q a dom h m =
     any_member (eq_by_cmp value_cmp a) q dom
     (λ b e. ap q (sym (tells_apart value_exact a b e)) ∙ h) m
 
-pub same_truth : (x y : Bool) → (x ≡ true → y ≡ true) → (y ≡ true → x ≡ true) → x ≡ y
-same_truth true y h k = sym (h refl)
-same_truth false true h k = k refl
-same_truth false false h k = refl
-
 -- a test that only values of the base pass finds alike in all domains that include the base
 pub any_in_domains : (q : Value → Bool) (a b base : List Value) → ((c : Value) → q c ≡ true → in_domain base c ≡ true)
     → Includes a base → Includes b base → list_any q a ≡ list_any q b
 any_in_domains q a b base h left right =
-    same_truth (list_any q a) (list_any q b) (moved a b right) (moved b a left)
+    both_ways (list_any q a) (list_any q b) (moved a b right) (moved b a left)
   where
     moved : (from to : List Value) → Includes to base → list_any q from ≡ true → list_any q to ≡ true
     moved from to has e =

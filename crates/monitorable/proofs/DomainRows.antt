@@ -1,8 +1,8 @@
 -- The active domain, and the rows over it.
-use Rattle.std.proofs.Common.{◌≡◌, ℕ, Bool, true, false, not, ◌&&◌, ◌||◌, nat_eq, List, [], ◌∷◌, ◌++◌, length, map}
-use Rattle.std.proofs.Common.{refl, sym, ap, ap₂, ◌∙◌, arith}
-use Rattle.std.proofs.lemmas.Bool.{and_parts, and_from, or_left, or_right, cond-true, cond-false, not-true}
-use Rattle.std.proofs.lemmas.Bool.{eqb-true, ne_eqb}
+use Rattle.std.proofs.Common.{◌≡◌, ℕ, Bool, true, false, ◌&&◌, ◌||◌, nat_eq, List, [], ◌∷◌, ◌++◌, length, map}
+use Rattle.std.proofs.Common.{refl, sym, ap, ◌∙◌}
+use Rattle.std.proofs.lemmas.Bool.{and_from, or_left, or_right}
+use Rattle.std.proofs.lemmas.Bool.{eqb-true}
 use Rattle.std.proofs.lemmas.Grind.{flat_map-append}
 use Rattle.std.proofs.lemmas.List.Folds.{list_any-append}
 use Rattle.std.proofs.lemmas.Map.Views.{any-filter_same, tells_apart}
@@ -11,6 +11,7 @@ use Rattle.std.specs.Ordering.{eq_by_cmp}
 use Rattle.mfotl_model.proofs.AscendingLemmas.{any_ascending}
 use Rattle.mfotl_model.proofs.LogicLemmas.{same_number}
 use Rattle.mfotl_model.proofs.RowLemmas.{value_exact, row_exact, member_all_rows}
+use Rattle.mfotl_model.proofs.ColumnLemmas.{row_kept}
 use Rattle.mfotl_model.specs.ActiveDomain.{adom, constants, log_values}
 use Rattle.mfotl_model.specs.FreeVariables.{among}
 use Rattle.mfotl_model.specs.Formulas.{Form}
@@ -52,33 +53,6 @@ grows log more f a h =
     kept true c d e = refl
     kept false true d e = refl
     kept false false d e = e
-
--- a variable that is among the columns is another than one that isn't
-other : (x y : ℕ) (columns : List ℕ) → among y columns ≡ true → among x columns ≡ false → nat_eq y x ≡ false
-other x y columns m out =
-    ne_eqb y x (λ e. absurd (let f : false ≡ true = sym out ∙ ap (λ z. among z columns) (sym e) ∙ m in cc))
-
--- the values of the columns hang on the columns' variables alone
-pub same_columns : (v w : Valuation) (columns : List ℕ) → ((y : ℕ) → among y columns ≡ true → v y ≡ w y)
-    → map v columns ≡ map w columns
-same_columns v w [] same = refl
-same_columns v w (x ∷ columns) same =
-    ap₂ (λ a rest. a ∷ rest) (same x (or_left (nat_eq x x) (among x columns) (same_number x)))
-    (same_columns v w columns (λ y m. same y (or_right (nat_eq y x) (among y columns) m)))
-
--- a row is read back through its columns, which differ
-pub row_kept : (columns : List ℕ) (row : List Value) → all_apart columns ≡ true → length row ≡ length columns
-    → map (valuation columns row) columns ≡ row
-row_kept [] [] apart same = refl
-row_kept [] (a ∷ row) apart same = absurd (omega arith)
-row_kept (x ∷ columns) [] apart same = absurd (omega arith)
-row_kept (x ∷ columns) (a ∷ row) apart same =
-    let parts = and_parts (not (among x columns)) (all_apart columns) apart in
-    let out : among x columns ≡ false = not-true (among x columns) parts.0 in
-    ap₂ (λ b rest. b ∷ rest) (cond-true (nat_eq x x) a (valuation columns row x) (same_number x))
-    (same_columns (valuation (x ∷ columns) (a ∷ row)) (valuation columns row) columns
-    (λ y h. cond-false (nat_eq y x) a (valuation columns row y) (other x y columns h out))
-    ∙ row_kept columns row parts.1 (omega arith))
 
 -- what holds of the value of each column holds of each value
 pub all_read : (p : Value → Bool) (v : Valuation) (columns : List ℕ)

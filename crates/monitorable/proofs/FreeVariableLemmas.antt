@@ -7,7 +7,7 @@ use Rattle.mfotl_model.specs.Formulas.Form.{Forall, Previous, Next, Once, Histor
 use Rattle.mfotl_model.specs.Formulas.Form.{Until}
 use Rattle.mfotl_model.specs.FreeVariables.{fv, variable_in}
 use Rattle.mfotl_model.specs.Tables.{all_apart}
-use Rattle.monitorable.proofs.VariableListLemmas.{distinct_apart, filter_apart, joined_apart}
+use Rattle.mfotl_model.proofs.ColumnLemmas.{filter_apart, joined_apart, distinct_apart}
 
 -- free variables have no repeats
 pub fv_apart : (f : Form) → all_apart (fv f) ≡ true

@@ -6,6 +6,7 @@ use Rattle.std.proofs.lemmas.Bool.{cond-true, cond-false, eq-eqb, ne_eqb, cases_
 use Rattle.std.proofs.lemmas.List.{map-append}
 use Rattle.std.specs.List.{flat_map, range_with_len}
 use Rattle.mfotl_model.proofs.LogicLemmas.{among_without, range_front}
+use Rattle.mfotl_model.proofs.ColumnLemmas.{append_apart}
 use Rattle.mfotl_model.specs.FreeVariables.{fv, among, joined, without, distinct, variable_in, variables_in}
 use Rattle.monitorable.specs.CoreForms.{CoreForm, meaning, True, False, Atom, Compare, Not, And, Or, Exists}
 use Rattle.monitorable.specs.CoreForms.{Previous, Next, Since, Until}
@@ -18,7 +19,7 @@ use Rattle.monitorable.specs.Renaming.{apart_form}
 use Rattle.monitorable.proofs.FreeVariableLemmas.{fv_apart}
 use Rattle.monitorable.proofs.RenamedMeaning.{below_above}
 use Rattle.monitorable.proofs.VariableListLemmas.{Injective, filter_mapped, joined_mapped, distinct_mapped, in_left}
-use Rattle.monitorable.proofs.VariableListLemmas.{in_right, append_apart, range_outside, range_apart}
+use Rattle.monitorable.proofs.VariableListLemmas.{in_right, range_outside, range_apart}
 
 -- different variables have different new numbers, all below n
 pub record Spread (numbers : Numbers) (n : ℕ) (xs : List ℕ) : Type 0 where

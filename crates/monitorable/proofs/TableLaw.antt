@@ -8,8 +8,10 @@ use Rattle.std.specs.BTreeSet.{BTreeSet}
 use Rattle.std.specs.List.{list_all, filter}
 use Rattle.std.specs.List.Sorted.{IsStrictlySortedBy}
 use Rattle.std.specs.Ordering.{eq_by_cmp}
+use Rattle.std.specs.Cmp.{both_ways}
 use Rattle.mfotl_model.proofs.AscendingLemmas.{any_ascending, sorted_ascending}
 use Rattle.mfotl_model.proofs.RowLemmas.{row_exact}
+use Rattle.mfotl_model.proofs.ColumnLemmas.{row_kept}
 use Rattle.mfotl_model.specs.Exact.{Exact}
 use Rattle.mfotl_model.specs.FreeVariables.{fv}
 use Rattle.mfotl_model.specs.Tables.{TableOf, all_sized, has, has_row, valuation}
@@ -18,8 +20,7 @@ use Rattle.mfotl_model.specs.Violations.{all_rows}
 use Rattle.mfotl_model.specs.declared.event.TimePoint.{TimePoint}
 use Rattle.mfotl_model.specs.declared.value.Value.{Value}
 use Rattle.monitorable.proofs.DomainLaw.{domain}
-use Rattle.monitorable.proofs.DomainLemmas.{same_truth}
-use Rattle.monitorable.proofs.DomainRows.{found, has_constants, has_log, row_kept, row_within}
+use Rattle.monitorable.proofs.DomainRows.{found, has_constants, has_log, row_within}
 use Rattle.monitorable.proofs.FreeVariableLemmas.{fv_apart}
 use Rattle.monitorable.specs.CoreForms.{CoreForm, meaning}
 use Rattle.mfotl_model.specs.Domains.{in_domain}
@@ -28,7 +29,7 @@ use Rattle.monitorable.specs.Laws.{TablesSatisfy, whole_view}
 use Rattle.monitorable.specs.SatisfyingRows.{core_domain, satisfies, satisfying_rows}
 
 -- among rows of one size is no row of another
-sized_row : (n : ℕ) (rows : List (List Value)) (row : List Value) → all_sized n rows ≡ true
+pub sized_row : (n : ℕ) (rows : List (List Value)) (row : List Value) → all_sized n rows ≡ true
     → has_row rows row ≡ true → nat_eq (length row) n ≡ true
 sized_row n [] row sized h = cc
 sized_row n (first ∷ rows) row sized h =
@@ -99,7 +100,7 @@ module _ (log : List TimePoint) (names : Names) (g : CoreForm) (i : ℕ) (table 
       let right : BTreeSet (List Value) = record { keys = satisfying_rows log g i } in
       btree_set_from_contains row_total left right sorted
       (sorted_ascending row_total row_exact (filter (satisfies log g i) (all_rows (length vars) (core_domain log g))))
-      (λ row. same_truth (has_row table.rows row) (has_row (satisfying_rows log g i) row) (forth row) (back row))
+      (λ row. both_ways (has_row table.rows row) (has_row (satisfying_rows log g i) row) (forth row) (back row))
       row_exact
 
 pub tables_satisfy : TablesSatisfy

@@ -1,11 +1,13 @@
 -- Temporal operators on lists of truth values that agree where it matters.
-use Rattle.std.proofs.Common.{◌≡◌, ℕ, zero, suc, ◌+◌, ◌-◌, ◌<◌, ◌≤◌, Bool, true, false, ◌&&◌, ◌||◌, nat_lt, nat_le}
+use Rattle.std.proofs.Common.{◌≡◌, ℕ, zero, suc, ◌+◌, ◌-◌, ◌<◌, ◌≤◌, Bool, true, false, ◌&&◌, ◌||◌, nat_lt}
 use Rattle.std.proofs.Common.{List, length, Option, Some, None, refl, sym, ap, ap₂, ◌∙◌, inl, inr, arith}
-use Rattle.std.proofs.lemmas.Bool.{and_parts, and_right, and_left, or_from, ltb-true, le-ltb, lt-leb, cases_lt}
+use Rattle.std.proofs.lemmas.Bool.{and_parts, and_left, or_from, ltb-true, le-ltb, cases_lt}
 use Rattle.std.proofs.lemmas.List.Folds.{list_any-append}
+use Rattle.std.proofs.Math.Bool.{or-false}
 use Rattle.std.specs.List.{list_any, list_all, range_with_len}
 use Rattle.mfotl_model.proofs.LogicLemmas.{all_in, any_in, any_same, all_same, range_front}
-use Rattle.mfotl_model.specs.Intervals.{at_most, in_interval}
+use Rattle.mfotl_model.proofs.TimeLemmas.{too_far}
+use Rattle.mfotl_model.specs.Intervals.{in_interval}
 use Rattle.mfotl_model.specs.Satisfaction.{time_at, truth_at, since, until}
 use Rattle.mfotl_model.specs.Settled.{until_settled}
 use Rattle.mfotl_model.specs.declared.interval.Interval.{Interval}
@@ -43,11 +45,6 @@ since_same I t u a b c d i same =
     (all_same (truth_at a) (truth_at c) (j + 1) (i - j) (λ k least most.
     (let r : Same t u a b c d k = same k (omega arith) in r.first))))
 
--- past the greatest distance an interval has nothing
-pub beyond : (I : Interval) (hi d : ℕ) → I.hi ≡ Some hi → hi < d → in_interval I d ≡ false
-beyond I hi d e l =
-    and_right (nat_le I.lo d) (at_most I.hi d) (ap (λ h. at_most h d) e ∙ lt-leb d hi l)
-
 module _ (I : Interval) (t : List ℕ) (a b : List Bool) (i : ℕ) where
   -- the position j meets UNTIL's line at i
   abbrev meets : ℕ → Bool
@@ -59,7 +56,7 @@ module _ (I : Interval) (t : List ℕ) (a b : List Bool) (i : ℕ) where
       and_left (in_interval I (time_at t j - time_at t i) && truth_at b j)
       (list_all (truth_at a) (range_with_len i (j - i)))
       (and_left (in_interval I (time_at t j - time_at t i)) (truth_at b j)
-      (beyond I hi (time_at t j - time_at t i) e (omega arith)))
+      (too_far I hi (time_at t j - time_at t i) e (omega arith)))
 
 module _ (I : Interval) (t u : List ℕ) (a b c d : List Bool) (i hi : ℕ) (e : I.hi ≡ Some hi)
     (more : length t ≤ length u)
@@ -114,15 +111,11 @@ module _ (I : Interval) (t u : List ℕ) (a b c d : List Bool) (i hi : ℕ) (e :
   unfolding until
   until_same_from k high far =
       any_same (meets I t a b i) (meets I u c d i) i (length t - i) (λ j low most. meets_same j low (omega arith))
-      ∙ or_nothing (list_any (meets I u c d i) (range_with_len i (length t - i)))
+      ∙ sym (or-false (list_any (meets I u c d i) (range_with_len i (length t - i))))
       ∙ ap (λ r. list_any (meets I u c d i) (range_with_len i (length t - i)) || r)
       (sym (any_none (meets I u c d i) (length t) (length u - length t)
       (λ j low most. meets_none k j high far low (omega arith))))
       ∙ sym (split_at (length t) (length u) (omega arith) more)
-    where
-      or_nothing : (r : Bool) → r ≡ (r || false)
-      or_nothing true = refl
-      or_nothing false = refl
 
 -- UNTIL where it is settled: the operands agree wherever they are ready
 pub until_same : (I : Interval) (h : Option ℕ) (t u : List ℕ) (a b c d : List Bool) (ready : ℕ → Bool) (i : ℕ)

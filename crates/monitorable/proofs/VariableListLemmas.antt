@@ -1,11 +1,9 @@
 -- Lists of variables under a change of numbers, and lists without repeats.
 use Rattle.std.proofs.Common.{◌≡◌, ℕ, zero, suc, ◌+◌, ◌<◌, Bool, true, false, not, ◌&&◌, ◌||◌, cond, nat_eq, List}
 use Rattle.std.proofs.Common.{[], ◌∷◌, ◌++◌, map, refl, sym, ap, ap₂, ◌∙◌, inl, inr, arith}
-use Rattle.std.proofs.lemmas.Bool.{or_left, or_right, and_parts, and_from, eqb-true, eq-eqb, ne_eqb, cases_eq}
-use Rattle.std.proofs.lemmas.Bool.{not-true, cond-true, cond-false}
+use Rattle.std.proofs.lemmas.Bool.{or_left, or_right, and_from, eq-eqb, ne_eqb, cases_eq}
+use Rattle.std.proofs.lemmas.Bool.{cond-true, cond-false}
 use Rattle.std.proofs.lemmas.List.{map-append}
-use Rattle.std.proofs.lemmas.List.Folds.{list_any-append}
-use Rattle.std.proofs.lemmas.Map.Views.{any-filter_same}
 use Rattle.std.specs.List.{filter, range_with_len}
 use Rattle.mfotl_model.proofs.LogicLemmas.{among_joined, same_number}
 use Rattle.mfotl_model.specs.FreeVariables.{among, joined, distinct}
@@ -79,41 +77,6 @@ distinct_mapped p (x ∷ xs) inj =
     ∙ joined_mapped p (x ∷ []) (distinct xs) inj
 
 -- lists without repeats
-filter_apart_at : (s : ℕ → Bool) (x : ℕ) (xs : List ℕ) (b : Bool) → s x ≡ b → among x xs ≡ false
-    → all_apart (filter s xs) ≡ true
-    → all_apart (cond (s x) (x ∷ filter s xs) (filter s xs)) ≡ true
-filter_apart_at s x xs true e out rest =
-    ap all_apart (cond-true (s x) (x ∷ filter s xs) (filter s xs) e)
-    ∙ and_from (not (among x (filter s xs))) (all_apart (filter s xs))
-    (ap not (any-filter_same (nat_eq x) s true (λ z m. ap s (sym (eqb-true x z m)) ∙ e) xs ∙ out)) rest
-filter_apart_at s x xs false e out rest = ap all_apart (cond-false (s x) (x ∷ filter s xs) (filter s xs) e) ∙ rest
-
-pub filter_apart : (s : ℕ → Bool) (xs : List ℕ) → all_apart xs ≡ true → all_apart (filter s xs) ≡ true
-filter_apart s [] h = refl
-filter_apart s (x ∷ xs) h =
-    filter_apart_at s x xs (s x) refl (not-true (among x xs) (and_parts (not (among x xs)) (all_apart xs) h).0)
-    (filter_apart s xs (and_parts (not (among x xs)) (all_apart xs) h).1)
-
-pub append_apart : (xs ys : List ℕ) → all_apart xs ≡ true → all_apart ys ≡ true
-    → ((y : ℕ) → among y xs ≡ true → among y ys ≡ false) → all_apart (xs ++ ys) ≡ true
-append_apart [] ys h k out = k
-append_apart (x ∷ xs) ys h k out =
-    let parts = and_parts (not (among x xs)) (all_apart xs) h in
-    and_from (not (among x (xs ++ ys))) (all_apart (xs ++ ys))
-    (ap not (list_any-append (nat_eq x) xs ys
-    ∙ ap₂ (λ b c. b || c) (not-true (among x xs) parts.0)
-    (out x (or_left (nat_eq x x) (among x xs) (same_number x)))))
-    (append_apart xs ys parts.1 k (λ y m. out y (or_right (nat_eq y x) (among y xs) m)))
-
-pub joined_apart : (xs ys : List ℕ) → all_apart xs ≡ true → all_apart ys ≡ true → all_apart (joined xs ys) ≡ true
-joined_apart xs ys h k =
-    append_apart xs (filter (λ z. not (among z xs)) ys) h (filter_apart (λ z. not (among z xs)) ys k)
-    (λ y m. any-filter_same (nat_eq y) (λ z. not (among z xs)) false
-    (λ z e. ap (λ w. not (among w xs)) (sym (eqb-true y z e)) ∙ ap not m) ys)
-
-pub distinct_apart : (xs : List ℕ) → all_apart (distinct xs) ≡ true
-distinct_apart [] = refl
-distinct_apart (x ∷ xs) = joined_apart (x ∷ []) (distinct xs) refl (distinct_apart xs)
 
 -- numbers below a range are none of it
 pub range_outside : (y n k : ℕ) → y < n → among y (range_with_len n k) ≡ false

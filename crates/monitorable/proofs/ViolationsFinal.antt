@@ -31,10 +31,10 @@ use Rattle.mfotl_model.specs.Times.{NeverFalls}
 negation_constants : (log : List TimePoint) (f : Form) → Includes (adom log f) (constants (meaning (negative f)))
 negation_constants log f a h = has_constants log f a (sym (normal_form_constants f a).1 ∙ h)
 
-itself : (dom : List Value) → Includes dom dom
+pub itself : (dom : List Value) → Includes dom dom
 itself dom a h = h
 
-agreeing : (s t len l m : Bool) → s ≡ t → (s ≡ true → len ≡ true → (l ≡ true) × (m ≡ true))
+pub agreeing : (s t len l m : Bool) → s ≡ t → (s ≡ true → len ≡ true → (l ≡ true) × (m ≡ true))
     → (s && (len && l)) ≡ (t && (len && m))
 agreeing true t true l m e h = (h refl refl).0 ∙ ap₂ (λ x y. x && y) e (sym (h refl refl).1)
 agreeing true t false l m e h = ap (λ x. x && false) e

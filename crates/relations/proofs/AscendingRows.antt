@@ -1,5 +1,6 @@
 -- Rows put into ascending order: their number of values, their members, and when a list is the one in order.
-use Rattle.std.proofs.Common.{◌≡◌, ℕ, Bool, true, false, ◌&&◌, nat_eq, List, [], ◌∷◌, length, refl, sym, subst, ap, ◌∙◌}
+use Rattle.std.proofs.Common.{◌≡◌, ℕ, Bool, true, ◌&&◌, nat_eq, List, [], ◌∷◌, length, refl, sym, subst, ap, ◌∙◌}
+use Rattle.std.proofs.Math.Bool.{and_self_left}
 use Rattle.std.specs.BTreeSet.{insert_key}
 use Rattle.std.specs.List.{list_all}
 use Rattle.std.specs.List.Sorted.{IsStrictlySortedBy}
@@ -8,20 +9,12 @@ use Rattle.std.specs.declared.cmp.Ordering.{Ordering}
 use Rattle.std.specs.declared.cmp.Ordering.TheVariants.{Less, Equal, Greater}
 use Rattle.mfotl_model.proofs.AscendingLemmas.{any_ascending, sorted_ascending}
 use Rattle.mfotl_model.proofs.RowLemmas.{row_exact}
+use Rattle.mfotl_model.proofs.LogicLemmas.{and_moved}
 use Rattle.mfotl_model.specs.Ascending.{ascending}
 use Rattle.mfotl_model.specs.Values.{row_cmp, row_total}
 use Rattle.mfotl_model.specs.declared.value.Value.{Value}
 use Rattle.mfotl_model.specs.Tables.{all_apart, all_sized, has_row}
 use Rattle.relations.specs.Tables.{IsTable}
-
-and_swapped : (a b c : Bool) → (b && (a && c)) ≡ (a && (b && c))
-and_swapped true b c = refl
-and_swapped false true c = refl
-and_swapped false false c = refl
-
-and_doubled : (a c : Bool) → (a && c) ≡ (a && (a && c))
-and_doubled true c = refl
-and_doubled false c = refl
 
 pub has_ascending : (xs : List (List Value)) (q : List Value) → has_row (ascending row_cmp xs) q ≡ has_row xs q
 has_ascending xs q = any_ascending row_total row_exact (eq_by_cmp row_cmp q) xs
@@ -38,9 +31,9 @@ all_insert p (x ∷ xs) k = by (all_insert p xs k) (row_cmp k x) refl
         → list_all p (match_ordering order (k ∷ x ∷ xs) (x ∷ xs) (x ∷ insert_key row_cmp xs k))
         ≡ (p k && (p x && list_all p xs))
     by more Less e = refl
-    by more Equal e = and_doubled (p x) (list_all p xs)
+    by more Equal e = sym (and_self_left (p x) (list_all p xs))
         ∙ ap (λ y. p y && (p x && list_all p xs)) (sym (row_exact k x e))
-    by more Greater e = ap (λ b. p x && b) more ∙ and_swapped (p k) (p x) (list_all p xs)
+    by more Greater e = ap (λ b. p x && b) more ∙ and_moved (p x) (p k) (list_all p xs)
 
 pub all_ascending : (p : List Value → Bool) (xs : List (List Value))
     → list_all p (ascending row_cmp xs) ≡ list_all p xs

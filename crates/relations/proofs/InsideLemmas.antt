@@ -1,14 +1,17 @@
 -- The join with a table that has no columns of its own is the rows of the first of which the second has a part.
-use Rattle.std.proofs.Common.{◌≡◌, ℕ, Bool, true, false, not, ◌&&◌, ◌||◌, nat_eq, List, [], ◌∷◌, ◌++◌, map}
+use Rattle.std.proofs.Common.{◌≡◌, ℕ, Bool, true, not, ◌&&◌, ◌||◌, nat_eq, List, [], ◌∷◌, ◌++◌, map}
 use Rattle.std.proofs.Common.{length, refl, sym, ap, ap₂, ◌∙◌}
 use Rattle.std.proofs.lemmas.Bool.{and_parts, cond-true, cond-false, eqb-true}
 use Rattle.std.proofs.lemmas.List.{append-nil}
 use Rattle.std.proofs.lemmas.List.Kept.{IsStrictlySortedBy-filter}
 use Rattle.std.proofs.lemmas.Map.Lookups.{btree_set_from_contains}
+use Rattle.std.proofs.Math.Bool.{and-or_distrib_right}
 use Rattle.std.specs.BTreeSet.{BTreeSet}
 use Rattle.std.specs.List.{list_any, list_all, filter}
 use Rattle.std.specs.Ordering.{eq_by_cmp}
 use Rattle.mfotl_model.proofs.RowLemmas.{row_exact}
+use Rattle.mfotl_model.proofs.ColumnLemmas.{row_kept}
+use Rattle.mfotl_model.proofs.LogicLemmas.{any_filter}
 use Rattle.mfotl_model.specs.FreeVariables.{among, joined}
 use Rattle.mfotl_model.specs.Tables.{TableOf, all_among, all_apart, all_sized, has_row, part, valuation}
 use Rattle.mfotl_model.specs.Values.{row_cmp, row_total}
@@ -16,9 +19,7 @@ use Rattle.mfotl_model.specs.declared.value.Value.{Value}
 use Rattle.relations.specs.Operations.{agree, combined, joined_rows, pairs}
 use Rattle.relations.specs.Tables.{IsTable}
 use Rattle.relations.proofs.AscendingRows.{has_ascending, rows_ascend}
-use Rattle.relations.proofs.JoinLemmas.{row_kept}
 use Rattle.relations.proofs.PairLemmas.{agree_is, all_has, makes}
-use Rattle.relations.proofs.RowLists.{any_filter}
 
 all_kept : (p : ℕ → Bool) (ys : List ℕ) → list_all p ys ≡ true → filter p ys ≡ ys
 all_kept p [] all = refl
@@ -33,8 +34,8 @@ none_kept p (y ∷ ys) all =
     cond-false (not (p y)) (y ∷ filter (λ z. not (p z)) ys) (filter (λ z. not (p z)) ys) (ap not parts.0)
     ∙ none_kept p ys parts.1
 
-pub joined_inside : (ca cb : List ℕ) → all_among cb ca ≡ true → joined ca cb ≡ ca
-joined_inside ca cb inside = ap (λ k. ca ++ k) (none_kept (λ y. among y ca) cb inside) ∙ append-nil ca
+pub joined_within : (ca cb : List ℕ) → all_among cb ca ≡ true → joined ca cb ≡ ca
+joined_within ca cb inside = ap (λ k. ca ++ k) (none_kept (λ y. among y ca) cb inside) ∙ append-nil ca
 
 module _ (ca cb : List ℕ) (q ra : List Value) (apart : all_apart cb ≡ true) (inside : all_among cb ca ≡ true) where
   agrees : (rb : List Value) → length rb ≡ length cb → agree ca cb ra rb ≡ eq_by_cmp row_cmp (part ca cb ra) rb
@@ -58,14 +59,8 @@ module _ (ca cb : List ℕ) (q ra : List Value) (apart : all_apart cb ≡ true) 
       ap₂ (λ a b. a || b)
       (ap₂ (λ a r. a && eq_by_cmp row_cmp q r) (agrees rb (eqb-true (length rb) (length cb) parts.0)) (alone rb))
       (any_makes bs parts.1)
-      ∙ either (eq_by_cmp row_cmp (part ca cb ra) rb) (has_row bs (part ca cb ra)) (eq_by_cmp row_cmp q ra)
-    where
-      either : (a b c : Bool) → ((a && c) || (b && c)) ≡ ((a || b) && c)
-      either true true true = refl
-      either true true false = refl
-      either true false true = refl
-      either true false false = refl
-      either false b c = refl
+      ∙ sym (and-or_distrib_right (eq_by_cmp row_cmp (part ca cb ra) rb) (has_row bs (part ca cb ra))
+      (eq_by_cmp row_cmp q ra))
 
 has_matched : (ca cb : List ℕ) (q : List Value) (rows bs : List (List Value)) → all_apart cb ≡ true
     → all_sized (length cb) bs ≡ true → all_among cb ca ≡ true

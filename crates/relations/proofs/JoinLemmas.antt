@@ -1,65 +1,25 @@
 -- The join of two tables by all pairs of rows, spoken of by valuations.
-use Rattle.std.proofs.Common.{◌≡◌, ℕ, suc, Bool, true, false, not, ◌&&◌, ◌||◌, cond, nat_eq, List, [], ◌∷◌, ◌++◌}
+use Rattle.std.proofs.Common.{◌≡◌, ℕ, Bool, true, false, not, ◌&&◌, ◌||◌, cond, nat_eq, List, [], ◌∷◌, ◌++◌}
 use Rattle.std.proofs.Common.{length, map, refl, sym, ap, ap₂, ◌∙◌, inl, inr, arith}
-use Rattle.std.proofs.lemmas.Bool.{and_parts, and_from, or_cases, or_left, or_right, cond-true, cond-false}
-use Rattle.std.proofs.lemmas.Bool.{not-true, eqb-true, ne_eqb}
+use Rattle.std.proofs.lemmas.Bool.{and_parts, and_from, or_cases, or_left, or_right}
+use Rattle.std.proofs.lemmas.Bool.{eqb-true}
 use Rattle.std.proofs.lemmas.Cmp.{tied_itself}
-use Rattle.std.proofs.lemmas.List.{map-append}
+use Rattle.std.proofs.lemmas.List.{map-append, length-map}
 use Rattle.std.proofs.lemmas.List.Folds.{list_any-append}
 use Rattle.std.proofs.lemmas.Map.Views.{any-filter_same, tells_apart}
+use Rattle.std.proofs.Math.Bool.{and-false, and-or_distrib_left, and-or_distrib_right}
 use Rattle.std.specs.List.{list_any, list_all, filter}
 use Rattle.std.specs.Ordering.{eq_by_cmp, is_eq}
-use Rattle.mfotl_model.proofs.LogicLemmas.{any_map, same_number}
-use Rattle.mfotl_model.proofs.RowLemmas.{row_exact, value_exact}
+use Rattle.std.specs.Cmp.{both_ways}
+use Rattle.mfotl_model.proofs.LogicLemmas.{any_map, same_number, any_filter}
+use Rattle.mfotl_model.proofs.RowLemmas.{row_exact, value_exact, value_itself}
+use Rattle.mfotl_model.proofs.ColumnLemmas.{same_columns, row_kept, read_own}
 use Rattle.mfotl_model.specs.FreeVariables.{among, joined}
 use Rattle.mfotl_model.specs.Satisfaction.{Valuation}
-use Rattle.mfotl_model.specs.Values.{row_cmp, row_total, value_cmp, value_total}
+use Rattle.mfotl_model.specs.Values.{row_cmp, row_total, value_cmp}
 use Rattle.mfotl_model.specs.declared.value.Value.{Value}
 use Rattle.mfotl_model.specs.Tables.{all_apart, all_sized, part, valuation}
-use Rattle.relations.proofs.RowLists.{any_filter}
 use Rattle.relations.specs.Operations.{agree, combined, others, pairs, pairs_of}
-
-pub same_truth : (x y : Bool) → (x ≡ true → y ≡ true) → (y ≡ true → x ≡ true) → x ≡ y
-same_truth true y h k = sym (h refl)
-same_truth false true h k = k refl
-same_truth false false h k = refl
-
-pub map_same_on : (v w : Valuation) (columns : List ℕ) → ((y : ℕ) → among y columns ≡ true → v y ≡ w y)
-    → map v columns ≡ map w columns
-map_same_on v w [] same = refl
-map_same_on v w (x ∷ columns) same =
-    ap₂ (λ a rest. a ∷ rest) (same x (or_left (nat_eq x x) (among x columns) (same_number x)))
-    (map_same_on v w columns (λ y m. same y (or_right (nat_eq y x) (among y columns) m)))
-
-other : (x y : ℕ) (columns : List ℕ) → among y columns ≡ true → among x columns ≡ false → nat_eq y x ≡ false
-other x y columns m out = ne_eqb y x (λ e. absurd (let f : false ≡ true = sym out
-    ∙ ap (λ z. among z columns) (sym e) ∙ m in cc))
-
--- a row is read back through its columns
-pub row_kept : (columns : List ℕ) (row : List Value) → all_apart columns ≡ true → length row ≡ length columns
-    → map (valuation columns row) columns ≡ row
-row_kept [] [] apart same = refl
-row_kept [] (a ∷ row) apart same = absurd (omega arith)
-row_kept (x ∷ columns) [] apart same = absurd (omega arith)
-row_kept (x ∷ columns) (a ∷ row) apart same =
-    let parts = and_parts (not (among x columns)) (all_apart columns) apart in
-    let out : among x columns ≡ false = not-true (among x columns) parts.0 in
-    ap₂ (λ b rest. b ∷ rest) (cond-true (nat_eq x x) a (valuation columns row x) (same_number x))
-    (map_same_on (valuation (x ∷ columns) (a ∷ row)) (valuation columns row) columns
-    (λ y h. cond-false (nat_eq y x) a (valuation columns row y) (other x y columns h out))
-    ∙ row_kept columns row parts.1 (omega arith))
-
-pub read_own : (v : Valuation) (columns : List ℕ) (y : ℕ) → among y columns ≡ true
-    → valuation columns (map v columns) y ≡ v y
-read_own v [] y m = cc
-read_own v (x ∷ columns) y m = by (nat_eq y x) refl (read_own v columns y)
-  where
-    by : (b : Bool) → nat_eq y x ≡ b → (among y columns ≡ true → valuation columns (map v columns) y ≡ v y)
-        → valuation (x ∷ columns) (map v (x ∷ columns)) y ≡ v y
-    by true e rest = cond-true (nat_eq y x) (v x) (valuation columns (map v columns) y) e ∙ ap v (sym (eqb-true y x e))
-    by false e rest =
-        cond-false (nat_eq y x) (v x) (valuation columns (map v columns) y) e
-        ∙ rest (sym (ap (λ b. b || among y columns) e) ∙ m)
 
 pub all_members : (p : ℕ → Bool) (ys : List ℕ) → ((y : ℕ) → among y ys ≡ true → p y ≡ true) → list_all p ys ≡ true
 all_members p [] h = refl
@@ -92,13 +52,6 @@ front_same (x ∷ xs) (y ∷ ys) us ws size e =
     let more = front_same xs ys us ws (omega arith) (let t : xs ++ us ≡ ys ++ ws = cc in t) in
     ((let h : x ≡ y = cc in ap₂ (λ a r. a ∷ r) h more.0), more.1)
 
-pub length_map : (v : Valuation) (ys : List ℕ) → length (map v ys) ≡ length ys
-length_map v [] = refl
-length_map v (y ∷ ys) = ap suc (length_map v ys)
-
-pub value_itself : (a : Value) → eq_by_cmp value_cmp a a ≡ true
-value_itself a = ap is_eq (tied_itself value_total a)
-
 pub row_itself : (r : List Value) → eq_by_cmp row_cmp r r ≡ true
 row_itself r = ap is_eq (tied_itself row_total r)
 
@@ -129,19 +82,19 @@ module _ (v : Valuation) (ca cb : List ℕ) (apart : all_apart cb ≡ true) wher
   unfolding agree combined pairs pairs_of part
   pair_is ra rb size_a size_b =
       let split : map v (joined ca cb) ≡ map v ca ++ map v (others ca cb) = map-append v ca (others ca cb) in
-      same_truth (agree ca cb ra rb && eq_by_cmp row_cmp (map v (joined ca cb)) (combined ca cb ra rb))
+      both_ways (agree ca cb ra rb && eq_by_cmp row_cmp (map v (joined ca cb)) (combined ca cb ra rb))
       (eq_by_cmp row_cmp (map v ca) ra && eq_by_cmp row_cmp (map v cb) rb)
       (λ h.
       let parts = and_parts (agree ca cb ra rb) (eq_by_cmp row_cmp (map v (joined ca cb)) (combined ca cb ra rb)) h in
       let whole : map v ca ++ map v (others ca cb) ≡ ra ++ map (valuation cb rb) (others ca cb) =
       sym split ∙ tells_apart row_exact (map v (joined ca cb)) (combined ca cb ra rb) parts.1 in
       let two = front_same (map v ca) ra (map v (others ca cb)) (map (valuation cb rb) (others ca cb))
-      (length_map v ca ∙ sym size_a) whole in
+      (length-map ca v ∙ sym size_a) whole in
       let each : (y : ℕ) → among y cb ≡ true → v y ≡ valuation cb rb y = λ y m.
       one y m (among y ca) refl
       (member_of_all (λ z. not (among z ca) || eq_by_cmp value_cmp (valuation ca ra z) (valuation cb rb z)) cb y
       parts.0 m) two.0 two.1 in
-      let second : map v cb ≡ rb = map_same_on v (valuation cb rb) cb each ∙ row_kept cb rb apart size_b in
+      let second : map v cb ≡ rb = same_columns v (valuation cb rb) cb each ∙ row_kept cb rb apart size_b in
       and_from (eq_by_cmp row_cmp (map v ca) ra) (eq_by_cmp row_cmp (map v cb) rb)
       (ap (eq_by_cmp row_cmp (map v ca)) (sym two.0) ∙ row_itself (map v ca))
       (ap (eq_by_cmp row_cmp (map v cb)) (sym second) ∙ row_itself (map v cb)))
@@ -155,7 +108,7 @@ module _ (v : Valuation) (ca cb : List ℕ) (apart : all_apart cb ≡ true) wher
       (all_members (λ z. not (among z ca) || eq_by_cmp value_cmp (valuation ca ra z) (valuation cb rb z)) cb
       (λ y m. both y (among y ca) refl (read y m) first))
       (let same : combined ca cb ra rb ≡ map v (joined ca cb) =
-      ap₂ (λ x y. x ++ y) (sym first) (map_same_on (valuation cb rb) v (others ca cb)
+      ap₂ (λ x y. x ++ y) (sym first) (same_columns (valuation cb rb) v (others ca cb)
       (λ y m. read y (inside y m))) ∙ sym split in
       ap (eq_by_cmp row_cmp (map v (joined ca cb))) same ∙ row_itself (map v (joined ca cb))))
     where
@@ -184,20 +137,12 @@ module _ (v : Valuation) (ca cb : List ℕ) (apart : all_apart cb ≡ true) wher
       → list_any (λ rb. agree ca cb ra rb && eq_by_cmp row_cmp (map v (joined ca cb)) (combined ca cb ra rb)) bs
       ≡ (eq_by_cmp row_cmp (map v ca) ra && list_any (eq_by_cmp row_cmp (map v cb)) bs)
   unfolding agree combined pairs pairs_of part
-  one_row ra [] size all = none (eq_by_cmp row_cmp (map v ca) ra)
-    where
-      none : (b : Bool) → false ≡ (b && false)
-      none true = refl
-      none false = refl
+  one_row ra [] size all = sym (and-false (eq_by_cmp row_cmp (map v ca) ra))
   one_row ra (rb ∷ bs) size all =
       let parts = and_parts (nat_eq (length rb) (length cb)) (all_sized (length cb) bs) all in
       ap₂ (λ x y. x || y) (pair_is ra rb size (eqb-true (length rb) (length cb) parts.0)) (one_row ra bs size parts.1)
-      ∙ times (eq_by_cmp row_cmp (map v ca) ra) (eq_by_cmp row_cmp (map v cb) rb)
-      (list_any (eq_by_cmp row_cmp (map v cb)) bs)
-    where
-      times : (a b c : Bool) → ((a && b) || (a && c)) ≡ (a && (b || c))
-      times true b c = refl
-      times false b c = refl
+      ∙ sym (and-or_distrib_left (eq_by_cmp row_cmp (map v ca) ra) (eq_by_cmp row_cmp (map v cb) rb)
+      (list_any (eq_by_cmp row_cmp (map v cb)) bs))
 
   -- the join has v's row exactly where both tables have theirs
   pub join_has : (as_ bs : List (List Value)) → all_sized (length ca) as_ ≡ true → all_sized (length cb) bs ≡ true
@@ -214,12 +159,5 @@ module _ (v : Valuation) (ca cb : List ℕ) (apart : all_apart cb ≡ true) wher
       ∙ any_filter (λ rb. eq_by_cmp row_cmp (map v (joined ca cb)) (combined ca cb ra rb)) (agree ca cb ra) bs
       ∙ one_row ra bs (eqb-true (length ra) (length ca) parts.0) second)
       (join_has as_ bs parts.1 second)
-      ∙ spread (eq_by_cmp row_cmp (map v ca) ra) (list_any (eq_by_cmp row_cmp (map v ca)) as_)
-      (list_any (eq_by_cmp row_cmp (map v cb)) bs)
-    where
-      spread : (a b c : Bool) → ((a && c) || (b && c)) ≡ ((a || b) && c)
-      spread true true true = refl
-      spread true true false = refl
-      spread true false true = refl
-      spread true false false = refl
-      spread false b c = refl
+      ∙ sym (and-or_distrib_right (eq_by_cmp row_cmp (map v ca) ra) (list_any (eq_by_cmp row_cmp (map v ca)) as_)
+      (list_any (eq_by_cmp row_cmp (map v cb)) bs))

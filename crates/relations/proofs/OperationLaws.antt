@@ -3,7 +3,7 @@ use Rattle.std.proofs.Common.{subst, ◌≡◌, ◌↔◌, ℕ, ◌+◌, Bool, t
 use Rattle.std.proofs.Common.{◌∷◌, ◌++◌, length, map, Result, Ok, Err, OnOk, OnErr, refl, sym, ap, ap₂, ◌∙◌, inl}
 use Rattle.std.proofs.Common.{inr}
 use Rattle.std.proofs.lemmas.Bool.{and_parts, and_from, or_cases, or_left, or_right, eqb-true, eq-eqb}
-use Rattle.std.proofs.lemmas.List.{length-append}
+use Rattle.std.proofs.lemmas.List.{length-append, length-map}
 use Rattle.std.proofs.lemmas.List.Folds.{list_any-append, list_all-append}
 use Rattle.std.proofs.lemmas.List.Kept.{IsStrictlySortedBy-filter}
 use Rattle.std.proofs.lemmas.Map.Lookups.{btree_set_from_contains}
@@ -12,10 +12,11 @@ use Rattle.std.specs.BTreeSet.{BTreeSet, insert_key}
 use Rattle.std.specs.List.{list_any, filter}
 use Rattle.std.specs.List.Sorted.{IsStrictlySortedBy}
 use Rattle.std.specs.Ordering.{eq_by_cmp}
-use Rattle.std.proofs.Math.Bool.{beq}
+use Rattle.std.proofs.Math.Bool.{beq, and_comm}
 use Rattle.mfotl_model.proofs.AscendingLemmas.{any_insert, sorted_insert}
 use Rattle.mfotl_model.proofs.LogicLemmas.{any_map}
-use Rattle.mfotl_model.proofs.RowLemmas.{row_exact, and_turned}
+use Rattle.mfotl_model.proofs.RowLemmas.{row_exact}
+use Rattle.mfotl_model.proofs.ColumnLemmas.{same_columns, row_kept, read_own}
 use Rattle.mfotl_model.specs.Ascending.{ascending}
 use Rattle.mfotl_model.specs.FreeVariables.{among, joined}
 use Rattle.mfotl_model.specs.Satisfaction.{Valuation, compares, term_value}
@@ -29,14 +30,13 @@ use Rattle.relations.specs.Operations.{agree, covers_term, chosen, chosen_rows, 
 use Rattle.relations.specs.Operations.{pairs_of, unmatched_rows}
 use Rattle.relations.specs.Tables.{IsTable}
 use Rattle.relations.proofs.AscendingRows.{has_ascending, sized_ascending, sized_inserted}
-use Rattle.relations.proofs.JoinLemmas.{join_has, read_own, member_of_all, map_same_on, same_each, row_itself}
-use Rattle.relations.proofs.JoinLemmas.{row_kept, length_map}
+use Rattle.relations.proofs.JoinLemmas.{join_has, member_of_all, same_each, row_itself}
 
 -- rows of as many values as columns
 
 part_size : (columns wanted : List ℕ) (row : List Value) → length (part columns wanted row) ≡ length wanted
 unfolding part
-part_size columns wanted row = length_map (valuation columns row) wanted
+part_size columns wanted row = length-map wanted (valuation columns row)
 
 sized_combined : (ca cb : List ℕ) (ra : List Value) → length ra ≡ length ca → (zs : List (List Value))
     → all_sized (length (joined ca cb)) (map (combined ca cb ra) zs) ≡ true
@@ -102,14 +102,14 @@ pub filtered_has : (q : List Value) (p : List Value → Bool) (rows : List (List
     → has_row (filter p rows) q ≡ (has_row rows q && p q)
 filtered_has q p rows =
     any-filter_same (eq_by_cmp row_cmp q) p (p q) (λ z e. ap p (sym (tells_apart row_exact q z e))) rows
-    ∙ and_turned (p q) (has_row rows q)
+    ∙ and_comm (p q) (has_row rows q)
 
 -- the part of the row that a valuation gives is the row that it gives
 pub part_of_own : (v : Valuation) (columns wanted : List ℕ) → all_among wanted columns ≡ true
     → part columns wanted (map v columns) ≡ map v wanted
 unfolding part
 part_of_own v columns wanted all =
-    map_same_on (valuation columns (map v columns)) v wanted
+    same_columns (valuation columns (map v columns)) v wanted
     (λ y m. read_own v columns y (member_of_all (λ z. among z columns) wanted y all m))
 
 pub has_antijoin : (v : Valuation) (ca cb : List ℕ) (as_ bs : List (List Value)) → all_among cb ca ≡ true
@@ -199,7 +199,7 @@ module _ (v : Valuation) (columns wanted : List ℕ) (rows : List (List Value)) 
   back w same there =
       any_map (eq_by_cmp row_cmp (map v wanted)) (part columns wanted) rows
       ∙ any_at (λ row. eq_by_cmp row_cmp (map v wanted) (part columns wanted row)) rows (map w columns) there
-      (ap (eq_by_cmp row_cmp (map v wanted)) (part_of_own w columns wanted all ∙ map_same_on w v wanted same)
+      (ap (eq_by_cmp row_cmp (map v wanted)) (part_of_own w columns wanted all ∙ same_columns w v wanted same)
       ∙ row_itself (map v wanted))
 
 pub has_projected : (v : Valuation) (columns wanted : List ℕ) (rows : List (List Value)) → IsTable columns rows

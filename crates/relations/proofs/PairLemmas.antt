@@ -11,18 +11,18 @@ use Rattle.std.specs.List.Sorted.{IsPermutation}
 use Rattle.std.specs.Ordering.{eq_by_cmp, is_eq, ordering_reverse}
 use Rattle.std.specs.declared.cmp.Ordering.{Ordering}
 use Rattle.std.specs.declared.cmp.Ordering.TheVariants.{Less, Equal, Greater}
-use Rattle.mfotl_model.proofs.LogicLemmas.{any_map}
-use Rattle.mfotl_model.proofs.RowLemmas.{eq_then}
+use Rattle.std.specs.Cmp.{tied_then}
+use Rattle.mfotl_model.proofs.LogicLemmas.{any_map, any_filter}
 use Rattle.mfotl_model.proofs.AscendingLemmas.{same_ascending}
 use Rattle.mfotl_model.proofs.RowLemmas.{any_none, row_exact}
+use Rattle.mfotl_model.proofs.ColumnLemmas.{row_kept}
 use Rattle.mfotl_model.specs.Ascending.{ascending}
 use Rattle.mfotl_model.specs.FreeVariables.{among}
 use Rattle.mfotl_model.specs.Values.{row_cmp, row_total, value_cmp}
 use Rattle.mfotl_model.specs.declared.value.Value.{Value}
 use Rattle.mfotl_model.specs.Tables.{all_apart, all_sized, has_row, part, valuation}
 use Rattle.relations.specs.Operations.{agree, combined, common, others, pairs, pairs_of, pairs_with, turned_pairs}
-use Rattle.relations.proofs.JoinLemmas.{row_kept}
-use Rattle.relations.proofs.RowLists.{any_filter}
+use Rattle.relations.proofs.TestLemmas.{all_moved}
 
 module _ (ca cb : List ℕ) (ra rb : List Value) where
   by_key : (ys : List ℕ)
@@ -42,9 +42,9 @@ module _ (ca cb : List ℕ) (ra rb : List Value) where
           ≡ ((not b || eq_by_cmp value_cmp (valuation ca ra y) (valuation cb rb y))
           && list_all (λ y. not (among y ca) || eq_by_cmp value_cmp (valuation ca ra y) (valuation cb rb y)) ys)
       step more true =
-          eq_then (value_cmp (valuation ca ra y) (valuation cb rb y))
+          sym (tied_then (value_cmp (valuation ca ra y) (valuation cb rb y))
           (row_cmp (map (valuation ca ra) (filter (λ y. among y ca) ys))
-          (map (valuation cb rb) (filter (λ y. among y ca) ys)))
+          (map (valuation cb rb) (filter (λ y. among y ca) ys))))
           ∙ ap (λ t. eq_by_cmp value_cmp (valuation ca ra y) (valuation cb rb y) && t) more
       step more false = more
 
@@ -107,20 +107,9 @@ fewer i n k l = grind (arith)
 pub record Spending (i steps old : ℕ) (rows : List (List Value)) : Type 0 where
   pub spent : (d : ℕ) → length rows < 2 ^ d → steps ≤ old + i * (2 * d)
 
-all_as_any : (p : List Value → Bool) (xs : List (List Value)) → list_all p xs ≡ not (list_any (λ x. not (p x)) xs)
-all_as_any p [] = refl
-all_as_any p (x ∷ xs) = ap (λ t. p x && t) (all_as_any p xs) ∙ turn (p x) (list_any (λ x. not (p x)) xs)
-  where
-    turn : (a b : Bool) → (a && not b) ≡ not (not a || b)
-    turn true b = refl
-    turn false b = refl
-
 pub sized_moved : (n : ℕ) (xs ys : List (List Value)) → IsPermutation xs ys → all_sized n xs ≡ true
     → all_sized n ys ≡ true
-sized_moved n xs ys p h =
-    all_as_any (λ row. nat_eq (length row) n) ys
-    ∙ ap not (sym (list_any-IsPermutation (λ row. not (nat_eq (length row) n)) xs ys p))
-    ∙ sym (all_as_any (λ row. nat_eq (length row) n) xs) ∙ h
+sized_moved n xs ys p h = all_moved (λ row. nat_eq (length row) n) xs ys p ∙ h
 
 pub own_rows : (columns : List ℕ) (q : List Value) (rows : List (List Value)) → all_apart columns ≡ true
     → all_sized (length columns) rows ≡ true
@@ -141,10 +130,6 @@ none_left p (row ∷ rows) = step (none_left p rows) (p row)
         → nat_eq (length (cond b (row ∷ filter p rows) (filter p rows))) 0 ≡ not (b || list_any p rows)
     step more true = eqb-suc-zero (length (filter p rows))
     step more false = more
-
-pub not_not : (b : Bool) → not (not b) ≡ b
-not_not true = refl
-not_not false = refl
 
 -- equality doesn't hang on the side
 

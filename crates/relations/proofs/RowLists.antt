@@ -1,5 +1,5 @@
 -- Lists of rows: what sorting keeps, what a search answers, and what a row has at a column.
-use Rattle.std.proofs.Common.{◌≡◌, ◌≢◌, ℕ, zero, suc, ◌+◌, ◌<◌, ◌≤◌, Bool, true, false, cond, nat_eq, ◌&&◌, ◌||◌}
+use Rattle.std.proofs.Common.{◌≡◌, ◌≢◌, ℕ, zero, suc, ◌+◌, ◌<◌, ◌≤◌, true, false, cond, nat_eq}
 use Rattle.std.proofs.Common.{List, [], ◌∷◌, length, get_or, slice_index, drop, Result, Ok, Err, refl, sym, subst}
 use Rattle.std.proofs.Common.{ap, ◌∙◌, arith, inl, inr, add-one, pos, insert, slice_index_or}
 use Rattle.std.proofs.lemmas.Bool.{cases_lt}
@@ -9,7 +9,6 @@ use Rattle.std.proofs.lemmas.List.Folds.{list_any_at, list_any_none}
 use Rattle.std.proofs.lemmas.List.Sorted.{searchable_from_sorted}
 use Rattle.std.proofs.lemmas.Map.Keys.{Less-from_sorted}
 use Rattle.std.specs.Cmp.{eq_by_cmp_equiv}
-use Rattle.std.specs.List.{filter, list_any}
 use Rattle.std.specs.List.Sorted.{IsSortedBy, IsStrictlySortedBy, IsBinarySearchResult, IsSearchInRange}
 use Rattle.std.specs.List.Sorted.{IsNonDecreasingBy, IsPartitionPoint}
 use Rattle.std.specs.BTreeSet.{insert_key}
@@ -100,14 +99,3 @@ pub searched_place : (xs : List (List Value)) (u : List Value) (i : ℕ) → IsS
 searched_place xs u i h low found =
     let apart = found (searchable_from_sorted row_total (λ (y : List Value). y) xs u (weakly xs h)) in
     inserted_at xs i u low (λ k d l below. apart.0 k d (omega arith) below) (λ k d above l. apart.1 k d above l)
-
--- a test of what was kept
-pub any_filter : (test p : List Value → Bool) (xs : List (List Value))
-    → list_any test (filter p xs) ≡ list_any (λ x. p x && test x) xs
-any_filter test p [] = refl
-any_filter test p (x ∷ xs) = step (any_filter test p xs) (p x)
-  where
-    step : list_any test (filter p xs) ≡ list_any (λ x. p x && test x) xs → (b : Bool)
-        → list_any test (cond b (x ∷ filter p xs) (filter p xs)) ≡ ((b && test x) || list_any (λ x. p x && test x) xs)
-    step more true = ap (λ t. test x || t) more
-    step more false = more

@@ -8,6 +8,7 @@ use Rattle.std.specs.BTreeSet.{BTreeSet}
 use Rattle.std.specs.List.{filter, flat_map}
 use Rattle.std.specs.List.Sorted.{IsPermutation}
 use Rattle.mfotl_model.proofs.RowLemmas.{row_exact}
+use Rattle.mfotl_model.proofs.ColumnLemmas.{read_own, joined_apart}
 use Rattle.mfotl_model.specs.Ascending.{ascending}
 use Rattle.mfotl_model.specs.FreeVariables.{among, joined}
 use Rattle.mfotl_model.specs.Satisfaction.{Valuation}
@@ -18,9 +19,8 @@ use Rattle.mfotl_model.specs.declared.value.Value.TheVariants.{Int}
 use Rattle.relations.specs.Operations.{has_part, joined_rows, joined_table, others, pairs, pairs_of, table_of_rows}
 use Rattle.relations.specs.Tables.{IsTable}
 use Rattle.relations.proofs.AscendingRows.{has_ascending, made_is, rows_ascend}
-use Rattle.relations.proofs.ColumnLemmas.{apart_joined}
 use Rattle.relations.proofs.InsideLemmas.{matched_is}
-use Rattle.relations.proofs.JoinLemmas.{among_others, kept_among, read_own}
+use Rattle.relations.proofs.JoinLemmas.{among_others, kept_among}
 use Rattle.relations.proofs.OperationLaws.{filtered_has, has_joined, sized_pairs}
 use Rattle.relations.proofs.PairLemmas.{filter_alike, join_moved}
 
@@ -123,7 +123,7 @@ module _ (a b c : TableOf) (first : IsTable a.columns a.rows) (second : IsTable 
     (third : IsTable c.columns c.rows) where
   both_is : IsTable (joined a.columns b.columns) (joined_rows a b)
   both_is = made_is (joined a.columns b.columns) (pairs a.columns b.columns a.rows b.rows) (joined_rows a b)
-      (apart_joined a.columns b.columns first.apart second.apart)
+      (joined_apart a.columns b.columns first.apart second.apart)
       (sized_pairs a.columns b.columns a.rows b.rows first.sized) refl
 
   pub kept_is : all_among c.columns (joined a.columns b.columns) ≡ true

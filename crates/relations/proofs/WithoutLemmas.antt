@@ -6,6 +6,7 @@ use Rattle.std.specs.List.{items_where_true, AllByRecursion}
 use Rattle.std.specs.List.Sorted.{IsStrictlySortedBy}
 use Rattle.std.specs.declared.cmp.Ordering.TheVariants.{Less}
 use Rattle.mfotl_model.proofs.LogicLemmas.{among_without}
+use Rattle.mfotl_model.proofs.ColumnLemmas.{same_columns}
 use Rattle.mfotl_model.specs.FreeVariables.{among, without}
 use Rattle.mfotl_model.specs.Satisfaction.{Valuation, with_value}
 use Rattle.mfotl_model.specs.Values.{row_cmp}
@@ -13,7 +14,6 @@ use Rattle.mfotl_model.specs.declared.value.Value.{Value}
 use Rattle.mfotl_model.specs.Tables.{all_among, all_sized, has_row, part}
 use Rattle.relations.specs.Tables.{IsTable}
 use Rattle.relations.proofs.ColumnLemmas.{all_kept}
-use Rattle.relations.proofs.JoinLemmas.{map_same_on}
 use Rattle.relations.proofs.OperationLaws.{has_projected}
 
 pub without_inside : (x : ℕ) (columns : List ℕ) → all_among (without x columns) columns ≡ true
@@ -41,7 +41,7 @@ module _ (v : Valuation) (x : ℕ) (columns : List ℕ) (rows : List (List Value
       let both = has_projected v columns (without x columns) rows is (without_inside x columns) in (
         (λ h. let w = both.0 h in (
           w.0 x,
-          ap (has_row rows) (map_same_on (with_value v x (w.0 x)) w.0 columns (same_but w.0 w.1.0))
+          ap (has_row rows) (same_columns (with_value v x (w.0 x)) w.0 columns (same_but w.0 w.1.0))
               ∙ w.1.1,
         )),
         (λ h. both.1 (with_value v x h.0, (other_than h.0, h.1))),

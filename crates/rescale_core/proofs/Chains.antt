@@ -4,7 +4,7 @@ use Rattle.std.proofs.Common.{map, take, sym, refl, ap, subst, inl, inr, ⊎_eli
 use Rattle.std.proofs.Common.{eq-eqb, ne_eqb}
 use Rattle.std.specs.List.{range_with_len}
 use native.Mathlib.Decide.{ℕ_discrete}
-use Rattle.std.proofs.lemmas.Bool.Decides.{leb_tells}
+use Rattle.std.proofs.lemmas.Bool.{cases_lt}
 use Rattle.mfotl_model.specs.Strategies.{Strategy, workers_of}
 use Rattle.rescale_core.specs.Lines.{ChangeOfStrategy, Spot, Due, change_at, moved, if_below, place, dues, line}
 use Rattle.rescale_core.specs.Lines.{AreSound}
@@ -22,10 +22,6 @@ use Rattle.rescale_core.specs.Phases.PhaseOf.{Active, Vacant, Waiting}
 abbrev pub Chain : CoreForm → ℕ → PhaseOf → List Due → Type 0
 Chain c k ph [] = Unit {0}
 Chain c k ph (d ∷ ds) = FitsPhase c k ph d × ((i : Item) → Meets c k ph d i → Chain c k (phase_after ph d i) ds)
-
--- one is below the other, or not
-pub below : (k n : ℕ) → (k < n) ⊎ (n ≤ k)
-below k n = ⊎_elim (λ t. inl (omega (arith, t.1))) (λ t. inr (omega (arith, t.1))) (leb_tells (suc k) n)
 
 pub taken_if : (k n : ℕ) (ds : List Due) → k < n → if_below k n ds ≡ ds
 taken_if k n ds h = ap (λ b. cond b ds []) (lt-ltb k n h)
@@ -89,7 +85,7 @@ parted c k t ph more active vacant f f' rest = ⊎_elim
     (λ h. subst (λ (x : List Due). Chain c k ph (x ++ more))
     (sym (left_out k (workers_of t.old) (Parting t ∷ []) h))
     (subst (λ (x : PhaseOf). Chain c k x more) (sym (vacant h)) rest))
-    (below k (workers_of t.old))
+    (cases_lt k (workers_of t.old))
 
 pub some_workers : (c : CoreForm) (s : Strategy) → IsFor c s → 0 < workers_of s
 some_workers c s f = f.workers.some
@@ -104,7 +100,7 @@ filled c k t more f f' active vacant = ⊎_elim
     ((λ z. (let some = some_workers c t.old f in absurd (omega arith))), λ h. (refl, inl refl, λ z. absurd (z refl)))))
     (λ h. subst (λ (x : List Due). Chain c k Vacant (x ++ more)) (sym (left_out k (workers_of t.new) (place t) h))
     (vacant h))
-    (below k (workers_of t.new))
+    (cases_lt k (workers_of t.new))
 
 module _ (c : CoreForm) (k : ℕ) where
   sliced : (a : Spot) (p : TimePoint) (ph : PhaseOf) (more : List Due) → Agrees k a ph → MayFollow a.points p
@@ -118,7 +114,7 @@ module _ (c : CoreForm) (k : ℕ) where
       (λ h. subst (λ (x : List Due). Chain c k ph (x ++ more))
       (sym (left_out k (workers_of a.strategy) (Slicing a.generation a.strategy a.points p ∷ []) h))
       (rest ph record { active = λ e. absurd (omega arith); vacant = λ _. g.vacant h }))
-      (below k (workers_of a.strategy))
+      (cases_lt k (workers_of a.strategy))
 
   pub chained : (es : List Entry) (a : Spot) (ph : PhaseOf) → IsFor c a.strategy → AreSound c a es → Agrees k a ph
       → Chain c k ph (line k a es)

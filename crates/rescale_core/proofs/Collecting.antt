@@ -6,7 +6,9 @@ use Rattle.std.proofs.Common.{subst, ⊎_elim, append-nil, arith, eq-eqb, eqb-tr
 use Rattle.std.proofs.Common.{take-add, take-append-drop}
 use Rattle.std.proofs.lemmas.List.Elements.{filter-append}
 use Rattle.std.proofs.lemmas.List.{map-append}
-use Rattle.rescale_core.proofs.Fitting.{and_left, every_more, every_map, every_filter}
+use Rattle.std.proofs.Math.Seq.{drop-append_seam}
+use Rattle.std.proofs.Permutation.{every_append}
+use Rattle.rescale_core.proofs.Fitting.{and_left, every_map, every_filter}
 use Rattle.rescale_core.proofs.Rowing.{AreSlices, Ascends, ascends_weak, line_ascends, line_slices, Owns, line_owns}
 use Rattle.rescale_core.proofs.Rowing.{owns_cut, owns_front, slices_cut, slices_front, ascends_cut, ascends_front}
 use Rattle.rescale_core.proofs.Rowing.{last_ascends, last_level_more, CameRow, rows_came, rows_more, LoneRow}
@@ -29,7 +31,7 @@ use Rattle.monitor_state.specs.declared.state.Piece.{Piece}
 use Rattle.rescale_core.specs.declared.item.Out.{Out}
 use Rattle.verdict_merge.specs.declared.rows.Rows.{Rows}
 use Rattle.rescale_core.specs.Worlds.Step.{Collect}
-use Rattle.rescale_core.proofs.Pieces.{distinct_snoc, drop_front, answers_cut, last_more, rises_cut, rises_front}
+use Rattle.rescale_core.proofs.Pieces.{distinct_snoc, answers_cut, last_more, rises_cut, rises_front}
 use Rattle.rescale_core.proofs.Pieces.{last_rises, changes_cut, changes_front, Came, answers_came, Lone, answers_lone}
 use Rattle.rescale_core.proofs.Pieces.{pieces_more}
 use Rattle.rescale_core.proofs.SeatLemmas.{at_seat, at_seat_else, by_from, by_worker, own_pieces, own_rows}
@@ -103,7 +105,7 @@ module _ (w : World) (k : ℕ) (r : IsSound w) where
       ap (λ n. take n ds) e ∙ take-add st.collected (st.taken - st.collected) ds
 
   rest_is : drop (length st.back) st.outs ≡ more
-  rest_is = ap (drop (length st.back)) (r.seated k).more.1 ∙ drop_front st.back more
+  rest_is = ap (drop (length st.back)) (r.seated k).more.1 ∙ drop-append_seam st.back more
 
   answered : Answers w.core k seg more
   answered = answers_cut w.core k (take st.collected ds) seg st.back more (r.seated k).back
@@ -314,18 +316,18 @@ module _ (w : World) (k : ℕ) (r : IsSound w) where
     read = r.read;
     seated =
         at_seat_else (IsSeated (world_after w (Collect k))) w.seats k (all_collected st) seated_kept seated_collected;
-    known = every_more (Known f w.core) w.pieces ps r.known
+    known = every_append (Known f w.core) w.pieces ps r.known
         (every_map (Came f w.core k lo (last_part lo seg)) (Known f w.core) ps (λ p h. h.known) came);
     distinct = λ g q. subst (λ x. Apart (map (λ (p : Piece). p.from) x))
         (sym (filter-append (λ p. nat_eq p.generation g && nat_eq p.to q) w.pieces ps))
         (distinct_lone (for_place g q w.pieces) (for_place g q ps) (r.distinct g q) (lone g q) (apart_from g q));
-    rows_known = every_more (KnownRow fr w.core) w.rows rs r.rows_known
+    rows_known = every_append (KnownRow fr w.core) w.rows rs r.rows_known
         (every_map (CameRow fr w.core k rlo (last_level w.core rlo seg)) (KnownRow fr w.core) rs
         (λ p h. h.known) rcame);
     rows_apart = λ i. subst (λ x. Apart (map (λ (p : Rows). p.worker) x))
         (sym (filter-append (λ p. nat_eq p.point i) w.rows rs))
         (distinct_lone_row (rows_at i w.rows) (rows_at i rs) (r.rows_apart i) (rlone i) (rows_apart_from i));
-    rows_past = every_more
+    rows_past = every_append
         (λ (p : Rows). p.point < last_level w.core 0
         (take (set_seat w.seats k (all_collected st) p.worker).collected (line_in w p.worker))) w.rows rs
         (every_map (λ (p : Rows). p.point < last_level w.core 0
@@ -337,7 +339,7 @@ module _ (w : World) (k : ℕ) (r : IsSound w) where
         (λ (p : Rows). p.point < last_level w.core 0
         (take (set_seat w.seats k (all_collected st) p.worker).collected (line_in w p.worker))) rs rows_past_new
         rcame);
-    past = every_more
+    past = every_append
         (λ (p : Piece). p.generation ≤ last_part 0
         (take (set_seat w.seats k (all_collected st) p.from).collected (line_in w p.from))) w.pieces ps
         (every_map (λ (p : Piece). p.generation ≤ last_part 0 (take (w.seats p.from).collected (line_in w p.from)))

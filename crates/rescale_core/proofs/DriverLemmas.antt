@@ -45,18 +45,10 @@ get_else (z ∷ xs) zero (suc q) v n = refl
 get_else (z ∷ xs) (suc k) zero v n = refl
 get_else (z ∷ xs) (suc k) (suc q) v n = get_else xs k q v (λ e. n (ap suc e))
 
-pub get_below : {A : Type 0} (xs : List A) (k : ℕ) (x : A) → get_elem? xs k ≡ some x → k < length xs
-get_below [] k x e = cc
-get_below (z ∷ xs) zero x e = omega arith
-get_below (z ∷ xs) (suc k) x e = let h = get_below xs k x e in omega arith
-
 pub get_there : {A : Type 0} (xs : List A) (k : ℕ) → k < length xs → (x : A) × (get_elem? xs k ≡ some x)
 get_there [] k h = absurd (omega arith)
 get_there (x ∷ xs) zero h = (x, refl)
 get_there (x ∷ xs) (suc k) h = get_there xs k (omega arith)
-
-pub some_is : {A : Type 0} (x y : A) → some x ≡ some y → x ≡ y
-some_is x y e = cc
 
 -- ---- lines
 

@@ -1,18 +1,18 @@
 -- Where no step can be done, all verdicts were emitted.
 use Rattle.std.proofs.Common.{◌≡◌, ◌⊎◌, ℕ, zero, suc, ◌<◌, ◌≤◌, nat_eq, List, [], ◌∷◌, ◌++◌, length, map, drop}
-use Rattle.std.proofs.Common.{take}
 use Rattle.std.proofs.Common.{refl, sym, ap, ◌∙◌, subst, inl, inr, append-nil, arith}
-use Rattle.std.proofs.lemmas.List.{length-map}
+use Rattle.std.proofs.lemmas.List.{length-map, take_all}
+use Rattle.std.proofs.lemmas.Bool.{cases_lt}
+use Rattle.std.proofs.lemmas.Map.Steps.{le-length_from_below}
 use Rattle.std.specs.List.{list_any}
 use Rattle.mfotl_model.specs.Strategies.{workers_of}
+use Rattle.mfotl_model.proofs.LogicLemmas.{filtered_found}
 use Rattle.verdict_merge.proofs.CountLemmas.{at_most}
 use Rattle.verdict_merge.specs.Gathers.{rows_at}
 use Rattle.verdict_merge.specs.declared.rows.Rows.{Rows}
-use Rattle.rescale_core.proofs.Chains.{below}
-use Rattle.rescale_core.proofs.Counting.{at_least}
 use Rattle.rescale_core.proofs.Emitting.{DueRow, below_of, due_all}
 use Rattle.rescale_core.proofs.Fitting.{every_map}
-use Rattle.rescale_core.proofs.Given.{given_there, is_of, kept, on_line, settling, worker_there}
+use Rattle.rescale_core.proofs.Given.{given_there, is_of, on_line, settling, worker_there}
 use Rattle.rescale_core.proofs.LogLemmas.{settled_within}
 use Rattle.rescale_core.proofs.Progress.{all_handed}
 use Rattle.rescale_core.specs.Cells.{Enabled, IsMachineOf}
@@ -35,14 +35,8 @@ dropped_all zero (x ∷ xs) e = cc
 dropped_all (suc n) [] e = omega arith
 dropped_all (suc n) (x ∷ xs) e = let h = dropped_all n xs e in omega arith
 
-taken_all : {A : Type 0} (n : ℕ) (xs : List A) → length xs ≤ n → take n xs ≡ xs
-taken_all zero [] h = refl
-taken_all zero (x ∷ xs) h = absurd (omega arith)
-taken_all (suc n) [] h = refl
-taken_all (suc n) (x ∷ xs) h = ap (λ y. x ∷ y) (taken_all n xs (omega arith))
-
 at_end : (a b : ℕ) → (a < b → ⊥) → b ≤ a
-at_end a b h = by (below a b)
+at_end a b h = by (cases_lt a b)
   where
     by : (a < b) ⊎ (b ≤ a) → b ≤ a
     by (inl less) = absurd (h less)
@@ -56,7 +50,7 @@ module _ (w : World) (sound : IsSound w) (fed : (k : ℕ) → length (line_in w 
       let f = fed k in
       let b = back k in
       subst (λ (ds : List Due). Answers w.core k ds (w.seats k).back)
-      (taken_all (w.seats k).collected (line_in w k) (omega arith)) (sound.seated k).back
+      (take_all (w.seats k).collected (line_in w k) (omega arith)) (sound.seated k).back
 
   -- so all Rows for each settled position are there
   all_gathered : (i : ℕ) → i < settled_in w.core (spot_in w).points → IsGathered w i
@@ -73,19 +67,19 @@ module _ (w : World) (sound : IsSound w) (fed : (k : ℕ) → length (line_in w 
       (below_of n (rows_at i w.rows)
       (every_map D (λ (x : Rows). x.worker < n) (rows_at i w.rows) (λ x d. d.near) all)) in
       let least : n ≤ length workers =
-      at_least n workers (λ k near.
+      le-length_from_below workers n (λ k near.
       let on = on_line k w.read (first_spot w.first) (length r.log) r.generation r.strategy r.log r.point near r.is in
       let given = given_there w.core k i on.before r.generation r.strategy r.log r.point on.behind
       (w.seats k).back r.low
       r.high (subst (λ (ds : List Due). Answers w.core k ds (w.seats k).back) on.is (all_back k)) in
       worker_there k i w.rows
-      (kept (λ (x : Rows). nat_eq x.worker k) (is_of k i) w.rows
+      (filtered_found (λ (x : Rows). nat_eq x.worker k) (is_of k i) w.rows
       (ap (list_any (is_of k i)) (sound.seated k).rows ∙ given))) in
       (r.generation, r.strategy, r.log, r.point, r.is, r.low, r.high, omega arith)
 
   all_out : EmitsVerdicts w → (IsGathered w (length w.emitted) → ⊥)
       → length w.emitted ≡ settled_in w.core (spot_in w).points
-  all_out verdicts none = at (below (length w.emitted) (settled_in w.core (spot_in w).points))
+  all_out verdicts none = at (cases_lt (length w.emitted) (settled_in w.core (spot_in w).points))
     where
       at : (length w.emitted < settled_in w.core (spot_in w).points)
           ⊎ (settled_in w.core (spot_in w).points ≤ length w.emitted)

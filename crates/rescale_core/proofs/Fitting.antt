@@ -1,6 +1,6 @@
 -- What is handed over from the queues fits.
 use Rattle.std.proofs.Common.{◌≡◌, ℕ, zero, suc, ◌+◌, Bool, true, false, cond, ◌&&◌, nat_eq, Option, Some, List, []}
-use Rattle.std.proofs.Common.{◌∷◌, ◌++◌, length, map, filter, sym, refl, ap, ◌∙◌, subst, ⊎_elim, eqb-true}
+use Rattle.std.proofs.Common.{◌∷◌, length, map, filter, sym, refl, ap, ◌∙◌, subst, ⊎_elim, eqb-true}
 use Rattle.mfotl_model.specs.Strategies.{Strategy, workers_of}
 use Rattle.rescale_core.proofs.Chains.{Chain}
 use Rattle.rescale_core.proofs.WorldLemmas.{mapped, AreChanges}
@@ -16,11 +16,6 @@ use Rattle.rescale_core.specs.declared.item.Item.{Item}
 use Rattle.rescale_core.specs.declared.item.Item.TheVariants.{Adopt}
 use Rattle.rescale_core.specs.Lines.Due.{Slicing, Parting, Hole}
 use Rattle.rescale_core.specs.Phases.PhaseOf.{Active, Vacant, Waiting}
-
-pub every_more : {A : Type 0} (P : A → Type 0) (xs ys : List A) → AllByRecursion P xs → AllByRecursion P ys
-    → AllByRecursion P (xs ++ ys)
-every_more P [] ys a b = b
-every_more P (x ∷ xs) ys a b = (a.0, every_more P xs ys a.1 b)
 
 pub every_map : {A : Type 0} (P Q : A → Type 0) (xs : List A) → ((x : A) → P x → Q x) → AllByRecursion P xs
     → AllByRecursion Q xs

@@ -4,10 +4,11 @@ use Rattle.std.proofs.Common.{nat_le, Some, None, List, [], ◌∷◌, ◌++◌,
 use Rattle.std.proofs.Common.{sym, refl, ap}
 use Rattle.std.proofs.Common.{◌∙◌, subst, inl, inr, ⊎_elim, arith, eq-eqb, ne_eqb, length-append, le-leb, leb-false}
 use Rattle.std.proofs.lemmas.List.Elements.{filter-append}
-use Rattle.std.proofs.lemmas.Bool.Decides.{leb_tells}
+use Rattle.std.proofs.lemmas.Bool.{or_from, lt-leb, cases_lt}
+use Rattle.std.proofs.Permutation.{every_append}
 use Rattle.mfotl_model.specs.Strategies.{Strategy, workers_of}
-use Rattle.rescale_core.proofs.Chains.{below, some_workers}
-use Rattle.rescale_core.proofs.Fitting.{every_map, every_more}
+use Rattle.rescale_core.proofs.Chains.{some_workers}
+use Rattle.rescale_core.proofs.Fitting.{every_map}
 use Rattle.rescale_core.proofs.Collecting.{collect_sound}
 use Rattle.rescale_core.proofs.Emitting.{DueRow, complete_some, complete_with, due_all, merged_due}
 use Rattle.rescale_core.proofs.Emitting.{slice_strategy}
@@ -165,7 +166,7 @@ gather_change g h w s r a e is =
       present = subst (λ (b : Spot). workers_in begun b.generation ≡ workers_of b.strategy) (sym spot)
           (found_last g.begun (top + 1) (workers_of s) top is.later (omega arith));
       later = subst (λ (b : Spot). AllByRecursion (λ (x : Begun). x.generation ≤ b.generation) begun) (sym spot)
-          (every_more (λ (x : Begun). x.generation ≤ top + 1) g.begun (one_begun (top + 1) (workers_of s) ∷ [])
+          (every_append (λ (x : Begun). x.generation ≤ top + 1) g.begun (one_begun (top + 1) (workers_of s) ∷ [])
           (every_map (λ (x : Begun). x.generation ≤ top) (λ (x : Begun). x.generation ≤ top + 1) g.begun
           (λ x l. (omega arith)) is.later)
           (omega arith, tt));
@@ -198,7 +199,7 @@ none_below n (r ∷ rs) h = (high, none_below n rs (λ i l. rest i l))
     high = le_or (below_or r.point)
       where
         below_or : (m : ℕ) → (m < n) ⊎ (n ≤ m)
-        below_or m = below m n
+        below_or m = cases_lt m n
 
         le_or : (r.point < n) ⊎ (n ≤ r.point) → n ≤ r.point
         le_or (inl l) = absurd ((here_then r.point (nat_eq r.point r.point) refl (h r.point l)).0 refl)
@@ -240,9 +241,6 @@ not_from (x ∷ xs) r rest a = at (nat_eq x.point r.point) refl a (not_from xs r
     and_last true false d e = refl
     and_last false c d e = refl
 
-    either : (b c : Bool) → b ≡ false → c ≡ false → (b || c) ≡ false
-    either b c e f = ap (λ x. x || c) e ∙ f
-
     at : (b : Bool) → nat_eq x.point r.point ≡ b
         → Apart (map (λ (r : Rows). r.worker)
         (cond b (x ∷ rows_at r.point (xs ++ r ∷ rest)) (rows_at r.point (xs ++ r ∷ rest))))
@@ -250,14 +248,14 @@ not_from (x ∷ xs) r rest a = at (nat_eq x.point r.point) refl a (not_from xs r
         → (is_from r x || list_any (is_from r) xs) ≡ false
     at true e a next =
         let other : x.worker ≢ r.worker = in_later x.worker r.point xs r rest (eq-eqb r.point r.point refl) a.0 in
-        either (is_from r x) (list_any (is_from r) xs)
+        or_from (is_from r x) (list_any (is_from r) xs)
         (and_last (nat_eq r.point x.point) (nat_eq r.generation x.generation) (nat_eq r.worker x.worker)
         (ne_eqb r.worker x.worker (λ h. other (sym h)))) (next a.1)
     at false e a next =
         let no_point : nat_eq r.point x.point ≡ false =
         ne_eqb r.point x.point (λ h. (let t = eq-eqb x.point r.point (sym h) in
         let clash : true ≡ false = sym t ∙ e in cc)) in
-        either (is_from r x) (list_any (is_from r) xs)
+        or_from (is_from r x) (list_any (is_from r) xs)
         (ap (λ b. b && (nat_eq r.generation x.generation && nat_eq r.worker x.worker)) no_point) (next a)
 
 -- Rows of other workers than those that are there may be added one after the other
@@ -333,9 +331,6 @@ gather_collected g h w k r a e is =
 
 -- ---- emitting
 
-leb_no : (a b : ℕ) → b < a → nat_le a b ≡ false
-leb_no a b h = ⊎_elim (λ t. absurd (let x = t.1 in omega arith)) (λ t. t.0) (leb_tells a b)
-
 drops_emitted : (n : ℕ) (rs : List Rows)
     → filter (λ (r : Rows). not (nat_eq r.point n)) (filter (λ (r : Rows). nat_le n r.point) rs) ≡ filter
     (λ (r : Rows). nat_le (n + 1) r.point) rs
@@ -344,7 +339,8 @@ drops_emitted n (r ∷ rs) = by_order (below_or n r.point) (drops_emitted n rs)
   where
     below_or : (a b : ℕ) → (b < a) ⊎ ((b ≡ a) ⊎ (a < b))
     below_or a b =
-        ⊎_elim (λ h. inl h) (λ h. ⊎_elim (λ x. inr (inr x)) (λ x. inr (inl (omega arith))) (below a b)) (below b a)
+        ⊎_elim (λ h. inl h) (λ h. ⊎_elim (λ x. inr (inr x)) (λ x. inr (inl (omega arith))) (cases_lt a b))
+        (cases_lt b a)
 
     by_order : (r.point < n) ⊎ ((r.point ≡ n) ⊎ (n < r.point))
         → filter (λ (r : Rows). not (nat_eq r.point n)) (filter (λ (r : Rows). nat_le n r.point) rs) ≡ filter
@@ -354,9 +350,9 @@ drops_emitted n (r ∷ rs) = by_order (below_or n r.point) (drops_emitted n rs)
     by_order (inl h) rest =
         ap (λ b. filter (λ (r : Rows). not (nat_eq r.point n))
         (cond b (r ∷ filter (λ (r : Rows). nat_le n r.point) rs) (filter (λ (r : Rows). nat_le n r.point) rs)))
-        (leb_no n r.point h)
+        (lt-leb n r.point h)
         ∙ rest ∙ sym (ap (λ b. cond b (r ∷ filter (λ (r : Rows). nat_le (n + 1) r.point) rs)
-        (filter (λ (r : Rows). nat_le (n + 1) r.point) rs)) (leb_no (n + 1) r.point (omega arith)))
+        (filter (λ (r : Rows). nat_le (n + 1) r.point) rs)) (lt-leb (n + 1) r.point (omega arith)))
     by_order (inr (inl h)) rest =
         ap (λ b. filter (λ (r : Rows). not (nat_eq r.point n))
         (cond b (r ∷ filter (λ (r : Rows). nat_le n r.point) rs) (filter (λ (r : Rows). nat_le n r.point) rs)))
@@ -366,7 +362,7 @@ drops_emitted n (r ∷ rs) = by_order (below_or n r.point) (drops_emitted n rs)
         (filter (λ (r : Rows). not (nat_eq r.point n)) (filter (λ (r : Rows). nat_le n r.point) rs)))
         (eq-eqb r.point n h)
         ∙ rest ∙ sym (ap (λ b. cond b (r ∷ filter (λ (r : Rows). nat_le (n + 1) r.point) rs)
-        (filter (λ (r : Rows). nat_le (n + 1) r.point) rs)) (leb_no (n + 1) r.point (omega arith)))
+        (filter (λ (r : Rows). nat_le (n + 1) r.point) rs)) (lt-leb (n + 1) r.point (omega arith)))
     by_order (inr (inr h)) rest =
         ap (λ b. filter (λ (r : Rows). not (nat_eq r.point n))
         (cond b (r ∷ filter (λ (r : Rows). nat_le n r.point) rs) (filter (λ (r : Rows). nat_le n r.point) rs)))

@@ -1,8 +1,8 @@
 -- No row comes for a position that was emitted.
 use Rattle.std.proofs.Common.{◌≡◌, ℕ, ◌+◌, ◌<◌, ◌≤◌, nat_eq, List, [], ◌∷◌, ◌++◌}
-use Rattle.std.proofs.Common.{length, map, sym, refl, ap, ◌∙◌, subst, arith, length-append}
+use Rattle.std.proofs.Common.{length, map, sym, ap, ◌∙◌, subst, arith, length-append}
 use Rattle.std.proofs.lemmas.List.Elements.{filter-append}
-use Rattle.std.proofs.lemmas.List.{length-map}
+use Rattle.std.proofs.lemmas.List.{length-map, nil_from_length}
 use native.Mathlib.Decide.{ℕ_discrete}
 use Rattle.mfotl_model.specs.Strategies.{workers_of}
 use Rattle.rescale_core.proofs.Emitting.{DueRow, below_of, due_all}
@@ -42,11 +42,7 @@ module _ (w : World) (k : ℕ) (r : IsSound w) where
       ap length (filter-append (λ r. nat_eq r.point i) w.rows rs)
       ∙ length-append (rows_at i w.rows) (rows_at i rs) in
       let full : length (rows_at i w.rows) ≡ workers_of g.1 = g.7 in
-      no_length (rows_at i rs) (omega arith)
-    where
-      no_length : (xs : List Rows) → length xs ≡ 0 → xs ≡ []
-      no_length [] e = refl
-      no_length (x ∷ xs) e = absurd (omega arith)
+      nil_from_length (rows_at i rs) (omega arith)
 
 pub step_gathered : (w : World) (s : Step) → IsSound w → Allowed w s → AllGathered w → AllGathered (world_after w s)
 step_gathered w (Read e) r a g i h = let x = g i h in (

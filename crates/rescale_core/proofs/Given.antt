@@ -1,8 +1,8 @@
 -- Which time-point settles a position, and that each of its workers gave Rows for it.
 use Rattle.std.proofs.Common.{◌≡◌, ◌⊎◌, ℕ, zero, suc, ◌+◌, ◌-◌, ◌<◌, ◌≤◌, Bool, true, false, ◌&&◌, ◌||◌, cond, nat_eq}
-use Rattle.std.proofs.Common.{Some, List, [], ◌∷◌, ◌++◌, length, map, filter, refl, sym, ap, ◌∙◌}
+use Rattle.std.proofs.Common.{Some, List, [], ◌∷◌, ◌++◌, length, map, refl, sym, ap, ◌∙◌}
 use Rattle.std.proofs.Common.{subst, inl, inr, append_assoc, arith, eq-eqb, ne_eqb, eqb-true, length-append}
-use Rattle.std.proofs.lemmas.Bool.{and_parts, and_from, or_cases, or_left, or_right}
+use Rattle.std.proofs.lemmas.Bool.{and_parts, and_from, or_cases, or_left, or_right, cases_lt}
 use Rattle.std.proofs.lemmas.List.Folds.{list_any-append}
 use Rattle.std.specs.List.{list_any, range_with_len}
 use native.Mathlib.Decide.{ℕ_discrete}
@@ -11,7 +11,7 @@ use Rattle.mfotl_model.specs.declared.event.TimePoint.{TimePoint}
 use Rattle.monitorable.specs.CoreForms.{CoreForm}
 use Rattle.verdict_merge.specs.Gathers.{rows_at}
 use Rattle.verdict_merge.specs.declared.rows.Rows.{Rows}
-use Rattle.rescale_core.proofs.Chains.{below, taken_if}
+use Rattle.rescale_core.proofs.Chains.{taken_if}
 use Rattle.rescale_core.proofs.Rowing.{rows_more, rows_of_slice}
 use Rattle.rescale_core.specs.Lines.{Due, Spot, dues, line, moved, spot_after}
 use Rattle.rescale_core.specs.Lines.Due.{Slicing}
@@ -64,7 +64,7 @@ settling c (Change x ∷ es) a i low high =
       high = r.high;
     }
 settling c (Point q ∷ es) a i low high =
-    at (below i (settled_in c (a.points ++ q ∷ []))) (λ more. settling c es (moved a (Point q)) i more high)
+    at (cases_lt i (settled_in c (a.points ++ q ∷ []))) (λ more. settling c es (moved a (Point q)) i more high)
   where
     at : (i < settled_in c (a.points ++ q ∷ [])) ⊎ (settled_in c (a.points ++ q ∷ []) ≤ i)
         → (settled_in c (a.points ++ q ∷ []) ≤ i → Settles c (moved a (Point q)) es i) → Settles c a (Point q ∷ es) i
@@ -184,20 +184,6 @@ given_there c k i (d ∷ before) g s log p behind outs low high a =
     ∙ list_any-append (is_of k i) (rows_in a.0) (rows_in a.1)
     ∙ or_right (list_any (is_of k i) (rows_in a.0)) (list_any (is_of k i) (rows_in a.1))
     (given_there c k i before g s log p behind a.1 low high a.4)
-
--- what is among those that pass is among all
-pub kept : (f q : Rows → Bool) (xs : List Rows) → list_any q (filter f xs) ≡ true → list_any q xs ≡ true
-kept f q [] h = h
-kept f q (x ∷ xs) h = at (f x) h (kept f q xs)
-  where
-    at : (b : Bool) → list_any q (cond b (x ∷ filter f xs) (filter f xs)) ≡ true
-        → (list_any q (filter f xs) ≡ true → list_any q xs ≡ true) → (q x || list_any q xs) ≡ true
-    at true h next = by (or_cases (q x) (list_any q (filter f xs)) h)
-      where
-        by : (q x ≡ true) ⊎ (list_any q (filter f xs) ≡ true) → (q x || list_any q xs) ≡ true
-        by (inl here) = or_left (q x) (list_any q xs) here
-        by (inr there) = or_right (q x) (list_any q xs) (next there)
-    at false h next = or_right (q x) (list_any q xs) (next h)
 
 pub worker_there : (k i : ℕ) (rs : List Rows) → list_any (is_of k i) rs ≡ true
     → list_any (nat_eq k) (map (λ (r : Rows). r.worker) (rows_at i rs)) ≡ true

@@ -1,9 +1,10 @@
 -- One item leads a worker on, for all that it stands for.
 use Rattle.std.proofs.Common.{◌≡◌, ℕ, cond, List, [], ◌∷◌, ◌++◌, length, take, sym, refl, ap, ◌∙◌, subst, ⊎_elim}
 use Rattle.std.proofs.Common.{append_assoc, append-nil, lt-ltb, le-ltb}
+use Rattle.std.proofs.lemmas.Bool.{cases_lt}
 use Rattle.mfotl_model.specs.Strategies.{workers_of}
 use Rattle.monitorable.specs.Cores.{core_form}
-use Rattle.rescale_core.proofs.Chains.{Agrees, agrees_active, agrees_vacant, below, chained, fits_front, Turned, turned}
+use Rattle.rescale_core.proofs.Chains.{Agrees, agrees_active, agrees_vacant, chained, fits_front, Turned, turned}
 use Rattle.rescale_core.specs.Lines.{Due, first_spot}
 use Rattle.rescale_core.specs.Phases.{PhaseOf, Meets, phase_at, phase_after, FitsPhase, AnswersOne, Answers}
 use Rattle.rescale_core.specs.Seeds.{SeedOf}
@@ -27,7 +28,7 @@ first_agrees s = ⊎_elim
     (λ h. subst (Agrees s.number (first_spot s.first))
     (sym (ap (λ b. cond b (Active s.first []) Vacant) (le-ltb s.number (workers_of s.first) h)))
     (agrees_vacant s.number (first_spot s.first) h))
-    (below s.number (workers_of s.first))
+    (cases_lt s.number (workers_of s.first))
 
 pub answers_more : (c : CoreForm) (k : ℕ) (ds : List Due) (d : Due) (outs more : List Out) → Answers c k ds outs
     → AnswersOne c k d more → Answers c k (ds ++ d ∷ []) (outs ++ more)

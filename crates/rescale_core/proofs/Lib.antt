@@ -30,7 +30,6 @@ pub mod RouterLemmas
 pub mod RouterEnds
 pub mod CellLemmas
 pub mod MachineLemmas
-pub mod Counting
 pub mod Given
 pub mod Progress
 pub mod Ending

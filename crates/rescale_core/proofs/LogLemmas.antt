@@ -1,13 +1,13 @@
 -- What is settled in a log stays settled, and its violations stay as they are.
-use Rattle.std.proofs.Common.{◌≡◌, ℕ, ◌<◌, ◌≤◌, Bool, true, false, ◌&&◌, nat_eq, List, [], ◌∷◌, ◌++◌, length, refl}
+use Rattle.std.proofs.Common.{◌≡◌, ℕ, ◌<◌, ◌≤◌, true, nat_eq, List, [], ◌∷◌, ◌++◌, length}
 use Rattle.std.proofs.Common.{sym}
-use Rattle.std.proofs.Common.{ap, ap₂, subst, ◌∙◌, arith}
+use Rattle.std.proofs.Common.{subst, ◌∙◌, arith}
 use Rattle.std.proofs.lemmas.List.{length-map, map-append}
 use Rattle.std.specs.List.{list_all, filter}
 use Rattle.mfotl_model.proofs.AscendingLemmas.{same_ascending}
 use Rattle.mfotl_model.proofs.CountLemmas.{counted_settled}
 use Rattle.mfotl_model.proofs.RowLemmas.{row_exact}
-use Rattle.mfotl_model.specs.Domains.{Includes, in_domain}
+use Rattle.mfotl_model.specs.Domains.{in_domain}
 use Rattle.mfotl_model.specs.FreeVariables.{fv, among}
 use Rattle.mfotl_model.specs.Log.{times}
 use Rattle.mfotl_model.specs.Satisfaction.{Valuation}
@@ -23,6 +23,7 @@ use Rattle.monitorable.proofs.DomainLaw.{domain}
 use Rattle.monitorable.proofs.DomainRows.{found, grows, has_constants, has_log, row_within}
 use Rattle.monitorable.proofs.FinalityLaw.{finality}
 use Rattle.monitorable.proofs.FreeVariableLemmas.{fv_apart}
+use Rattle.monitorable.proofs.ViolationsFinal.{itself, agreeing}
 use Rattle.monitorable.specs.CoreForms.{CoreForm, meaning}
 use Rattle.monitorable.specs.Fragment.{IsMonitorable}
 use Rattle.monitorable.specs.SatisfyingRows.{core_domain, satisfies, satisfying_rows}
@@ -46,15 +47,6 @@ settled_within c log =
     let h = count_within (times log) (meaning c) in
     let e : length (times log) ≡ length log = length-map log (λ (q : TimePoint). q.ts) in
     omega arith
-
-itself : (dom : List Value) → Includes dom dom
-itself dom a h = h
-
-agreeing : (s t len l m : Bool) → s ≡ t → (s ≡ true → len ≡ true → (l ≡ true) × (m ≡ true))
-    → (s && (len && l)) ≡ (t && (len && m))
-agreeing true t true l m e h = (h refl refl).0 ∙ ap₂ (λ x y. x && y) e (sym (h refl refl).1)
-agreeing true t false l m e h = ap (λ x. x && false) e
-agreeing false t len l m e h = ap (λ x. x && (len && m)) e
 
 module _ (g : CoreForm) (log more : List TimePoint) (i : ℕ) (fits : IsMonitorable g)
     (rising : NeverFalls (times (log ++ more)))

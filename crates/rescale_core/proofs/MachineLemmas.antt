@@ -301,10 +301,6 @@ module _ (m : Machine) (entries : List Entry) (w : World) (is : IsMachineOf m en
   pub no_collect : Allowed w (Collect k) → ⊥
   no_collect h = let n = none_fed in let t = (is.router.sound.seated k).taken in omega arith
 
-pub none_left : {A : Type 0} (xs : List A) → length xs ≡ 0 → xs ≡ []
-none_left [] e = refl
-none_left (x ∷ xs) e = absurd (omega arith)
-
 -- the only one of at most one item
 pub one_item : (items before : List Item) (item : Item) → items ≡ before ++ item ∷ [] → length items ≤ 1
     → items ≡ item ∷ []

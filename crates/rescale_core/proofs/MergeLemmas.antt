@@ -5,6 +5,7 @@ use Rattle.mfotl_model.specs.FreeVariables.{fv, among}
 use Rattle.mfotl_model.specs.Regions.{near_of}
 use Rattle.mfotl_model.specs.Strategies.{Strategy, workers_of}
 use Rattle.mfotl_model.specs.declared.event.TimePoint.{TimePoint}
+use Rattle.mfotl_model.proofs.LogicLemmas.{among_range}
 use Rattle.monitorable.proofs.SoundLaw.{parts_are_sound}
 use Rattle.monitorable.specs.CoreForms.{CoreForm, meaning}
 use Rattle.monitor_state.specs.MonitorView.{monitor_of}
@@ -25,7 +26,6 @@ use Rattle.state_split.proofs.CutLaw.{strategies_cut}
 use Rattle.state_split.specs.Splits.{AreNumbered, PiecesStand}
 use Rattle.verdict_merge.proofs.CountLemmas.{at_most}
 use Rattle.verdict_merge.specs.Laws.{Apart}
-use Rattle.rescale_core.proofs.OwnedLemmas.{among_range}
 use Rattle.rescale_core.proofs.SliceLemmas.{region_passes}
 use Rattle.rescale_core.specs.States.{Adopted, CanAdopt, FinishesMerging, IsFull, MergesMore, Splits}
 use Rattle.rescale_core.specs.Workers.{IsFor}
@@ -33,7 +33,7 @@ use Rattle.rescale_core.specs.Workers.{IsFor}
 -- ---- splitting
 
 binds_all : (c : CoreForm) (s : Strategy) → IsFor c s → BindsAll (length s) (fv (meaning c))
-binds_all c s is y low = ap (among y) is.variables ∙ among_range y 0 (length s) (omega arith) (omega arith)
+binds_all c s is y low = ap (among y) is.variables ∙ among_range 0 (length s) y (omega arith) (omega arith)
 
 -- the pieces of a monitor that is a worker's
 pub splits : (m : Monitor) (s : Strategy) (k : ℕ) (s2 : Strategy) (g : ℕ) (pieces : List Piece)

@@ -1,32 +1,34 @@
 -- The rows that a worker owns are the same of an exact table and of the violations.
-use Rattle.std.proofs.Common.{◌≡◌, ℕ, zero, suc, ◌+◌, ◌<◌, ◌≤◌, Bool, true, false, ◌&&◌, ◌||◌, cond, nat_eq, List}
+use Rattle.std.proofs.Common.{◌≡◌, ℕ, Bool, true, false, ◌&&◌, ◌||◌, cond, nat_eq, List}
 use Rattle.std.proofs.Common.{[], ◌∷◌, length, map}
 use Rattle.std.proofs.Common.{filter, refl, sym, ap, ◌∙◌, arith, eq-eqb}
-use Rattle.std.proofs.lemmas.Bool.{and_parts, and_from, eqb-true, or_left, or_right}
+use Rattle.std.proofs.lemmas.Bool.{and_parts, and_from, eqb-true}
 use Rattle.std.proofs.lemmas.List.FromFn.{length-range_with_len}
-use native.Mathlib.Decide.{ℕ_discrete}
 use Rattle.std.proofs.lemmas.List.Kept.{IsStrictlySortedBy-filter}
 use Rattle.std.proofs.lemmas.Map.Lookups.{btree_set_from_contains}
 use Rattle.std.proofs.lemmas.Map.Views.{tells_apart}
 use Rattle.std.specs.BTreeSet.{BTreeSet}
 use Rattle.std.specs.List.{list_all, range_with_len}
 use Rattle.std.specs.Ordering.{eq_by_cmp}
+use Rattle.std.specs.Cmp.{both_ways}
 use Rattle.mfotl_model.proofs.AscendingLemmas.{any_ascending, sorted_ascending}
 use Rattle.mfotl_model.proofs.RowLemmas.{row_exact}
+use Rattle.mfotl_model.proofs.ColumnLemmas.{row_kept}
+use Rattle.mfotl_model.proofs.LogicLemmas.{among_range}
 use Rattle.mfotl_model.specs.Exact.{Exact}
-use Rattle.mfotl_model.specs.FreeVariables.{fv, among}
+use Rattle.mfotl_model.specs.FreeVariables.{fv}
 use Rattle.mfotl_model.specs.Regions.{near_of}
 use Rattle.mfotl_model.specs.Strategies.{Strategy, owner_of, workers_of}
-use Rattle.mfotl_model.specs.Tables.{TableOf, all_sized, has, has_row, valuation}
+use Rattle.mfotl_model.specs.Tables.{TableOf, has, has_row, valuation}
 use Rattle.mfotl_model.specs.Values.{row_cmp, row_total}
 use Rattle.mfotl_model.specs.Violations.{all_rows}
 use Rattle.mfotl_model.specs.declared.event.TimePoint.{TimePoint}
 use Rattle.mfotl_model.specs.declared.value.Value.{Value}
 use Rattle.mfotl_model.specs.Domains.{in_domain}
 use Rattle.monitorable.proofs.DomainLaw.{domain}
-use Rattle.monitorable.proofs.DomainLemmas.{same_truth}
-use Rattle.monitorable.proofs.DomainRows.{found, has_constants, has_log, row_kept, row_within}
+use Rattle.monitorable.proofs.DomainRows.{found, has_constants, has_log, row_within}
 use Rattle.monitorable.proofs.FreeVariableLemmas.{fv_apart}
+use Rattle.monitorable.proofs.TableLaw.{sized_row}
 use Rattle.monitorable.specs.CoreForms.{CoreForm, meaning}
 use Rattle.monitorable.specs.SatisfyingRows.{core_domain, satisfies, satisfying_rows}
 use Rattle.relations.specs.Tables.{IsTable}
@@ -62,31 +64,6 @@ has_passing p (first ∷ rows) row =
         rest ∙ ap (λ x. x && has_row rows row) no ∙ sym (ap (λ x. x && (true || has_row rows row)) no)
     at false pe false ee rest = rest
 
--- among rows of one size is no row of another
-sized_row : (n : ℕ) (rows : List (List Value)) (row : List Value) → all_sized n rows ≡ true
-    → has_row rows row ≡ true → nat_eq (length row) n ≡ true
-sized_row n [] row sized h = cc
-sized_row n (first ∷ rows) row sized h =
-    let parts = and_parts (nat_eq (length first) n) (all_sized n rows) sized in
-    at (eq_by_cmp row_cmp row first) refl h (sized_row n rows row parts.1)
-  where
-    at : (b : Bool) → eq_by_cmp row_cmp row first ≡ b → (b || has_row rows row) ≡ true
-        → (has_row rows row ≡ true → nat_eq (length row) n ≡ true) → nat_eq (length row) n ≡ true
-    at true e h next =
-        ap (λ (r : List Value). nat_eq (length r) n) (tells_apart row_exact row first e)
-        ∙ (and_parts (nat_eq (length first) n) (all_sized n rows) sized).0
-    at false e h next = next h
-
--- the variables below n are among the numbers from 0 to n
-pub among_range : (x j n : ℕ) → j ≤ x → x < j + n → among x (range_with_len j n) ≡ true
-among_range x j zero low high = absurd (omega arith)
-among_range x j (suc n) low high = at (ℕ_discrete x j) (λ more. among_range x (j + 1) n more (omega arith))
-  where
-    at : Dec (x ≡ j) → (j + 1 ≤ x → among x (range_with_len (j + 1) n) ≡ true)
-        → among x (j ∷ range_with_len (j + 1) n) ≡ true
-    at (yes e) rest = or_left (nat_eq x j) (among x (range_with_len (j + 1) n)) (eq-eqb x j e)
-    at (no ne) rest = or_right (nat_eq x j) (among x (range_with_len (j + 1) n)) (rest (omega arith))
-
 -- a full row is near to its owner
 near_full : (s : Strategy) (k : ℕ) (c : CoreForm) (row : List Value) → IsFor c s
     → nat_eq (length row) (length (fv (meaning c))) ≡ true → nat_eq (owner s row) k ≡ true
@@ -99,7 +76,7 @@ near_full s k c row is size own =
     eqb-true (length row) (length (fv (meaning c))) size ∙ ap length e ∙ length-range_with_len 0 n in
     ap (λ vs. near_of s k vs (valuation vs row)) e
     ∙ near_is_owner s k (range_with_len 0 n) (valuation (range_with_len 0 n) row) is.workers.some
-    (λ y low. among_range y 0 n (omega arith) (omega arith))
+    (λ y low. among_range 0 n y (omega arith) (omega arith))
     ∙ ap (λ m. nat_eq (owner_of s (valuation (range_with_len 0 m) row)) k) (sym len) ∙ own
 
 module _ (c : CoreForm) (s : Strategy) (k : ℕ) (log : List TimePoint) (i : ℕ) (table : TableOf) (is : IsFor c s)
@@ -181,7 +158,7 @@ module _ (c : CoreForm) (s : Strategy) (k : ℕ) (log : List TimePoint) (i : ℕ
       (IsStrictlySortedBy-filter row_cmp mine all
       (sorted_ascending row_total row_exact (filter (satisfies log c i) (all_rows (length vars) dom))))
       (λ row. has_passing mine table.rows row
-      ∙ same_truth (mine row && has_row table.rows row) (mine row && has_row all row) (forth row) (back row)
+      ∙ both_ways (mine row && has_row table.rows row) (mine row && has_row all row) (forth row) (back row)
       ∙ sym (has_passing mine all row))
       row_exact
 

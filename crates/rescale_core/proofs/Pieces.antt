@@ -1,13 +1,14 @@
 -- The pieces among what answers.
 use Rattle.std.proofs.Common.{◌≡◌, ◌≢◌, ◌⊎◌, ℕ, ◌+◌, ◌<◌, ◌≤◌, Bool, true, false, cond, ◌&&◌, nat_eq}
-use Rattle.std.proofs.Common.{Option, Some, List, [], ◌∷◌, ◌++◌, length, map, drop, sym, refl}
+use Rattle.std.proofs.Common.{Option, Some, List, [], ◌∷◌, ◌++◌, length, map, sym, refl}
 use Rattle.std.proofs.Common.{ap, ◌∙◌}
 use Rattle.std.proofs.Common.{subst, inl, inr, append_assoc, append-nil, arith, ne_eqb, eqb-true}
 use Rattle.std.proofs.lemmas.List.Elements.{filter-append}
 use Rattle.std.proofs.lemmas.List.{length-map}
+use Rattle.std.proofs.Permutation.{every_append}
 use native.Mathlib.Decide.{ℕ_discrete}
 use Rattle.mfotl_model.specs.Strategies.{Strategy, workers_of}
-use Rattle.rescale_core.proofs.Fitting.{and_right, every_more, every_map}
+use Rattle.rescale_core.proofs.Fitting.{and_right, every_map}
 use Rattle.rescale_core.proofs.WorldLemmas.{AreChanges, Rises}
 use Rattle.rescale_core.specs.Lines.{ChangeOfStrategy, Due}
 use Rattle.rescale_core.specs.Soundly.{Known, last_part}
@@ -38,10 +39,6 @@ same_length [] [] x y l e = e
 same_length [] (v ∷ b) x y l e = absurd (omega arith)
 same_length (u ∷ a) [] x y l e = absurd (omega arith)
 same_length (u ∷ a) (v ∷ b) x y l e = let t : a ++ x ≡ b ++ y = cc in same_length a b x y (omega arith) t
-
-pub drop_front : {A : Type 0} (a b : List A) → drop (length a) (a ++ b) ≡ b
-drop_front [] b = refl
-drop_front (x ∷ a) b = drop_front a b
 
 -- ---- answers, cut in two
 
@@ -166,7 +163,7 @@ answers_came f c k lo (Parting u ∷ ds) os r t a = let hi : ℕ = last_part u.g
     let here = parts_came f c k lo hi u 0 a.0 t.0 low high (let l : length a.0 ≡ workers_of u.new = a.3.0 in
     omega arith) a.3.1 in
     subst (AllByRecursion (Came f c k lo hi)) (sym (ap pieces_in a.2 ∙ pieces_more a.0 a.1))
-    (every_more (Came f c k lo hi) (pieces_in a.0) (pieces_in a.1) here
+    (every_append (Came f c k lo hi) (pieces_in a.0) (pieces_in a.1) here
     (every_map (Came f c k u.generation hi) (Came f c k lo hi) (pieces_in a.1)
     (λ p. came_wider f c k u.generation lo hi p (omega arith)) rest))
 answers_came f c k lo (Hole u j ∷ ds) os r t a = let rest = answers_came f c k lo ds a.1 r t.1 a.4 in

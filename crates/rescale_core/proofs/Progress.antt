@@ -1,17 +1,18 @@
 -- Where no step can be done, no piece is missing.
 use Rattle.std.proofs.Common.{◌≡◌, ◌⊎◌, ℕ, zero, suc, ◌+◌, ◌<◌, ◌≤◌, Bool, true, false, ◌&&◌, ◌||◌, cond, nat_eq}
-use Rattle.std.proofs.Common.{nat_lt, Option, Some, option_map, List, [], ◌∷◌, ◌++◌, length, map, filter, take, drop}
+use Rattle.std.proofs.Common.{nat_lt, Option, Some, option_map, List, [], ◌∷◌, ◌++◌, length, map, take, drop}
 use Rattle.std.proofs.Common.{refl, sym, ap, ◌∙◌, subst, inl, inr, ⊎_elim, append_assoc, arith, eq-eqb, ne_eqb}
 use Rattle.std.proofs.Common.{eqb-true}
-use Rattle.std.proofs.lemmas.Bool.{and_from, and_parts, or_cases, or_left, or_right}
+use Rattle.std.proofs.lemmas.Bool.{and_from, and_parts, or_cases, or_left, or_right, cases_lt}
 use Rattle.std.proofs.lemmas.List.{length-map}
 use Rattle.std.proofs.lemmas.List.Folds.{list_any-append}
+use Rattle.std.proofs.lemmas.Map.Steps.{le-length_from_below}
 use Rattle.std.specs.List.{list_any, range_with_len}
 use native.Mathlib.Decide.{ℕ_discrete}
 use Rattle.mfotl_model.specs.Strategies.{workers_of}
+use Rattle.mfotl_model.proofs.LogicLemmas.{filtered_found}
 use Rattle.monitorable.specs.CoreForms.{CoreForm}
-use Rattle.rescale_core.proofs.Chains.{below, left_out, taken_if}
-use Rattle.rescale_core.proofs.Counting.{at_least}
+use Rattle.rescale_core.proofs.Chains.{left_out, taken_if}
 use Rattle.rescale_core.proofs.Pieces.{pieces_more}
 use Rattle.rescale_core.proofs.ReadyLemmas.{ready_first}
 use Rattle.rescale_core.proofs.WorldLemmas.{AreChanges, if_either, line_changes}
@@ -188,18 +189,6 @@ piece_there c k (d ∷ before) t behind outs to low a =
     (list_any (is_from_to t.generation k to) (pieces_in a.1))
     (piece_there c k before t behind a.1 to low a.4)
 
--- what is among those that pass is among all
-any_kept : (f q : Piece → Bool) (xs : List Piece) → list_any q (filter f xs) ≡ true → list_any q xs ≡ true
-any_kept f q [] h = h
-any_kept f q (x ∷ xs) h = at (f x) h (any_kept f q xs)
-  where
-    at : (b : Bool) → list_any q (cond b (x ∷ filter f xs) (filter f xs)) ≡ true
-        → (list_any q (filter f xs) ≡ true → list_any q xs ≡ true) → (q x || list_any q xs) ≡ true
-    at true h next =
-        ⊎_elim (λ here. or_left (q x) (list_any q xs) here) (λ there. or_right (q x) (list_any q xs) (next there))
-        (or_cases (q x) (list_any q (filter f xs)) h)
-    at false h next = or_right (q x) (list_any q xs) (next h)
-
 -- so its worker is among those whose pieces came for the place
 from_there : (g from to : ℕ) (ps : List Piece) → list_any (is_from_to g from to) ps ≡ true
     → list_any (nat_eq from) (map (λ (p : Piece). p.from) (for_place g to ps)) ≡ true
@@ -275,7 +264,7 @@ near_place k t = ⊎_elim
     (λ low. subst (AreNear k) (sym (taken_if k (workers_of t.new) (place t) low))
     (near_holes k t 0 (workers_of t.old) low (omega arith)))
     (λ high. subst (AreNear k) (sym (left_out k (workers_of t.new) (place t) high)) tt)
-    (below k (workers_of t.new))
+    (cases_lt k (workers_of t.new))
 
 line_near : (k : ℕ) (es : List Entry) (a : Spot) → AreNear k (line k a es)
 unfolding AreNear
@@ -369,7 +358,7 @@ module _ (w : World) (sound : IsSound w) (idle : (k : ℕ) (i : Item) → Allowe
       let a : Answers w.core from (part.before ++ Parting t ∷ r.0) (w.seats from).back =
       subst (λ (ds : List Due). Answers w.core from ds (w.seats from).back) (ap (take n) part.is ∙ r.1) s.back in
       from_there t.generation from k w.pieces
-      (any_kept (λ (p : Piece). nat_eq p.from from) (is_from_to t.generation from k) w.pieces
+      (filtered_found (λ (p : Piece). nat_eq p.from from) (is_from_to t.generation from k) w.pieces
       (ap (list_any (is_from_to t.generation from k)) s.pieces
       ∙ piece_there w.core from part.before t r.0 (w.seats from).back k to a))
 
@@ -379,7 +368,7 @@ module _ (w : World) (sound : IsSound w) (idle : (k : ℕ) (i : Item) → Allowe
   came k t from earlier change to low =
       let part = has_part from w.read (first_spot w.first) t.generation t change refl low in
       ⊎_elim (λ h. piece_came k t from part to h) (λ h. absurd (part_fed t from part earlier h))
-      (below (length part.before) (length (w.seats from).fed))
+      (cases_lt (length part.before) (length (w.seats from).fed))
 
   none_stuck : (n : ℕ) → Stuck n
   none_stuck zero k t j rest e h = absurd (omega arith)
@@ -387,7 +376,7 @@ module _ (w : World) (sound : IsSound w) (idle : (k : ℕ) (i : Item) → Allowe
       let d = hole_due f k (length (w.seats k).fed) (line_in w k) t j rest (line_changes k w.read (first_spot w.first))
       (line_near k w.read (first_spot w.first)) e in
       let ps : List Piece = for_place t.generation k w.pieces in
-      let most = at_least (workers_of t.old) (map (λ (p : Piece). p.from) ps)
+      let most = le-length_from_below (map (λ (p : Piece). p.from) ps) (workers_of t.old)
       (λ from low. came k t from
       (λ k2 t2 j2 rest2 e2 h2. none_stuck n k2 t2 j2 rest2 e2 (omega arith)) d.0 d.2 low) in
       let len = length-map ps (λ (p : Piece). p.from) in

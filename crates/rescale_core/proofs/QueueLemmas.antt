@@ -4,6 +4,7 @@ use Rattle.std.proofs.Common.{List, [], ◌∷◌, ◌++◌, length, map, drop, 
 use Rattle.std.proofs.Common.{sym, refl, ap, ◌∙◌, append-nil, append_assoc, arith, eq-eqb}
 use Rattle.std.proofs.Common.{get_or-set_other, get_or-set_same, ne_eqb}
 use Rattle.std.proofs.lemmas.List.{length-map, length-take, map-append, take_all}
+use Rattle.std.proofs.Math.Seq.{drop-append_seam}
 use native.Mathlib.Decide.{ℕ_discrete}
 use Rattle.mfotl_model.specs.declared.event.TimePoint.{TimePoint}
 use Rattle.rescale_core.specs.Chances.Chance.{Sure}
@@ -89,14 +90,10 @@ pub front_length : (front : List Slot) (items : List Item) → chances front ≡
 front_length front items e =
     sym (length-map front chance_of) ∙ ap length e ∙ length-map items (λ i. Sure i)
 
-dropped : {A : Type 0} (a b : List A) → drop (length a) (a ++ b) ≡ b
-dropped [] b = refl
-dropped (x ∷ a) b = dropped a b
-
 -- what counts behind the front
 pub front_standings : (front rest : List Slot)
     → map standing_of rest ≡ drop (length front) (map standing_of (front ++ rest))
 front_standings front rest =
-    sym (dropped (map standing_of front) (map standing_of rest))
+    sym (drop-append_seam (map standing_of front) (map standing_of rest))
     ∙ ap (λ n. drop n (map standing_of front ++ map standing_of rest)) (length-map front standing_of)
     ∙ ap (drop (length front)) (sym (map-append standing_of front rest))

@@ -4,6 +4,7 @@ use Rattle.std.proofs.Common.{List, [], ◌∷◌, ◌++◌, length, map, drop, 
 use Rattle.std.proofs.Common.{⊎_elim, arith, eq-eqb, ne_eqb, lt-ltb, le-ltb, length-append}
 use Rattle.std.proofs.lemmas.List.{drop-append-le, map-append}
 use Rattle.std.proofs.lemmas.List.FromFn.{length-map-range_with_len}
+use Rattle.std.proofs.lemmas.Bool.{cases_lt}
 use Rattle.std.specs.List.{range_with_len}
 use native.Mathlib.Decide.{ℕ_discrete}
 use Rattle.event_splitter.specs.Parts.{parts_for}
@@ -13,7 +14,6 @@ use Rattle.mfotl_model.specs.declared.event.TimePoint.{TimePoint}
 use Rattle.monitorable.specs.Atoms.{atoms_of}
 use Rattle.monitorable.specs.CoreForms.{CoreForm}
 use Rattle.monitorable.specs.Cores.{core_form}
-use Rattle.rescale_core.proofs.Chains.{below}
 use Rattle.rescale_core.proofs.GatherLemmas.{gather_point}
 use Rattle.rescale_core.proofs.Soundness.{step_sound}
 use Rattle.rescale_core.proofs.WorldLemmas.{line_more, spot_more, supplies_length}
@@ -74,7 +74,7 @@ slices_are c g n s p q = ⊎_elim
     ∙ ap (λ b. cond b (Ready (Slice g n (slice_for c s q p)) ∷ []) []) (sym (lt-ltb q (workers_of s) h)))
     (λ h. no_slice g n 0 (λ k. slice_for c s k p) (workers_of s) q (inr (omega arith))
     ∙ ap (λ b. cond b (Ready (Slice g n (slice_for c s q p)) ∷ []) []) (sym (le-ltb q (workers_of s) h)))
-    (below q (workers_of s))
+    (cases_lt q (workers_of s))
 
 slice_chances : (c : CoreForm) (g n : ℕ) (s : Strategy) (log : List TimePoint) (p : TimePoint) (pieces : List Piece)
     (q : ℕ) → n ≡ length log

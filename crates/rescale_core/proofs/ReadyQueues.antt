@@ -2,7 +2,7 @@
 use Rattle.std.proofs.Common.{◌≡◌, ◌⊎◌, ℕ, zero, suc, ◌+◌, ◌<◌, ◌≤◌, Bool, true, false, ◌&&◌, cond, nat_eq, nat_lt}
 use Rattle.std.proofs.Common.{Option, Some, None, option_map, List, [], ◌∷◌, ◌++◌, length, map, drop, refl, sym, ap}
 use Rattle.std.proofs.Common.{◌∙◌, subst, inl, inr, ⊎_elim, arith, eq-eqb, eqb-true, ne_eqb}
-use Rattle.std.proofs.lemmas.List.{length-map}
+use Rattle.std.proofs.lemmas.List.{length-map, drop_all}
 use Rattle.std.specs.List.{AllByRecursion, range_with_len}
 use Rattle.mfotl_model.specs.Strategies.{workers_of}
 use Rattle.monitorable.specs.CoreForms.{CoreForm}
@@ -141,12 +141,6 @@ drop_some [] j x e = cc
 drop_some (y ∷ xs) zero x e = let h : y ≡ x = cc in ap (λ z. z ∷ xs) h
 drop_some (y ∷ xs) (suc j) x e = drop_some xs j x e
 
-drop_past : {A : Type 0} (xs : List A) (n : ℕ) → length xs ≤ n → drop n xs ≡ []
-drop_past [] zero h = refl
-drop_past [] (suc n) h = refl
-drop_past (x ∷ xs) zero h = absurd (omega arith)
-drop_past (x ∷ xs) (suc n) h = drop_past xs n (omega arith)
-
 -- ---- what is due
 
 module _ (c : CoreForm) (k : ℕ) (pieces : List Piece) (f : ℕ → Option ChangeOfStrategy)
@@ -170,7 +164,7 @@ module _ (c : CoreForm) (k : ℕ) (pieces : List Piece) (f : ℕ → Option Chan
       (λ last.
       ap (λ b. ready_by (Sure (Adopt p t.new) ∷ map (chance c k pieces) ds) (cond b Last Within ∷ map standing ds))
       (eq-eqb (j + 1) (workers_of t.old) last)
-      ∙ ap (λ ps. adopts t (p ∷ ps)) (sym (drop_past (these t) (suc j) (omega arith)))
+      ∙ ap (λ ps. adopts t (p ∷ ps)) (sym (drop_all (suc j) (these t) (omega arith)))
       ∙ ap (adopts t) (sym (drop_some (these t) j p e)))
       (λ more.
       let less = more.0 in

@@ -1,6 +1,7 @@
 -- A router tells where a world has ended.
 use Rattle.std.proofs.Common.{◌≡◌, ℕ, zero, suc, true, false, ◌&&◌, nat_eq, Option, Some, None, List, [], ◌∷◌}
 use Rattle.std.proofs.Common.{length, get_or, sym, refl, ap, ◌∙◌, arith, eqb-true}
+use Rattle.std.proofs.lemmas.List.{nil_from_length}
 use Rattle.std.specs.List.{list_all}
 use Rattle.std.specs.Option.{is_some}
 use Rattle.verdict_merge.specs.Emitted.{after_emit, merged}
@@ -13,13 +14,9 @@ use Rattle.rescale_core.specs.Worlds.{World, IsGathered}
 use Rattle.rescale_core.specs.declared.slot.Slot.{Slot}
 use Rattle.rescale_core.specs.declared.router.Router.{Router}
 
-none_inside : (xs : List Slot) → length xs ≡ 0 → xs ≡ []
-none_inside [] e = refl
-none_inside (x ∷ xs) e = absurd (omega arith)
-
 all_clear : (xs : List (List Slot)) → list_all is_clear xs ≡ true → (k : ℕ) → queue_at xs k ≡ []
 all_clear [] h k = refl
-all_clear (x ∷ xs) h zero = none_inside x (eqb-true (length x) 0 (and_left (is_clear x) (list_all is_clear xs) h))
+all_clear (x ∷ xs) h zero = nil_from_length x (eqb-true (length x) 0 (and_left (is_clear x) (list_all is_clear xs) h))
 all_clear (x ∷ xs) h (suc k) = all_clear xs (and_right (is_clear x) (list_all is_clear xs) h) k
 
 clear_all : (xs : List (List Slot)) → ((k : ℕ) → chances (queue_at xs k) ≡ []) → list_all is_clear xs ≡ true

@@ -3,6 +3,7 @@ use Rattle.std.proofs.Common.{◌≡◌, ℕ, zero, suc, ◌+◌, ◌<◌, ◌�
 use Rattle.std.proofs.Common.{IfNone, IfSome, Option, Some, None, List, [], ◌∷◌, ◌++◌, length, map, drop, get_or}
 use Rattle.std.proofs.Common.{sym, refl, ap, ◌∙◌, subst, arith}
 use Rattle.std.proofs.Common.{eqb-true}
+use Rattle.std.proofs.Math.Seq.{drop-append_seam}
 use Rattle.mfotl_model.specs.Strategies.{workers_of}
 use Rattle.monitorable.specs.Cores.{core_form}
 use Rattle.verdict_merge.specs.Emitted.{Emits}
@@ -13,7 +14,6 @@ use Rattle.rescale_core.proofs.Filling.{all_filled, are_next}
 use Rattle.rescale_core.proofs.SlotLemmas.{fillings, put_chances, put_standings}
 use Rattle.rescale_core.proofs.Soundness.{step_sound}
 use Rattle.rescale_core.proofs.Collecting.{collect_sound}
-use Rattle.rescale_core.proofs.Pieces.{drop_front}
 use Rattle.rescale_core.specs.Queues.{all_put, chances, queue_at}
 use Rattle.rescale_core.specs.Routing.{HasTaken, IsGatherOf, IsRouterOf, MayAdd}
 use Rattle.rescale_core.specs.Slots.{standing_of}
@@ -30,7 +30,7 @@ use Rattle.rescale_core.specs.declared.router.Router.{Router}
 
 pub outs_back : (w : World) (k n : ℕ) (outs : List Out) → HasTaken w k n outs → not_back (w.seats k) ≡ outs
 outs_back w k n outs taken =
-    ap (drop (length (w.seats k).back)) taken.gave ∙ drop_front (w.seats k).back outs
+    ap (drop (length (w.seats k).back)) taken.gave ∙ drop-append_seam (w.seats k).back outs
 
 module _ (r x : Router) (w : World) (is : IsRouterOf r w) (k n : ℕ) (outs : List Out) (taken : HasTaken w k n outs)
     (core : core_form x.core ≡ core_form r.core) (strategy : x.strategy ≡ r.strategy)

@@ -4,10 +4,12 @@ use Rattle.std.proofs.Common.{List, [], ◌∷◌, ◌++◌, length, map, sym, r
 use Rattle.std.proofs.Common.{⊎_elim, append-nil, arith, eq-eqb, ne_eqb, length-append}
 use Rattle.std.specs.List.{range_with_len}
 use Rattle.std.proofs.lemmas.List.Elements.{filter-append}
+use Rattle.std.proofs.lemmas.Bool.{cases_lt}
+use Rattle.std.proofs.Permutation.{every_append}
 use native.Mathlib.Decide.{ℕ_discrete}
 use Rattle.mfotl_model.specs.Strategies.{Strategy, workers_of}
-use Rattle.rescale_core.proofs.Chains.{below, taken_if, left_out}
-use Rattle.rescale_core.proofs.Fitting.{every_more, every_map}
+use Rattle.rescale_core.proofs.Chains.{taken_if, left_out}
+use Rattle.rescale_core.proofs.Fitting.{every_map}
 use Rattle.rescale_core.proofs.LogLemmas.{settled_more}
 use Rattle.rescale_core.proofs.WorldLemmas.{if_either, behind_change}
 use Rattle.rescale_core.specs.Lines.{ChangeOfStrategy, Spot, Due, change_at, moved, line, place, AreSound}
@@ -241,7 +243,7 @@ rows_came f c k lo (Slicing g s log p ∷ ds) os u sl o a = let mid : ℕ = sett
     (slice_rows_came f c k lo hi g s log p (settled_in c log) (mid - settled_in c log) sl.0 o.0 low (omega arith)
     (omega arith) high) in
     subst (AllByRecursion (CameRow f c k lo hi)) (sym (ap rows_in a.2 ∙ rows_more a.0 a.1))
-    (every_more (CameRow f c k lo hi) (rows_in a.0) (rows_in a.1) here
+    (every_append (CameRow f c k lo hi) (rows_in a.0) (rows_in a.1) here
     (every_map (CameRow f c k mid hi) (CameRow f c k lo hi) (rows_in a.1)
     (λ r. came_row_wider f c k mid lo hi r (omega arith)) rest))
 rows_came f c k lo (Parting t ∷ ds) os u s o a = let rest = rows_came f c k lo ds a.1 u s o a.4 in
@@ -327,7 +329,7 @@ rows_lone f c k lo i (Slicing g s log p ∷ ds) os u sl o a =
     subst LoneRow (sym (ap (λ x. rows_at i (rows_in x)) a.2 ∙ at_more i a.0 a.1))
     (slice_lone f c k g s log p ds i a.0 a.1 u.1 u.2 sl.1 o.1 a.3 a.4
     (rows_lone f c k (settled_in c (log ++ p ∷ [])) i ds a.1 u.2 sl.1 o.1 a.4)
-    (below i (settled_in c (log ++ p ∷ []))))
+    (cases_lt i (settled_in c (log ++ p ∷ []))))
 rows_lone f c k lo i (Parting t ∷ ds) os u s o a =
     subst LoneRow (sym (ap (λ x. rows_at i (rows_in x)) a.2 ∙ at_more i a.0 a.1))
     (lone_right (rows_at i (rows_in a.0)) (rows_at i (rows_in a.1))
@@ -350,7 +352,7 @@ line_owns k (Point p ∷ es) a = let more : List Due = line k (moved a (Point p)
     (sym (taken_if k (workers_of a.strategy) (Slicing a.generation a.strategy a.points p ∷ []) h)) (h, rest))
     (λ h. subst (λ x. Owns k (x ++ more))
     (sym (left_out k (workers_of a.strategy) (Slicing a.generation a.strategy a.points p ∷ []) h)) rest)
-    (below k (workers_of a.strategy))
+    (cases_lt k (workers_of a.strategy))
 line_owns k (Change x ∷ es) a = let more : List Due = line k (moved a (Change x)) es in
     let t : ChangeOfStrategy = change_at a x in
     let rest : Owns k more = line_owns k es (moved a (Change x)) in

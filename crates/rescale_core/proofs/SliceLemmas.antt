@@ -1,11 +1,12 @@
 -- What a worker does with a slice.
-use Rattle.std.proofs.Common.{◌≡◌, ℕ, ◌+◌, ◌-◌, ◌<◌, ◌≤◌, ◌^◌, Bool, true, false, cond, ◌||◌, List, []}
+use Rattle.std.proofs.Common.{◌≡◌, ℕ, ◌+◌, ◌-◌, ◌<◌, ◌≤◌, ◌^◌, cond, List, []}
 use Rattle.std.proofs.Common.{◌∷◌, ◌++◌}
-use Rattle.std.proofs.Common.{length, map, drop, get_or, slice_index, filter, sym, refl, ap, ◌∙◌, subst, arith}
+use Rattle.std.proofs.Common.{length, map, drop, get_or, slice_index, sym, refl, ap, ◌∙◌, subst, arith}
 use Rattle.std.proofs.Common.{length-append, lt-ltb}
 use Rattle.std.proofs.lemmas.List.{get_or-drop, length-drop, length-map}
-use Rattle.std.specs.List.{AllByRecursion, list_any, range_with_len}
+use Rattle.std.specs.List.{AllByRecursion, range_with_len}
 use Rattle.mfotl_model.proofs.RegionLemmas.{strategy_passes}
+use Rattle.mfotl_model.proofs.LogicLemmas.{among_range, filtered_found}
 use Rattle.mfotl_model.specs.Exact.{AllExact, View}
 use Rattle.mfotl_model.specs.FreeVariables.{fv, among}
 use Rattle.mfotl_model.specs.Log.{times}
@@ -13,7 +14,6 @@ use Rattle.mfotl_model.specs.Regions.{Passes, near_of}
 use Rattle.mfotl_model.specs.Slices.{slice}
 use Rattle.mfotl_model.specs.Strategies.{Strategy, workers_of}
 use Rattle.mfotl_model.specs.Tables.{TableOf}
-use Rattle.mfotl_model.specs.declared.event.Event.{Event}
 use Rattle.mfotl_model.specs.declared.event.TimePoint.{TimePoint}
 use Rattle.monitorable.proofs.SoundLaw.{parts_are_sound}
 use Rattle.monitorable.specs.Atoms.{atoms_of}
@@ -26,7 +26,7 @@ use Rattle.monitor_state.specs.Stands.{StateOf, Stands}
 use Rattle.monitor_state.specs.Steps.{Premises, Steps as StepsOn, longer}
 use Rattle.monitor_state.specs.declared.monitor.Monitor.{Monitor}
 use Rattle.rescale_core.proofs.LogLemmas.{settled_within}
-use Rattle.rescale_core.proofs.OwnedLemmas.{among_range, owned_same}
+use Rattle.rescale_core.proofs.OwnedLemmas.{owned_same}
 use Rattle.rescale_core.specs.Lines.{Due}
 use Rattle.rescale_core.specs.Lines.Due.{Slicing, Parting, Hole}
 use Rattle.rescale_core.specs.Monitors.{IsMonitor}
@@ -45,30 +45,11 @@ use Rattle.rescale_core.specs.declared.settled.Settled.{Settled}
 
 -- ---- what a slice has
 
-part_kept : (p : Event → Bool) (q : Event → Bool) (db : List Event) → list_any q (filter p db) ≡ true
-    → list_any q db ≡ true
-part_kept p q [] h = h
-part_kept p q (e ∷ db) h = at (p e) (part_kept p q db) h
-  where
-    on : (b : Bool) → (list_any q (filter p db) ≡ true → list_any q db ≡ true)
-        → (b || list_any q (filter p db)) ≡ true → (b || list_any q db) ≡ true
-    on true more h = refl
-    on false more h = more h
-
-    or_true : (b : Bool) → (b || true) ≡ true
-    or_true true = refl
-    or_true false = refl
-
-    at : (b : Bool) → (list_any q (filter p db) ≡ true → list_any q db ≡ true)
-        → list_any q (cond b (e ∷ filter p db) (filter p db)) ≡ true → (q e || list_any q db) ≡ true
-    at true more h = on (q e) more h
-    at false more h = ap (λ c. q e || c) (more h) ∙ or_true (q e)
-
 -- the region of a worker passes on
 pub region_passes : (c : CoreForm) (s : Strategy) (k : ℕ) → IsFor c s → Passes (fv (meaning c)) (near_of s k)
 region_passes c s k is =
     strategy_passes s (fv (meaning c)) k
-    (λ y low. ap (among y) is.variables ∙ among_range y 0 (length s) (omega arith) (omega arith))
+    (λ y low. ap (among y) is.variables ∙ among_range 0 (length s) y (omega arith) (omega arith))
 
 -- a slice is all that a step needs of a time-point
 pub slice_premises : (c : CoreForm) (s : Strategy) (k : ℕ) (log : List TimePoint) (q : TimePoint) → IsFor c s
@@ -83,7 +64,7 @@ slice_premises c s k log q is follows =
       sound = parts_are_sound (λ y. []) c (is.fits (λ y. [])) is.apart;
       ts = refl;
       same = slice_is_enough (view_of c (near_of s k) log) c (slice (near_of s k) (atoms_of c) q.db) q.db passes
-          (λ e h. h) (λ e h. part_kept _ _ q.db h);
+          (λ e h. h) (λ e h. filtered_found _ _ q.db h);
     }
 
 -- ---- the rows of settled positions

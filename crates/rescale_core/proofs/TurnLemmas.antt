@@ -4,13 +4,13 @@ use Rattle.std.proofs.Common.{replicate}
 use Rattle.std.proofs.Common.{sym, refl, ap, ◌∙◌, subst, append_assoc, append-nil, arith, eq-eqb, ne_eqb}
 use Rattle.std.proofs.Common.{length-append}
 use Rattle.std.proofs.Common.{length-set, slice_set}
-use mathlib.Core.Option.{some}
+use mathlib.Core.Option.{some, some-injective}
 use lib.ListN.{get_elem?}
 use Rattle.turn_hub.specs.Answers.{MayHand, swapped_line}
 use Rattle.turn_hub.specs.Ends.{main_view}
-use Rattle.rescale_core.proofs.DriverLemmas.{answered_last, get_below, get_here, line_kept, lines_set, may_fed}
+use Rattle.turn_hub.proofs.Opens.{below_length}
+use Rattle.rescale_core.proofs.DriverLemmas.{answered_last, get_here, line_kept, lines_set, may_fed}
 use Rattle.rescale_core.proofs.DriverLemmas.{seed_in}
-use Rattle.rescale_core.proofs.DriverLemmas.{some_is}
 use Rattle.rescale_core.proofs.Taking.{Took, reaches_on, takes_all, took_router}
 use Rattle.rescale_core.specs.Moving.{CellLine, HasTurn, IsDriverOf, IsLineOf, DriverMoves, Reaches, collects, lines_of}
 use Rattle.rescale_core.specs.Moving.StepKind.{Feeds, Takes}
@@ -43,7 +43,7 @@ module _ (d e : Driver) (k n : ℕ) (outs : List Out) (l : CellLine) (at : get_e
     (n_is : n ≡ l.last) (told : ToldBy l.seed l.handed (l.back ++ outs))
     (main : lines_of e ≡ slice_set (lines_of d) k (swapped_line l outs [])) where
   near : k < length (lines_of d)
-  near = get_below (lines_of d) k l at
+  near = below_length (lines_of d) k l at
 
   has_turn : HasTurn (lines_of e) k
   has_turn = (
@@ -226,7 +226,7 @@ module _ (d : Driver) (router : Router) (k : ℕ) (items : List Item) (turn : Ha
         let x : World = run_steps w (feeds k items) in
         let h = handed_all items w k in
         let il = is.lines k l at in
-        let same : l ≡ turn.0 = some_is l turn.0 (sym at ∙ turn.1) in
+        let same : l ≡ turn.0 = some-injective l turn.0 (sym at ∙ turn.1) in
         let zero_last : l.last ≡ 0 = ap (λ (y : CellLine). y.last) same ∙ turn.3 in
         let none : outs ≡ [] =
         subst (λ n. Answers w.core k (take n (drop (w.seats k).taken (line_in w k))) outs) zero_last
@@ -250,7 +250,7 @@ module _ (d : Driver) (router : Router) (k : ℕ) (items : List Item) (turn : Ha
                   omega arith;
               mine = refl;
             }) (λ q v other g. line_kept w x q v h.core h.first (h.others q other) (is.lines q v g));
-            beyond = beyond_kept d e w x k (swapped_line l outs items) main (get_below (lines_of d) k l at) is
+            beyond = beyond_kept d e w x k (swapped_line l outs items) main (below_length (lines_of d) k l at) is
                 h.others;
           },
         )

@@ -4,6 +4,7 @@ use Rattle.std.proofs.Common.{◌≡◌, ◌≢◌, ◌∙◌, ◌⊎◌, inl, i
 use Rattle.std.proofs.Common.{List, [], ◌∷◌, ◌++◌, length, Option, Some, None, Result, Ok, Err, ap, refl, sym, subst}
 use Rattle.std.proofs.lemmas.Bool.{le-leb, lt-ltb, le-ltb, and_parts}
 use Rattle.std.proofs.lemmas.List.{append_assoc}
+use Rattle.std.proofs.Math.Bool.{and-false}
 use Rattle.mfotl_lex.specs.declared.fault.LexFault.{LexFault}
 use Rattle.mfotl_lex.specs.declared.kind.Kind.{Kind}
 use Rattle.mfotl_lex.specs.declared.kind.Kind.TheVariants.{Word, Integer, Comma}
@@ -47,7 +48,7 @@ use Rattle.slice_strategy.proofs.ChangeMoves.{LeadsTo, Shows, Moves, moves, plac
 use Rattle.slice_strategy.proofs.ChangeParts.{IsRule, Place, Outside, ToBefore, Inside, FitsPlace, spell_place}
 use Rattle.slice_strategy.proofs.ChangeParts.{spell_number, inside_of, at_place, KeepsPlace, current_of, due_by}
 use Rattle.slice_strategy.proofs.ChangeParts.{number_due, stands_at, shows_rule}
-use Rattle.slice_strategy.proofs.ChangeRuns.{IsNoBefore, before_word, word_only, and_false, within_of, else_step}
+use Rattle.slice_strategy.proofs.ChangeRuns.{IsNoBefore, before_word, word_only, within_of, else_step}
 use Rattle.slice_strategy.proofs.ChangeRuns.{before_step, equal_step, name_again, whole_begins}
 
 module _ (vars : List Var) where
@@ -187,10 +188,10 @@ module _ (vars : List Var) where
         (of_kind Integer _ c.cause.kind (λ e. cc))
     within_shows (CutSort at) c rule =
         own_shows c.inner c.place (ToEqual c.cause.entries c.cause.name c.cause.equal) c.cause.spelled tt (CutSort at)
-        c.cause (and_false (is_before t.kind t.text))
+        c.cause (and-false (is_before t.kind t.text))
     within_shows (CutOrder at) c rule =
         own_shows c.inner c.place (ToComma c.cause.entries c.cause.opening c.cause.integers c.cause.comma)
-        c.cause.spelled tt (CutOrder at) c.cause (and_false (is_before t.kind t.text))
+        c.cause.spelled tt (CutOrder at) c.cause (and-false (is_before t.kind t.text))
     within_shows (TooManyWorkers at) c rule =
         over_shows at (record { inner = c.inner; place = c.place; over = c.cause.over }) c.cause.behind
     within_shows Memory c rule = absurd c.cause

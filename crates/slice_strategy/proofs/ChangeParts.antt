@@ -6,7 +6,7 @@ use Rattle.std.proofs.lemmas.Bool.{leb-true, leb-false, ltb-true, ltb-false}
 use Rattle.mfotl_lex.specs.declared.kind.Kind.TheVariants.{Word}
 use Rattle.mfotl_lex.specs.FirstFault.{◌>>=◌, run}
 use Rattle.mfotl_lex.specs.Lexemes.{Lexeme}
-use Rattle.mfotl_lex.proofs.FirstFaultLaws.{run-append, run_none}
+use Rattle.mfotl_lex.proofs.FirstFaultLaws.{run-append, run_none, bind_same}
 use Rattle.mfotl_lex.proofs.Verdicts as layer
 use Rattle.mfotl_lex.proofs.Verdicts.{breaks, then_judged, judged_ok, judged_rule, judged_as}
 use Rattle.mfotl_model.specs.declared.policy.Var.{Var}
@@ -29,7 +29,7 @@ use Rattle.slice_strategy.specs.Reading as strategy
 use Rattle.slice_strategy.specs.Reading.{Between, ended}
 use Rattle.slice_strategy.proofs.Moves as strategies
 use Rattle.slice_strategy.proofs.Moves.{AreFew, so_far, behind, ended_judged}
-use Rattle.slice_strategy.proofs.PartReads.{KeepsPart, few_kept, kept_whole, few_of, part_read}
+use Rattle.slice_strategy.proofs.PartReads.{KeepsPart, few_kept, kept_whole, few_of, part_read, all_of}
 use Rattle.slice_strategy.proofs.ChangeRuns.{IsNoBefore, alike, before_step, whole_begins}
 
 -- a fault of a rule beside the grammar
@@ -122,15 +122,6 @@ module _ (vars : List Var) where
         shown = ap (λ r. lifted r >>= λ q. Ok (f q)) b.shown;
       })
 
-  all_of : (r : Result ScriptOf ChangeFault) → (r >>= λ x. Ok x) ≡ r
-  all_of (Ok x) = refl
-  all_of (Err fault) = refl
-
-  bound_as : (r : Result ScriptOf ChangeFault) (f g : ScriptOf → Result ScriptOf ChangeFault)
-      → ((s : ScriptOf) → f s ≡ g s) → (r >>= f) ≡ (r >>= g)
-  bound_as (Ok s) f g same = same s
-  bound_as (Err fault) f g same = refl
-
   one_token : (t : Lexeme) (s : ScriptOf) → run (step vars) (t ∷ []) s ≡ step vars s t
   unfolding run
   one_token t s = all_of (step vars s t)
@@ -138,7 +129,7 @@ module _ (vars : List Var) where
   one_more : (front : List Lexeme) (t : Lexeme) → Told (front ++ t ∷ []) ≡ (Told front >>= λ s. step vars s t)
   one_more front t =
       run-append (step vars) front (t ∷ []) nothing_read
-      ∙ bound_as (Told front) (λ s. run (step vars) (t ∷ []) s) (λ s. step vars s t) (λ s. one_token t s)
+      ∙ bind_same (Told front) (λ s. run (step vars) (t ∷ []) s) (λ s. step vars s t) (λ s. one_token t s)
 
   -- the changes that are whole, up to the end of the last entry
   abbrev pub at_whole : Script → ScriptOf

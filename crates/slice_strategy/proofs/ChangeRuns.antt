@@ -1,11 +1,12 @@
 -- In a change the reader of scripts does what the reader of strategies does, but that a `before` waits for a `=`.
 use Rattle.std.proofs.Common.{◌≡◌, ◌≢◌, ◌∙◌, ℕ, Bool, true, false, ◌&&◌, List, [], ◌∷◌, ◌++◌, Some}
 use Rattle.std.proofs.Common.{Result, Ok, Err, ap, refl, sym, if◌then◌else◌}
+use Rattle.std.proofs.Math.Bool.{and-false}
 use Rattle.mfotl_lex.specs.declared.kind.Kind.{Kind}
 use Rattle.mfotl_lex.specs.declared.kind.Kind.TheVariants.{Word, Integer, Comma, Equal}
 use Rattle.mfotl_lex.specs.FirstFault.{◌>>=◌, run}
 use Rattle.mfotl_lex.specs.Lexemes.{Lexeme}
-use Rattle.mfotl_lex.proofs.FirstFaultLaws.{run-append, run_none}
+use Rattle.mfotl_lex.proofs.FirstFaultLaws.{run-append, run_none, bind_same}
 use Rattle.mfotl_model.specs.declared.policy.Var.{Var}
 use Rattle.slice_strategy.specs.declared.change.Change.{Change}
 use Rattle.slice_strategy.specs.declared.change.ChangeFault.{ChangeFault}
@@ -22,7 +23,7 @@ use Rattle.slice_strategy.specs.Grammar.{spell_part}
 use Rattle.slice_strategy.specs.Reading.{Partial, Between, ended, with_stage, stage_step, step, nothing_read}
 use Rattle.slice_strategy.proofs.CauseLaw.{closed_few}
 use Rattle.slice_strategy.proofs.Moves.{behind, settled_other}
-use Rattle.slice_strategy.proofs.PartReads.{stands_behind}
+use Rattle.slice_strategy.proofs.PartReads.{stands_behind, all_of, one_more}
 
 pub before_word : (k : Kind) (text : List ℕ) → is_before k text ≡ true → k ≡ Word
 before_word Word text e = refl
@@ -31,10 +32,6 @@ before_word _ text e = absurd cc
 pub word_only : (k : Kind) (text : List ℕ) → k ≢ Word → is_before k text ≡ false
 word_only Word text other = absurd (other refl)
 word_only _ text other = refl
-
-pub and_false : (b : Bool) → (b && false) ≡ false
-and_false true = refl
-and_false false = refl
 
 -- an entry's name is no `before`
 abbrev pub IsNoBefore : Part → Type 0
@@ -82,31 +79,14 @@ module _ (vars : List Var) (done : List Change) (number : ℕ) where
   abbrev Told : List Lexeme → Result ScriptOf ChangeFault
   Told ts = run (script.step vars) ts fresh
 
-  all_of : {A E : Type 0} (r : Result A E) → (r >>= λ x. Ok x) ≡ r
-  all_of (Ok x) = refl
-  all_of (Err fault) = refl
-
-  bound_as : {A B E : Type 0} (r : Result A E) (f g : A → Result B E) → ((x : A) → f x ≡ g x) → (r >>= f) ≡ (r >>= g)
-  bound_as (Ok x) f g same = same x
-  bound_as (Err fault) f g same = refl
-
   one_told : (t : Lexeme) (s : ScriptOf) → run (script.step vars) (t ∷ []) s ≡ script.step vars s t
   unfolding run
   one_told t s = all_of (script.step vars s t)
 
-  one_ran : (t : Lexeme) (p : Partial) → run (step vars) (t ∷ []) p ≡ step vars p t
-  unfolding run
-  one_ran t p = all_of (step vars p t)
-
   more_told : (front : List Lexeme) (t : Lexeme) → Told (front ++ t ∷ []) ≡ (Told front >>= λ s. script.step vars s t)
   more_told front t =
       run-append (script.step vars) front (t ∷ []) fresh
-      ∙ bound_as (Told front) (λ s. run (script.step vars) (t ∷ []) s) (λ s. script.step vars s t) (λ s. one_told t s)
-
-  more_ran : (front : List Lexeme) (t : Lexeme) → Ran (front ++ t ∷ []) ≡ (Ran front >>= λ p. step vars p t)
-  more_ran front t =
-      run-append (step vars) front (t ∷ []) (nothing_read vars)
-      ∙ bound_as (Ran front) (λ p. run (step vars) (t ∷ []) p) (λ p. step vars p t) (λ p. one_ran t p)
+      ∙ bind_same (Told front) (λ s. run (script.step vars) (t ∷ []) s) (λ s. script.step vars s t) (λ s. one_told t s)
 
   -- the tokens are read alike
   abbrev pub Alike : List Lexeme → Type 0
@@ -124,7 +104,7 @@ module _ (vars : List Var) (done : List Change) (number : ℕ) where
       → Alike (front ++ t ∷ [])
   then_alike front t alike same =
       more_told front t ∙ ap (λ r. r >>= λ s. script.step vars s t) alike ∙ then_by t (Ran front) same
-      ∙ ap within_of (sym (more_ran front t))
+      ∙ ap within_of (sym (one_more vars front t))
 
   -- behind a part, a token that is no `before` or not at an entry's place
   part_alike : (p : Part) (t : Lexeme) → FitsPart p → Alike (spell_part p)
@@ -199,21 +179,21 @@ module _ (vars : List Var) (done : List Change) (number : ℕ) where
       by false no_before =
           let name = part_alike (Whole es) n fits.0 alike
           (ap (λ b. b && may_begin (behind vars (Whole es)).stage) no_before) in
-          part_alike (ToName es n) e (fits.0, fits.1) name (and_false (is_before e.kind e.text))
+          part_alike (ToName es n) e (fits.0, fits.1) name (and-false (is_before e.kind e.text))
       by true before =
           let front = spell_part (Whole es) in
           more_told (front ++ n ∷ []) e
           ∙ ap (λ r. r >>= λ s. script.step vars s e)
           (more_told front n ∙ ap (λ r. r >>= λ s. script.step vars s n) alike)
           ∙ two_by es n e fits.0 before fits.2 (Ran front) refl
-          ∙ ap (λ r. within_of (r >>= λ p. step vars p e)) (sym (more_ran front n))
-          ∙ ap within_of (sym (more_ran (front ++ n ∷ []) e))
+          ∙ ap (λ r. within_of (r >>= λ p. step vars p e)) (sym (one_more vars front n))
+          ∙ ap within_of (sym (one_more vars (front ++ n ∷ []) e))
 
   method_alike : (es : Entries) (n e w : Lexeme) (m : Method) → FitsPart (ToMethod es n e w m)
       → Alike (spell_part (Whole es)) → Alike (spell_part (ToMethod es n e w m))
   method_alike es n e w m fits alike =
       part_alike (ToEqual es n e) w (fits.0, fits.1, fits.2)
-      (equal_alike es n e (fits.0, fits.1, fits.2) alike) (and_false (is_before w.kind w.text))
+      (equal_alike es n e (fits.0, fits.1, fits.2) alike) (and-false (is_before w.kind w.text))
 
   colon_alike : (es : Entries) (o : Opening) → FitsPart (ToColon es o) → Alike (spell_part (Whole es))
       → Alike (spell_part (ToColon es o))
@@ -221,7 +201,7 @@ module _ (vars : List Var) (done : List Change) (number : ℕ) where
       let f = fits.1 in
       part_alike (ToMethod es o.name o.equal o.word o.method) o.colon (fits.0, f.0, f.1, f.2, f.3)
       (method_alike es o.name o.equal o.word o.method (fits.0, f.0, f.1, f.2, f.3) alike)
-      (and_false (is_before o.colon.kind o.colon.text))
+      (and-false (is_before o.colon.kind o.colon.text))
 
   -- no Integer and no comma is a `before`
   of_kind : (t : Lexeme) (k : Kind) (b : Bool) → t.kind ≡ k → k ≢ Word → (is_before t.kind t.text && b) ≡ false

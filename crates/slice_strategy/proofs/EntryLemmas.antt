@@ -2,7 +2,7 @@
 use Rattle.std.proofs.Common.{◌≡◌, ◌∙◌, ℕ, zero, suc, ◌+◌, ◌*◌, ◌/◌, ◌%◌, ◌<◌, ◌≤◌, Bool, true, false, not, nat_eq}
 use Rattle.std.proofs.Common.{◌&&◌, ◌||◌, List, [], ◌∷◌, length, drop, get_or, Some, option_map}
 use Rattle.std.proofs.Common.{slice_get, add-zero, ap, refl, sym, subst, arith}
-use Rattle.std.proofs.lemmas.List.{drop_more}
+use Rattle.std.proofs.lemmas.List.{drop_more, drop_all}
 use Rattle.std.proofs.lemmas.Nat.{mul-le, mod_below, div-mul-add}
 use Rattle.std.proofs.Math.Nat.{mul_comm, mul_assoc, add-mul, mul-one}
 use Rattle.std.proofs.lemmas.Option.{slice_get-map, slice_get-get_or}
@@ -18,12 +18,6 @@ use Rattle.slice_strategy.specs.Slicers.{full_row}
 use Rattle.slice_strategy.specs.Limits.{max_workers}
 use Rattle.slice_strategy.specs.SlicerLemmas.{both_some, one_owner}
 
-pub drop_past : {X : Type 0} (xs : List X) (i : ℕ) → length xs ≤ i → drop i xs ≡ []
-drop_past [] zero past = refl
-drop_past [] (suc i) past = refl
-drop_past (x ∷ xs) zero past = absurd (omega arith)
-drop_past (x ∷ xs) (suc i) past = drop_past xs i (omega arith)
-
 -- the entries from place i on
 abbrev pub behind : List Entry → ℕ → Strategy
 behind items i = entries_of (drop i items)
@@ -34,7 +28,7 @@ entry_next items i e low is =
     ap entries_of (drop_more items i e low) ∙ ap (λ x. entry_of x ∷ behind items (i + 1)) (sym is)
 
 pub none_behind : (items : List Entry) (i : ℕ) → length items ≤ i → behind items i ≡ []
-none_behind items i past = ap entries_of (drop_past items i past)
+none_behind items i past = ap entries_of (drop_all i items past)
 
 pub quotient : (p w : ℕ) → 0 < p → p * w / p ≡ w
 quotient p w some = ap (λ n. n / p) (mul_comm p w) ∙ by

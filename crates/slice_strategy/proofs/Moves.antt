@@ -3,6 +3,7 @@ use Rattle.std.proofs.Common.{◌≡◌, ◌≢◌, ◌∙◌, inl, inr, ℕ, �
 use Rattle.std.proofs.Common.{List, Option, Some, None, Result, Ok, Err, slice_get, ap, refl, sym}
 use Rattle.std.proofs.Common.{subst, arith}
 use Rattle.std.proofs.lemmas.Bool.{leb-true, leb-false}
+use Rattle.std.proofs.lemmas.Option.{same_Some}
 use Rattle.std.specs.Prelude.{codes, pos, int_le, int_lt}
 use Rattle.std.specs.Str.{bytes_eq}
 use Rattle.mfotl_lex.specs.declared.kind.Kind.{Kind}
@@ -147,7 +148,7 @@ module _ (vars : List Var) where
                     place = refl;
                   },
                 )
-                (λ new. new.first (subst (HasEntry vars es) (same_variable x new.variable (sym e
+                (λ new. new.first (subst (HasEntry vars es) (same_Some x new.variable (sym e
                 ∙ new.free)) h.had))))
             | inr f ↦ inl (
               record { variable = x; free = e; first = f.first },
@@ -156,9 +157,6 @@ module _ (vars : List Var) where
                   (sym (number_named vars t x e)),
             )
           ]
-        where
-          same_variable : (x y : ℕ) → Some x ≡ Some y → x ≡ y
-          same_variable x y e = cc
 
   -- one judgement behind another, for the same fault
   pub name_judged : (es : Entries) → Fits es → AreKnown vars es → (t : Lexeme) → t.kind ≡ Word

@@ -3,6 +3,7 @@ use Rattle.std.proofs.Common.{◌≡◌, ◌∙◌, ap, sym, refl, subst, arith,
 use Rattle.std.proofs.Common.{◌&&◌, ◌||◌, not, nat_eq, List, length, get_or, ◌⊎◌, inl, inr, Option, Some, None, IfSome}
 use Rattle.std.proofs.lemmas.Bool.{and_from, cases_eq, cases_lt}
 use Rattle.std.proofs.lemmas.Nat.{div-mul-add, mod-mul-add, mod_below, mul-le, div-add-mod'}
+use Rattle.std.proofs.Math.Bool.{and-false}
 use Rattle.std.specs.Option.{unwrap_or}
 use Rattle.mfotl_model.proofs.LogicLemmas.{funext}
 use Rattle.mfotl_model.specs.FreeVariables.{among}
@@ -40,11 +41,7 @@ module _ (high low : ℕ → Bool) (parts place digit rest : ℕ) (some : 0 < pl
 
   apart : (k : ℕ) → (high (k / place) ≡ false) ⊎ (low (k % place) ≡ false) → both k ≡ false
   apart k (inl no_digit) = ap (λ b. b && low (k % place)) no_digit
-  apart k (inr no_rest) = ap (λ b. high (k / place) && b) no_rest ∙ right (high (k / place))
-    where
-      right : (b : Bool) → (b && false) ≡ false
-      right true = refl
-      right false = refl
+  apart k (inr no_rest) = ap (λ b. high (k / place) && b) no_rest ∙ and-false (high (k / place))
 
   module _ (first : ℕ) (least : ℕ) (next above : Option ℕ) (below : IsNearest low rest place least next)
       (first_low : first < parts) (first_near : high first ≡ true) (first_first : NoneFrom 0 first high)

@@ -5,7 +5,7 @@ use Rattle.std.specs.Prelude.{int_lt}
 use Rattle.mfotl_lex.specs.declared.kind.Kind.TheVariants.{Word, Integer, Comma, Colon, Equal}
 use Rattle.mfotl_lex.specs.FirstFault.{◌>>=◌, run}
 use Rattle.mfotl_lex.specs.Lexemes.{Lexeme}
-use Rattle.mfotl_lex.proofs.FirstFaultLaws.{run-append, run_none}
+use Rattle.mfotl_lex.proofs.FirstFaultLaws.{run-append, run_none, bind_same}
 use Rattle.mfotl_lex.proofs.Verdicts as layer
 use Rattle.mfotl_lex.proofs.Verdicts.{then_judged, judged_ok, kept_ok, judged_rule}
 use Rattle.mfotl_model.specs.declared.policy.Var.{Var}
@@ -21,6 +21,11 @@ use Rattle.slice_strategy.specs.Rules.{last_of, number, KeepsRules, IsNew, Suits
 use Rattle.slice_strategy.proofs.EntryLaws.{AreKnown, kept_known, one_worker}
 use Rattle.slice_strategy.proofs.Moves.{IsRule, IsCaused, AreFew, behind, stepped, name_judged, method_judged}
 use Rattle.slice_strategy.proofs.Moves.{first_judged, next_judged, equal_step, colon_step, comma_step}
+
+-- a result that is given on as it is
+pub all_of : {A E : Type 0} (r : Result A E) → (r >>= λ x. Ok x) ≡ r
+all_of (Ok x) = refl
+all_of (Err fault) = refl
 
 module _ (vars : List Var) where
   -- the rules that a part keeps, where the last entry isn't at its end
@@ -62,24 +67,14 @@ module _ (vars : List Var) where
   abbrev pub Reads : Part → Type 0
   Reads p = Told (KeepsPart p) (Ran (spell_part p)) (behind vars p)
 
-  all_of : (r : Result Partial StrategyFault) → (r >>= λ x. Ok x) ≡ r
-  all_of (Ok x) = refl
-  all_of (Err fault) = refl
-
   pub one_token : (t : Lexeme) (p : Partial) → run (step vars) (t ∷ []) p ≡ step vars p t
   unfolding run
   one_token t p = all_of (step vars p t)
 
-  bound_as : (r : Result Partial StrategyFault) (f g : Partial → Result Partial StrategyFault)
-      → ((p : Partial) → f p ≡ g p)
-      → (r >>= f) ≡ (r >>= g)
-  bound_as (Ok p) f g same = same p
-  bound_as (Err fault) f g same = refl
-
-  one_more : (front : List Lexeme) (t : Lexeme) → Ran (front ++ t ∷ []) ≡ (Ran front >>= λ p. step vars p t)
+  pub one_more : (front : List Lexeme) (t : Lexeme) → Ran (front ++ t ∷ []) ≡ (Ran front >>= λ p. step vars p t)
   one_more front t =
       run-append (step vars) front (t ∷ []) (nothing_read vars)
-      ∙ bound_as (Ran front) (λ p. run (step vars) (t ∷ []) p) (λ p. step vars p t) (λ p. one_token t p)
+      ∙ bind_same (Ran front) (λ p. run (step vars) (t ∷ []) p) (λ p. step vars p t) (λ p. one_token t p)
 
   -- a fault of a rule, whatever its cause
   pub told : (front : List Lexeme) (t : Lexeme) (rules : Type 0) (r : Result Partial StrategyFault) (p : Partial)

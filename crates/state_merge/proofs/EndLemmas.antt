@@ -1,13 +1,9 @@
 -- How tables are united one by one, and where nothing is left to unite, that all is united.
-use Rattle.std.proofs.Common.{◌≡◌, ℕ, List, [], ◌∷◌, ◌++◌, length, subst, sym, append_assoc, append-nil, refl, arith}
+use Rattle.std.proofs.Common.{◌≡◌, List, [], ◌∷◌, ◌++◌, subst, sym, append_assoc, append-nil}
 use Rattle.mfotl_model.specs.Tables.{TableOf}
 use Rattle.monitor_state.specs.StateUnions.{ListsUnion, NodesUnion, TableUnion, TablesUnion}
 use Rattle.monitor_state.specs.declared.state.NodeData.{NodeData}
 use Rattle.state_merge.specs.Fits.{AllAlike, ListsFit, TablesFit}
-
-pub none_left : {X : Type 0} (xs : List X) (n : ℕ) → n ≡ length xs → n ≡ 0 → xs ≡ []
-none_left [] n size none = refl
-none_left (x ∷ xs) n size none = absurd (omega arith)
 
 pub tables_done : (a b xs ys out : List TableOf) → xs ≡ [] → TablesFit xs ys
     → ((zs : List TableOf) → TablesUnion xs ys zs → TablesUnion a b (out ++ zs)) → TablesUnion a b out

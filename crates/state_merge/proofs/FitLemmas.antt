@@ -19,13 +19,13 @@ use Rattle.eval_since.specs.declared.recalled.PrevData.{PrevData}
 use Rattle.eval_until.specs.declared.recalled.KeptMarks.{KeptMarks}
 use Rattle.eval_until.specs.declared.recalled.Mark.{Mark}
 use Rattle.eval_until.specs.declared.recalled.NextData.{NextData}
-use Rattle.monitorable.specs.Conjuncts.{PartForm, conjuncts_of}
-use Rattle.monitorable.specs.Conjuncts.PartForm.{Child, Test}
+use Rattle.monitorable.specs.Conjuncts.{conjuncts_of}
 use Rattle.monitorable.specs.CoreForms.{CoreForm, meaning, Not, And, Or, Previous, Next, Since, Until}
 use Rattle.monitorable.specs.NodeCount.{nodes}
 use Rattle.relations.proofs.KeptLemmas.{each_kept}
 use Rattle.relations.specs.declared.table.Table.{Table}
 use Rattle.monitor_state.proofs.SizeLemmas.{since_both_smaller, until_both_smaller}
+use Rattle.monitor_state.proofs.MonitorSteps.{children_append}
 use Rattle.monitor_state.specs.Nodes.{children, filters, left_operand, nodes_of, operands, window_operands}
 use Rattle.monitor_state.specs.Pieces.{PieceStands, near_some, view_of}
 use Rattle.monitor_state.specs.StateInside.{StandsInside}
@@ -47,11 +47,6 @@ use Rattle.state_merge.specs.Fits.{AllAlike, ListsFit, NodesAlike, SinceOrdered,
 use Rattle.state_merge.specs.Pairs.{MarksAscend}
 
 -- ---- a conjunction whose right side filters has no conjunct for each operand
-
-children_append : (xs ys : List PartForm) → children (xs ++ ys) ≡ children xs ++ children ys
-children_append [] ys = refl
-children_append (Child f negated ∷ xs) ys = ap (λ fs. f ∷ fs) (children_append xs ys)
-children_append (Test c wanted ∷ xs) ys = children_append xs ys
 
 last_of : CoreForm → List CoreForm → CoreForm
 last_of d [] = d

@@ -3,41 +3,25 @@ use Rattle.std.proofs.Common.{◌≡◌, ℕ, ◌-◌, ◌≤◌, Bool, true, fa
 use Rattle.std.proofs.Common.{◌∷◌, length, Option, None, Some, refl, sym, ap, ap₂, ◌∙◌, arith, inl, inr}
 use Rattle.std.proofs.lemmas.Bool.{cases_lt, eqb-true}
 use Rattle.std.proofs.lemmas.Bool.Decides.{nat_tests}
+use Rattle.std.proofs.Math.Bool.{or-false, or_self, or_assoc, and-true}
 use Rattle.std.specs.List.{list_any}
 use Rattle.std.specs.Prelude.{min}
 use Rattle.mfotl_model.specs.Intervals.{in_interval, at_most}
 use Rattle.mfotl_model.specs.Satisfaction.{time_at}
 use Rattle.mfotl_model.specs.declared.interval.Interval.{Interval}
+use Rattle.mfotl_model.proofs.LogicLemmas.{or_moved}
 use Rattle.eval_since.specs.Times.{reaches}
 use Rattle.eval_until.specs.declared.recalled.Mark.{Mark}
 use Rattle.monitor_state.specs.JoinedRows.{either, least_time, marks_joined, put_mark, put_time, times_joined}
 use Rattle.monitor_state.specs.JoinedRows.{times_united}
 use Rattle.monitor_state.specs.StateStands.{mark_meets}
 
-or_false : (b : Bool) → (b || false) ≡ b
-or_false true = refl
-or_false false = refl
-
-pub or_self : (b : Bool) → (b || b) ≡ b
-or_self true = refl
-or_self false = refl
-
-or_swap : (a b c : Bool) → (a || (b || c)) ≡ (b || (a || c))
-or_swap true true c = refl
-or_swap true false c = refl
-or_swap false true c = refl
-or_swap false false c = refl
-
-or_grouped : (a b c : Bool) → ((a || b) || c) ≡ (a || (b || c))
-or_grouped true b c = refl
-or_grouped false b c = refl
-
 -- two tests that are right wherever they may be asked, and false elsewhere
 pub pooled_test : (r q ta tb truth : Bool) → (r ≡ true → ta ≡ truth) → (r ≡ false → ta ≡ false) → (q ≡ true → tb
     ≡ truth)
     → (q ≡ false → tb ≡ false) → (r || q) ≡ true → (ta || tb) ≡ truth
 pooled_test true true ta tb truth a lacks b none n = ap₂ (λ x y. x || y) (a refl) (b refl) ∙ or_self truth
-pooled_test true false ta tb truth a lacks b none n = ap₂ (λ x y. x || y) (a refl) (none refl) ∙ or_false truth
+pooled_test true false ta tb truth a lacks b none n = ap₂ (λ x y. x || y) (a refl) (none refl) ∙ or-false truth
 pooled_test false true ta tb truth a lacks b none n = ap₂ (λ x y. x || y) (lacks refl) (b refl)
 pooled_test false false ta tb truth a lacks b none n = absurd (let e : false ≡ true = n in cc)
 
@@ -85,15 +69,15 @@ any_put_time p x (y ∷ ys) = by (nat_lt x y) (nat_eq x y) (λ e. eqb-true x y e
         ≡ (p x || (p y || list_any p ys))
     by true same e h = refl
     by false true e h =
-        sym (ap (λ z. p z || (p y || list_any p ys)) (e refl) ∙ sym (or_grouped (p y) (p y) (list_any p ys))
+        sym (ap (λ z. p z || (p y || list_any p ys)) (e refl) ∙ sym (or_assoc (p y) (p y) (list_any p ys))
         ∙ ap (λ b. b || list_any p ys) (or_self (p y)))
-    by false false e h = ap (λ b. p y || b) h ∙ or_swap (p y) (p x) (list_any p ys)
+    by false false e h = ap (λ b. p y || b) h ∙ or_moved (p y) (p x) (list_any p ys)
 
 any_times : (p : ℕ → Bool) (xs ys : List ℕ) → list_any p (times_united xs ys) ≡ (list_any p xs || list_any p ys)
 any_times p [] ys = refl
 any_times p (x ∷ xs) ys =
     any_put_time p x (times_united xs ys) ∙ ap (λ b. p x || b) (any_times p xs ys)
-    ∙ sym (or_grouped (p x) (list_any p xs) (list_any p ys))
+    ∙ sym (or_assoc (p x) (list_any p xs) (list_any p ys))
 
 -- without an upper end the lesser time serves
 lesser_serves : (lo z x y : ℕ) → nat_le lo (z - min x y) ≡ (nat_le lo (z - x) || nat_le lo (z - y))
@@ -102,17 +86,13 @@ lesser_serves lo z x y = grind (arith, nat_tests)
 least_serves : (i : Interval) (z : ℕ) (xs ys : List ℕ) → i.hi ≡ None → length xs ≤ 1 → length ys ≤ 1
     → reaches i (least_time xs ys) z ≡ (reaches i xs z || reaches i ys z)
 least_serves i z [] ys endless a b = refl
-least_serves i z (x ∷ xs) [] endless a b = sym (or_false (reaches i (x ∷ xs) z))
+least_serves i z (x ∷ xs) [] endless a b = sym (or-false (reaches i (x ∷ xs) z))
 least_serves i z (x ∷ []) (y ∷ []) endless a b =
     let at : (d : ℕ) → in_interval i d ≡ nat_le i.lo d =
-    λ d. ap (λ o. nat_le i.lo d && at_most o d) endless ∙ and_true (nat_le i.lo d) in
-    or_false (in_interval i (z - min x y)) ∙ at (z - min x y) ∙ lesser_serves i.lo z x y
-    ∙ sym (ap₂ (λ b c. b || c) (or_false (in_interval i (z - x)) ∙ at (z - x))
-    (or_false (in_interval i (z - y)) ∙ at (z - y)))
-  where
-    and_true : (b : Bool) → (b && true) ≡ b
-    and_true true = refl
-    and_true false = refl
+    λ d. ap (λ o. nat_le i.lo d && at_most o d) endless ∙ and-true (nat_le i.lo d) in
+    or-false (in_interval i (z - min x y)) ∙ at (z - min x y) ∙ lesser_serves i.lo z x y
+    ∙ sym (ap₂ (λ b c. b || c) (or-false (in_interval i (z - x)) ∙ at (z - x))
+    (or-false (in_interval i (z - y)) ∙ at (z - y)))
 least_serves i z (x ∷ w ∷ xs) ys endless a b = absurd (omega arith)
 least_serves i z (x ∷ []) (y ∷ w ∷ ys) endless a b = absurd (omega arith)
 
@@ -154,7 +134,7 @@ module _ (i : Interval) (t : List ℕ) (p : ℕ) where
       spread true true true true = refl
       spread true true true false = refl
       spread true true false d = refl
-      spread true false c d = sym (or_false (c && d))
+      spread true false c d = sym (or-false (c && d))
       spread false b c d = refl
 
   any_put_mark : (m : Mark) (ns : List Mark)
@@ -177,9 +157,9 @@ module _ (i : Interval) (t : List ℕ) (p : ℕ) where
       by true same e h = refl
       by false true e h =
           ap (λ b. b || list_any (mark_meets i t p) ns) (same_place (e refl))
-          ∙ or_grouped (mark_meets i t p m) (mark_meets i t p n) (list_any (mark_meets i t p) ns)
+          ∙ or_assoc (mark_meets i t p m) (mark_meets i t p n) (list_any (mark_meets i t p) ns)
       by false false e h = ap (λ b. mark_meets i t p n || b) h
-          ∙ or_swap (mark_meets i t p n) (mark_meets i t p m) (list_any (mark_meets i t p) ns)
+          ∙ or_moved (mark_meets i t p n) (mark_meets i t p m) (list_any (mark_meets i t p) ns)
 
   -- the marks of both meet what either does
   pub marks_right : (ms ns : List Mark) → list_any (mark_meets i t p) (marks_joined ms ns)
@@ -187,4 +167,4 @@ module _ (i : Interval) (t : List ℕ) (p : ℕ) where
   marks_right [] ns = refl
   marks_right (m ∷ ms) ns =
       any_put_mark m (marks_joined ms ns) ∙ ap (λ b. mark_meets i t p m || b) (marks_right ms ns)
-      ∙ sym (or_grouped (mark_meets i t p m) (list_any (mark_meets i t p) ms) (list_any (mark_meets i t p) ns))
+      ∙ sym (or_assoc (mark_meets i t p m) (list_any (mark_meets i t p) ms) (list_any (mark_meets i t p) ns))

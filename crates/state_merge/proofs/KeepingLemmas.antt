@@ -4,6 +4,7 @@ use Rattle.std.proofs.Common.{List, [], ◌∷◌, length, Option, None, Some, r
 use Rattle.std.proofs.lemmas.Bool.{and_from, and_parts, cases_lt}
 use Rattle.std.proofs.lemmas.Bool.Decides.{nat_tests}
 use Rattle.std.proofs.lemmas.Map.Keys.{IsStrictlyIncreasing-from_sorted, sorted_from_strictly_increasing}
+use Rattle.std.proofs.lemmas.Option.{same_Some}
 use Rattle.std.specs.BTreeMap.{is_at}
 use Rattle.std.specs.List.{AllByRecursion, list_all}
 use Rattle.std.specs.List.Sorted.{IsStrictlyIncreasing, IsStrictlySortedBy}
@@ -28,9 +29,6 @@ use Rattle.state_merge.proofs.PutLemmas.{Ascend, further, mark_keeps, place_of, 
 abbrev pub AllKept : {X : Type 0} → (List Value → X → Type 0) → List (List Value × X) → Type 0
 AllKept Q es = (u : List Value) (x : _) → kept_for es u ≡ Some x → Q u x
 
-some_is : {X : Type 0} (x y : X) → Some x ≡ Some y → x ≡ y
-some_is x y e = cc
-
 -- from each of the pairs to what is found
 pub found_each : {X : Type 0} (Q : List Value → X → Type 0) (es : List (List Value × X))
     → AllByRecursion (λ e. Q e.0 e.1) es → AllKept Q es
@@ -40,7 +38,7 @@ found_each {X} Q (e ∷ es) all u x is = by (is_at (row_cmp u) e.0) refl is (fou
     by : (b : Bool) → is_at (row_cmp u) e.0 ≡ b → cond b (Some e.1) (kept_for es u) ≡ Some x
         → (kept_for es u ≡ Some x → Q u x) → Q u x
     by true at is rest =
-        subst (λ r. Q r x) (sym (same_row u e.0 at)) (subst (Q e.0) (some_is e.1 x is) all.0)
+        subst (λ r. Q r x) (sym (same_row u e.0 at)) (subst (Q e.0) (same_Some e.1 x is) all.0)
     by false at is rest = rest is
 
 -- what holds of both lists, and of what is made of both, holds of their union

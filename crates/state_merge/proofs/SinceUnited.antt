@@ -2,6 +2,7 @@
 use Rattle.std.proofs.Common.{◌≡◌, ℕ, ◌+◌, ◌-◌, ◌≤◌, ◌<◌, ◌^◌, Bool, true, ◌||◌, cond, nat_eq, List, [], ◌∷◌, length}
 use Rattle.std.proofs.Common.{map, Option, None, Some, refl, sym, subst, ap, ap₂, ◌∙◌}
 use Rattle.std.proofs.lemmas.Bool.{and_from, and_parts}
+use Rattle.std.proofs.Math.Bool.{or_self}
 use Rattle.std.specs.Cmp.{eq_by_cmp_equiv}
 use Rattle.std.specs.List.{AllByRecursion}
 use Rattle.std.specs.Option.{unwrap_or}
@@ -32,7 +33,7 @@ use Rattle.monitor_state.specs.StateUnions.{SinceUnion}
 use Rattle.monitor_state.specs.Views.{Dates, Tells}
 use Rattle.monitor_state.specs.declared.state.SinceKept.{SinceKept}
 use Rattle.monitor_state.specs.declared.state.WindowData.TheVariants as window
-use Rattle.state_merge.proofs.JoinedLemmas.{or_self, pooled, times_right}
+use Rattle.state_merge.proofs.JoinedLemmas.{pooled, times_right}
 use Rattle.state_merge.proofs.KeepingLemmas.{AllKept, found_each, times_keep, union_keeps}
 use Rattle.state_merge.proofs.TablesUnited.{over_union, rows_inside, tables_at, union_length}
 

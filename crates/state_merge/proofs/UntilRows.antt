@@ -5,7 +5,6 @@ use Rattle.std.proofs.lemmas.Bool.{and_from, and_parts}
 use Rattle.std.proofs.lemmas.Bool.Decides.{nat_tests}
 use Rattle.std.proofs.lemmas.List.{length-map}
 use Rattle.std.proofs.lemmas.List.Folds.{list_all-map}
-use Rattle.std.specs.BTreeMap.{is_at}
 use Rattle.std.specs.List.{AllByRecursion, list_all}
 use Rattle.std.specs.List.Sorted.{IsStrictlySortedBy}
 use Rattle.std.specs.Map.{keys_of}
@@ -30,6 +29,7 @@ use Rattle.state_merge.proofs.KeepingLemmas.{AllKept, found_each, marks_all, mar
 use Rattle.state_merge.proofs.PutLemmas.{less_is}
 use Rattle.state_merge.specs.Pairs.{MarksAscend}
 use Rattle.monitor_state.specs.JoinedRows.{marks_joined}
+use Rattle.monitor_state.proofs.MarkLemmas.{entries_are}
 
 -- ---- marks and their entries
 
@@ -45,18 +45,6 @@ pub record MarksRow (n pulled taken : ℕ) (u : List Value) (ms : List Mark) : T
   pub ascend : MarksAscend ms
 
 module _ (pulled : ℕ) (next : List ℕ) where
-  pub entries_found : (rows : List KeptMarks) (u : List Value)
-      → entries_for (entries_kept pulled next rows) u ≡ map (entry_at pulled next) (marks_for rows u)
-  entries_found [] u = refl
-  entries_found (k ∷ ks) u = by (is_at (row_cmp u) k.row) (entries_found ks u)
-    where
-      by : (b : Bool) → entries_for (entries_kept pulled next ks) u ≡ map (entry_at pulled next) (marks_for ks u)
-          → unwrap_or (cond b (Some (map (entry_at pulled next) k.marks.items)) (kept_for
-          (entries_kept pulled next ks) u)) []
-          ≡ map (entry_at pulled next) (unwrap_or (cond b (Some k.marks.items) (kept_for (marks_kept ks) u)) [])
-      by true rest = refl
-      by false rest = rest
-
   entries_keys : (rows : List KeptMarks) → keys_of (entries_kept pulled next rows) ≡ keys_of (marks_kept rows)
   entries_keys [] = refl
   entries_keys (k ∷ ks) = ap (λ rows. k.row ∷ rows) (entries_keys ks)
@@ -129,7 +117,7 @@ module _ (pulled : ℕ) (next : List ℕ) where
       → AllKept (MarksRow n pulled taken) (marks_kept rows)
   marks_rows n taken rows sized some waiting ascend u ms is =
       let here : entries_for (entries_kept pulled next rows) u ≡ map (entry_at pulled next) ms =
-      entries_found rows u ∙ ap (λ o. map (entry_at pulled next) (unwrap_or o [])) is in
+      entries_are pulled next u rows ∙ ap (λ o. map (entry_at pulled next) (unwrap_or o [])) is in
       let filled : 0 < length ms =
       found_each (λ (u : List Value) (x : List Mark). 0 < length x) (marks_kept rows) (some_marks rows some) u ms is in
       record {
@@ -157,7 +145,7 @@ module _ (pulled : ℕ) (next : List ℕ) where
     -- from the rows to the rule
     pub rows_sized : Sized n (entries_kept pulled next rows)
     rows_sized u other =
-        entries_found rows u
+        entries_are pulled next u rows
         ∙ found_or (λ ms. map (entry_at pulled next) ms ≡ []) u refl
         (λ ms row. absurd (let w : true ≡ false = sym row.sized ∙ other in cc))
 
@@ -170,7 +158,7 @@ module _ (pulled : ℕ) (next : List ℕ) where
     pub rows_wait : Waiting pulled taken (entries_kept pulled next rows)
     rows_wait u =
         ap (list_all (λ (e : Entry). nat_le pulled e.place && nat_lt e.place taken && nat_le e.start e.place))
-        (entries_found rows u)
+        (entries_are pulled next u rows)
         ∙ list_all-map (λ (e : Entry). nat_le pulled e.place && nat_lt e.place taken && nat_le e.start e.place)
         (entry_at pulled next) (marks_for rows u)
         ∙ found_or (λ ms. list_all (waits pulled taken) ms ≡ true) u refl (λ ms row. row.waiting)
@@ -178,7 +166,7 @@ module _ (pulled : ℕ) (next : List ℕ) where
     pub rows_places : Ascending (entries_kept pulled next rows)
     unfolding IsStrictlySortedBy
     rows_places u =
-        subst PlacesAscend (sym (entries_found rows u))
+        subst PlacesAscend (sym (entries_are pulled next u rows))
         (places_marks (marks_for rows u) (found_or MarksAscend u tt (λ ms row. row.ascend)))
 
 lesser_waits : (pulled taken : ℕ) (m k : Mark) → waits pulled taken m ≡ true → waits pulled taken k ≡ true

@@ -1,6 +1,7 @@
 -- The data of two UNTILs united stands for both regions, has nothing outside them, and keeps its rule.
 use Rattle.std.proofs.Common.{◌≡◌, ℕ, ◌+◌, ◌≤◌, ◌^◌, Bool, true, ◌||◌, cond, nat_le, List, [], length, map, Option, sym}
 use Rattle.std.proofs.Common.{subst, subst₂, ap, ap₂, ◌∙◌}
+use Rattle.std.proofs.Math.Bool.{or_self}
 use Rattle.std.specs.List.{list_any}
 use Rattle.std.specs.Option.{unwrap_or}
 use Rattle.std.specs.Prelude.{min}
@@ -28,7 +29,7 @@ use Rattle.monitor_state.specs.StateUnions.{UntilUnion}
 use Rattle.monitor_state.specs.Views.{Dates, Tells}
 use Rattle.monitor_state.specs.declared.state.UntilKept.{UntilKept}
 use Rattle.monitor_state.specs.declared.state.WindowData.TheVariants as window
-use Rattle.state_merge.proofs.JoinedLemmas.{marks_right, or_self, pooled, starts_right}
+use Rattle.state_merge.proofs.JoinedLemmas.{marks_right, pooled, starts_right}
 use Rattle.state_merge.proofs.KeepingLemmas.{AllKept, union_keeps}
 use Rattle.state_merge.proofs.TablesUnited.{over_union, rows_inside, tables_at, union_length}
 use Rattle.state_merge.proofs.UntilRows.{MarksRow, StartRow, entries_ascend, marks_row_joined, marks_rows, rows_places}

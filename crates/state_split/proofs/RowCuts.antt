@@ -1,7 +1,7 @@
 -- Rows without those outside a region: what is kept for a row, and what holds of each.
-use Rattle.std.proofs.Common.{◌≡◌, ℕ, Bool, true, false, ◌&&◌, cond, nat_eq, List, [], ◌∷◌, map, Option, None, refl}
-use Rattle.std.proofs.Common.{sym, subst, ap, ◌∙◌, inl, inr}
-use Rattle.std.proofs.lemmas.Bool.{and_from, and_parts, cond-false, cond-true, cases_eq, eqb-true, ne_eqb, or_cases}
+use Rattle.std.proofs.Common.{◌≡◌, ℕ, Bool, true, false, ◌&&◌, cond, List, [], ◌∷◌, map, Option, None, refl}
+use Rattle.std.proofs.Common.{sym, subst, ap, ◌∙◌}
+use Rattle.std.proofs.lemmas.Bool.{and_from, and_parts}
 use Rattle.std.proofs.lemmas.List.Kept.{IsStrictlySortedBy-filter}
 use Rattle.std.proofs.lemmas.Map.Entries.{lookup-filter-keys}
 use Rattle.std.proofs.lemmas.Map.Views.{any-filter_same, tells_apart}
@@ -10,9 +10,9 @@ use Rattle.std.specs.List.{AllByRecursion, filter, list_all}
 use Rattle.std.specs.List.Sorted.{IsStrictlySortedBy}
 use Rattle.std.specs.Map.{keys_of}
 use Rattle.std.specs.Ordering.{eq_by_cmp}
-use Rattle.mfotl_model.proofs.LogicLemmas.{same_number}
+use Rattle.std.specs.Cmp.{both_ways}
 use Rattle.mfotl_model.proofs.RowLemmas.{row_exact}
-use Rattle.mfotl_model.specs.FreeVariables.{among}
+use Rattle.mfotl_model.proofs.ColumnLemmas.{read_own}
 use Rattle.mfotl_model.specs.Regions.{Passes, Region}
 use Rattle.mfotl_model.specs.Satisfaction.{Valuation}
 use Rattle.mfotl_model.specs.Tables.{TableOf, has, valuation}
@@ -115,38 +115,14 @@ module _ {X : Type 0} (near : Region) (columns : List ℕ) (rows : List (List Va
 
 -- ---- rows of valuations
 
--- what is read off a valuation's own row
-pub reads_back : (columns : List ℕ) (v : Valuation) (y : ℕ) → among y columns ≡ true
-    → valuation columns (map v columns) y ≡ v y
-reads_back [] v y m = cc
-reads_back (x ∷ columns) v y m = elim (cases_eq y x) [
-  | inl e ↦
-      cond-true (nat_eq y x) (v x) (valuation columns (map v columns) y) (ap (λ z. nat_eq z x) e ∙ same_number x)
-      ∙ ap v (sym e)
-  | inr ne ↦
-      cond-false (nat_eq y x) (v x) (valuation columns (map v columns) y) (ne_eqb y x ne)
-      ∙ reads_back columns v y (later ne m)
-]
-  where
-    later : (y ≡ x → ⊥) → among y (x ∷ columns) ≡ true → among y columns ≡ true
-    later ne m = elim (or_cases (nat_eq y x) (among y columns) m) [
-      | inl here ↦ absurd (ne (eqb-true y x here))
-      | inr there ↦ there
-    ]
-
-same_truth : (a b : Bool) → (a ≡ true → b ≡ true) → (b ≡ true → a ≡ true) → a ≡ b
-same_truth true b to from = sym (to refl)
-same_truth false true to from = from refl
-same_truth false false to from = refl
-
 module _ (free : List ℕ) (near : Region) (passes : Passes free near) where
   -- a valuation's row lies in the region where it does
   pub row_lies : (columns : List ℕ) (v : Valuation) → lies near columns (map v columns) ≡ near columns v
   row_lies columns v =
       let read : Valuation = valuation columns (map v columns) in
-      same_truth (near columns read) (near columns v)
-      (passes columns columns read v (λ y m f. (m, reads_back columns v y m)))
-      (passes columns columns v read (λ y m f. (m, sym (reads_back columns v y m))))
+      both_ways (near columns read) (near columns v)
+      (passes columns columns read v (λ y m f. (m, read_own v columns y m)))
+      (passes columns columns v read (λ y m f. (m, sym (read_own v columns y m))))
 
   rows_cut : {X : Type 0} (columns : List ℕ) (rows : List (List Value × X)) (v : Valuation)
       → kept_for (cut_rows near columns rows) (map v columns)

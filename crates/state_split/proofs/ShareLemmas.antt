@@ -6,6 +6,7 @@ use Rattle.std.proofs.Common.{append_assoc, append-nil, length-append}
 use Rattle.std.proofs.lemmas.Bool.{cases_lt}
 use Rattle.std.proofs.lemmas.List.{get_or-map, length-map, map-append, map-set}
 use Rattle.std.proofs.lemmas.Bool.Decides.{nat_tests}
+use Rattle.std.proofs.Math.Bool.{and-false, and-true}
 use Rattle.std.specs.List.{filter, zip}
 use Rattle.relations.proofs.PushedLemmas.{stand_push}
 use Rattle.relations.specs.Pushed.{StandFrom}
@@ -58,14 +59,6 @@ module _ {X : Type 0} (x : X) where
       (given_at p q (y + 1) i shares other (omega (arith, low)) (sym (ap p next) ∙ no_p) (sym (ap q next) ∙ is_q)
       (λ k up k_low apart. same k (omega (arith, up)) (omega (arith, k_low)) (λ e. apart (e ∙ next))))
 
-  and_false : (b : Bool) → (b && false) ≡ false
-  and_false true = refl
-  and_false false = refl
-
-  and_true : (b : Bool) → (b && true) ≡ b
-  and_true true = refl
-  and_true false = refl
-
   -- none below the first is given it
   pub given_start : (test : ℕ → Bool) (first : ℕ) (shares : List (List X)) → NoneFrom 0 first test
       → shares ≡ given_to (up_to test first) x 0 shares
@@ -76,7 +69,7 @@ module _ {X : Type 0} (x : X) where
       by k (inl before) = ap (λ b. b && nat_lt k first) (none k (omega arith) before)
       by k (inr behind) =
           let above : nat_lt k first ≡ false = grind (arith, nat_tests) in
-          ap (λ b. test k && b) above ∙ and_false (test k)
+          ap (λ b. test k && b) above ∙ and-false (test k)
 
   -- the worker that was found is given it, and none from there up to the next one
   pub given_next : (test : ℕ → Bool) (k next : ℕ) (shares : List (List X)) (other : List X) → k < length shares
@@ -89,13 +82,13 @@ module _ {X : Type 0} (x : X) where
       out : up_to test k (0 + k) ≡ false
       out =
           let above : nat_lt (0 + k) k ≡ false = grind (arith, nat_tests) in
-          ap (λ b. test (0 + k) && b) above ∙ and_false (test (0 + k))
+          ap (λ b. test (0 + k) && b) above ∙ and-false (test (0 + k))
 
       inside : up_to test next (0 + k) ≡ true
       inside =
           let below : nat_lt (0 + k) next ≡ true = grind (arith, nat_tests) in
           let here : 0 + k ≡ k = omega arith in
-          ap (λ b. test (0 + k) && b) below ∙ and_true (test (0 + k)) ∙ ap test here ∙ is
+          ap (λ b. test (0 + k) && b) below ∙ and-true (test (0 + k)) ∙ ap test here ∙ is
 
       same : (j : ℕ) → 0 ≤ j → j < 0 + length shares → (j ≡ 0 + k → ⊥) → up_to test k j ≡ up_to test next j
       same j bottom top apart =
@@ -123,7 +116,7 @@ module _ {X : Type 0} (x : X) where
   given_end test end shares past =
       given_alike (up_to test end) test 0 shares (λ k up low.
       let one : nat_lt k end ≡ true = grind (arith, nat_tests) in
-      ap (λ b. test k && b) one ∙ and_true (test k))
+      ap (λ b. test k && b) one ∙ and-true (test k))
 
   -- none was found
   pub given_nothing : (test : ℕ → Bool) (count : ℕ) (shares : List (List X)) → length shares ≡ count
@@ -214,10 +207,6 @@ module _ {X Y : Type 0} (count : ℕ) (L : ℕ → X → Type 0) (P : ℕ → Y 
 
 -- ---- shares of what is told of items
 
-pub none_left : {X : Type 0} (xs : List X) (n : ℕ) → n ≡ length xs → n ≡ 0 → xs ≡ []
-none_left [] n size none = refl
-none_left (x ∷ xs) n size none = absurd (omega arith)
-
 module _ {K X : Type 0} (told : K → X) where
   -- one item more
   pub told_more : (ks more : List K) (k : K) (x : X) → more ≡ ks ++ k ∷ [] → told k ≡ x
@@ -291,10 +280,6 @@ each_paired n L R xs ys pairs ls rs e =
     let size : length xs ≡ length ys = ls.sized ∙ sym rs.sized in
     subst (OneEach n (λ k e. L k e.0 × R k e.1)) (sym e)
     (record { sized = zip_size xs ys size ∙ ls.sized; each = stand_zipped L R 0 xs ys size ls.each rs.each })
-
-pub same_mapped : {X : Type 0} (xs : List X) → map (λ x. x) xs ≡ xs
-same_mapped [] = refl
-same_mapped (x ∷ xs) = ap (λ ys. x ∷ ys) (same_mapped xs)
 
 -- with one item less to come, that each share got
 pub mapped_step : {X Y : Type 0} (f : X → Y) (x : X) (before rest : List X) (share all : List Y) (y : Y)

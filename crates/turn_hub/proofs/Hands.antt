@@ -7,7 +7,7 @@ use mathlib.Core.Option as maybe
 use native.Mathlib.Decide.{ℕ_discrete}
 use lib.ListN.{get_elem?}
 use Rattle.std.specs.Prelude.{slice_index}
-use Rattle.std.proofs.lemmas.Option.{none-some}
+use Rattle.std.proofs.lemmas.Option.{none-some, same_Some}
 use Rattle.atomic_table.specs.Table.{State, keeps, takes as takes_slot, gives, Allows, step, put_back}
 use Rattle.atomic_table.proofs.Lists.{set_here, set_else}
 use Rattle.turn_hub.specs.declared.view.Cell.{Cell}
@@ -16,7 +16,7 @@ use Rattle.turn_hub.specs.declared.view.View.{View}
 use Rattle.turn_hub.specs.Work.{Leads}
 use Rattle.turn_hub.specs.Rule.{Ready, Due, Has, CellOk, Ruled}
 use Rattle.turn_hub.specs.Steps.{Seated, looked, emptied, hand_looks, gives_back}
-use Rattle.turn_hub.proofs.Keeps.{moved, some_inj, some_is, same_words, within, there}
+use Rattle.turn_hub.proofs.Keeps.{moved, some_is, same_words, within, there}
 
 module _ {W S I O : Type 0} (stands : S → List I → List O → W → Type 0) (may : S → List I → Type 0) where
   abbrev C : Type 0
@@ -79,7 +79,7 @@ module _ {W S I O : Type 0} (stands : S → List I → List O → W → Type 0) 
         (sym at' ∙ ap (λ (i : ℕ). get_elem? s.views i) (r.once j id u v k at' at num number) ∙ at)
 
     only : (q : ℕ) → v.number ≡ Some q → q ≡ k
-    only q num = sym (some_inj k q (sym number ∙ num))
+    only q num = sym (same_Some k q (sym number ∙ num))
 
     pub takes_it : x ≡ 1 → (c : C) → DueT l c
         → R record {
@@ -125,7 +125,7 @@ module _ {W S I O : Type 0} (stands : S → List I → List O → W → Type 0) 
             line,
             same_word (set s.words k x) words_same k
                 ∙ one,
-            subst (DueT l) (some_inj c c' h) due,
+            subst (DueT l) (same_Some c c' h) due,
           );
           kept = λ j u c' other at' num h. absurd (other (r.once j id u v k at' at num number));
         }

@@ -1,5 +1,5 @@
 -- Each step keeps the rule.
-use Rattle.std.proofs.Common.{◌≡◌, ◌≢◌, ◌⊎◌, ℕ, suc, zero, ◌<◌, ◌==◌, Bool, true, false, List, [], ◌∷◌, ◌++◌}
+use Rattle.std.proofs.Common.{◌≡◌, ◌≢◌, ◌⊎◌, ℕ, suc, zero, ◌<◌, ◌==◌, true, List, [], ◌∷◌, ◌++◌}
 use Rattle.std.proofs.Common.{length, set, sym, refl, ap, ◌∙◌, subst, inl, inr, ⊎_elim, arith, Option, Some}
 use Rattle.std.proofs.Common.{None, length-set, get_or-set_same, get_or-set_other, eqb-true, append-nil}
 use mathlib.Core.Logic.{dite}
@@ -8,7 +8,8 @@ use mathlib.Core.Option as maybe
 use native.Mathlib.Decide.{ℕ_discrete}
 use lib.ListN.{get_elem?}
 use Rattle.std.specs.Prelude.{slice_index}
-use Rattle.std.proofs.lemmas.Option.{none-some}
+use Rattle.std.proofs.lemmas.Option.{none-some, same_Some}
+use Rattle.std.proofs.lemmas.Bool.{false_from_ne_true}
 use Rattle.atomic_table.specs.Table.{State, Act, keeps, takes, gives, Allows, Valid, step, rest, put_back}
 use Rattle.atomic_table.specs.Table.{homes_after, carried_after}
 use Rattle.atomic_table.proofs.Lists.{at_set, set_here, set_else, set_again}
@@ -18,19 +19,7 @@ use Rattle.turn_hub.specs.declared.view.View.{View}
 use Rattle.turn_hub.specs.Rule.{Homes, Rests, Ready, Due, Has, Out, CellOk, HandOk, Ruled}
 use Rattle.turn_hub.specs.Steps.{Seated, looked, with_line, handed_over, main_looks, hands_over}
 
--- what is not true is false
-not_true : (b : Bool) → (b ≡ true → ⊥) → b ≡ false
-not_true true h = absurd (h refl)
-not_true false h = refl
-
 module _ {A : Type 0} where
-  abbrev pub or_else : A → Option A → A
-  or_else x (Some y) = y
-  or_else x None = x
-
-  pub some_inj : (x y : A) → Some x ≡ Some y → x ≡ y
-  some_inj x y e = ap (or_else x) e
-
   -- one is there, or none
   pub look : (o : Option A) → (o ≡ None) ⊎ ((x : A) × (o ≡ Some x))
   look None = inl refl
@@ -253,7 +242,7 @@ module _ {W S I O : Type 0} (stands : S → List I → List O → W → Type 0) 
             line,
             ap (λ (ws : List ℕ). slice_index ws k) words_same
                 ∙ z,
-            subst (ReadyT l) (some_inj c c' e) ready,
+            subst (ReadyT l) (same_Some c c' e) ready,
           );
           here = λ l' e. subst (λ (y : L). CellOk stands may (set s.homes k maybe.none) (set s.views 0 w) w k x y)
               (some-injective l l' (sym line ∙ e))
@@ -341,7 +330,7 @@ module _ {W S I O : Type 0} (stands : S → List I → List O → W → Type 0) 
         keeps,
         tt,
         leaves_it s r k me.0 at' none_held near' l t.1 nz,
-        (((λ z. absurd (nz z)), (λ _. refl), o.known), (λ _. (l, t.1, not_true l.mine (λ e. nz (o.mine e))))),
+        (((λ z. absurd (nz z)), (λ _. refl), o.known), (λ _. (l, t.1, false_from_ne_true l.mine (λ e. nz (o.mine e))))),
       )))
 
   -- main's store

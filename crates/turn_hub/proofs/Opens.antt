@@ -5,7 +5,7 @@ use Rattle.std.proofs.lemmas.List.{length-map}
 use mathlib.Core.Option.{some, some-injective, some-ne-none}
 use lib.ListN.{get_elem?}
 use Rattle.std.specs.Prelude.{slice_index, All}
-use Rattle.std.proofs.lemmas.Option.{none-some}
+use Rattle.std.proofs.lemmas.Option.{none-some, same_Some}
 use Rattle.atomic_table.specs.Table.{State, opening, Splits}
 use Rattle.atomic_table.proofs.Lists.{at_set, set_here, at_longer, at_map}
 use Rattle.turn_hub.specs.declared.view.Cell.{Cell}
@@ -14,7 +14,7 @@ use Rattle.turn_hub.specs.declared.view.View.{View}
 use Rattle.turn_hub.specs.Rule.{Ready, Due, Has, Out, CellOk, Ruled}
 use Rattle.turn_hub.specs.Steps.{started, first_view, one_more, new_hand}
 use Rattle.turn_hub.specs.Ends.{IsFresh}
-use Rattle.turn_hub.proofs.Keeps.{some_inj, still_out}
+use Rattle.turn_hub.proofs.Keeps.{still_out}
 
 module _ {A : Type 0} where
   pub at_end : (xs : List A) (a b : A) (j : ℕ) → get_elem? (xs ++ a ∷ []) j ≡ some b
@@ -120,7 +120,7 @@ module _ {W S I O : Type 0} (stands : S → List I → List O → W → Type 0) 
         (at_set s.views 0 j main' u t))
         (λ t. inr (
           t.0,
-          sym (some_inj v.made k (ap (λ (y : V). y.number) t.1 ∙ num)),
+          sym (same_Some v.made k (ap (λ (y : V). y.number) t.1 ∙ num)),
           ap (λ (y : V). y.has)
               (sym t.1),
         ))

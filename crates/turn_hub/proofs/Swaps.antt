@@ -1,6 +1,7 @@
 -- What a swap that gave the cell back tells.
 use Rattle.std.proofs.Common.{◌≡◌, ◌≢◌, ◌⊎◌, ℕ, List, [], ◌∷◌, ◌++◌, length, set, sym, refl, ap, ◌∙◌, subst}
 use Rattle.std.proofs.Common.{inl, inr, arith, Some, ◌==◌, suc, ne_eqb}
+use Rattle.std.proofs.lemmas.Option.{same_Some}
 use mathlib.Core.Option.{some, none, some-injective}
 use lib.ListN.{get_elem?}
 use Rattle.atomic_table.specs.Table.{step}
@@ -9,7 +10,6 @@ use Rattle.turn_hub.specs.declared.view.Line.{Line}
 use Rattle.turn_hub.specs.declared.view.View.{View}
 use Rattle.turn_hub.specs.Steps.{Seated, looked, main_looks, IsLeft, hands_over, ReadyAt, with_line, handed_over}
 use Rattle.turn_hub.specs.Answers.{LooksOnce, swapped_line}
-use Rattle.turn_hub.proofs.Keeps.{some_inj}
 use Rattle.turn_hub.proofs.Slots.{same_slot}
 
 -- no items, or some
@@ -58,9 +58,9 @@ module _ {W S I O : Type 0} (stands : S → List I → List O → W → Type 0) 
       × told l.seed l.handed (l.back ++ outs)
       × (me4.0.lines ≡ set m0.0.lines k (swapped_line l outs items)))
   swaps n k a m0 me3 me4 cf c' e h ready count outs items count-is outs-are items-are turn =
-      let c-is : h.1 ≡ cf = some_inj h.1 cf (sym h.4 ∙ ap (λ (m : M). m.0.has) e) in
+      let c-is : h.1 ≡ cf = same_Some h.1 cf (sym h.4 ∙ ap (λ (m : M). m.0.has) e) in
       let c'-is : h.2 ≡ c' =
-      some_inj h.2 c' (same_slot k (Some h.2) (Some c') _ m0.1 (sym h.5 ∙ ap (λ (m : M). m.1) e)) in
+      same_Some h.2 c' (same_slot k (Some h.2) (Some c') _ m0.1 (sym h.5 ∙ ap (λ (m : M). m.1) e)) in
       let l-is : h.0 ≡ ready.0 =
       some-injective h.0 ready.0 (sym h.3 ∙ ap (λ (m : M). get_elem? m.0.lines k) e ∙ ready.1) in
       let seen = ap (λ (m : M). with_line m.0 k (handed_over h.0 h.1 h.2 a)) e in

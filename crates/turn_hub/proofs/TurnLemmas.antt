@@ -1,8 +1,8 @@
 -- What one side leaves is what the other side finds.
 use Rattle.std.proofs.Common.{◌≡◌, ◌∙◌, ap, sym, length, List}
+use Rattle.std.proofs.lemmas.Option.{same_Some}
 use Rattle.turn_hub.specs.declared.hub.Swap.TheVariants.{Back, NotYet, Broken}
 use Rattle.turn_hub.specs.Turns.{BrokenIsLeft, BackIsLeft, NotYetIsWorked, WorkedIsFound}
-use Rattle.turn_hub.proofs.Keeps.{some_inj}
 
 module _ {W S I O : Type 0} (stands : S → List I → List O → W → Type 0) (told : S → List I → List O → Type 0) where
   pub broken_is_left : BrokenIsLeft stands told
@@ -23,4 +23,4 @@ module _ {W S I O : Type 0} (stands : S → List I → List O → W → Type 0) 
   pub worked_is_found : WorkedIsFound stands told
   worked_is_found st m m' v found j n word has gives served =
       served.1 ∙ ap (λ y. y.0.worked) gives.2
-      ∙ ap (λ c. length c.items.items) (some_inj _ _ (sym gives.1 ∙ has))
+      ∙ ap (λ c. length c.items.items) (same_Some _ _ (sym gives.1 ∙ has))

@@ -1,10 +1,8 @@
 -- What was gathered settles what comes out.
 use Rattle.std.proofs.Common.{◌≡◌, ◌∙◌, sym, ap, refl, Some, None}
+use Rattle.std.proofs.lemmas.Option.{same_Some}
 use Rattle.verdict_merge.specs.Emitted.{merged}
 use Rattle.verdict_merge.specs.Laws.{EmitsOne}
-
-some_inj : {X : Type 0} {x y : X} → Some x ≡ Some y → x ≡ y
-some_inj e = cc
 
 pub emits_one : EmitsOne
 emits_one old new other None None (none, same) (nothing, stays) = (refl, same ∙ sym stays)
@@ -13,5 +11,5 @@ emits_one old new other None (Some verdict) (none, same) (ts, complete, comes, g
 emits_one old new other (Some verdict) None (ts, complete, comes, goes) (none, same) =
     absurd (let e : None ≡ Some ts = sym none ∙ complete in cc)
 emits_one old new other (Some verdict) (Some found) (ts, complete, comes, goes) (time, whole, found_is, left) =
-    let same : ts ≡ time = some_inj (sym complete ∙ whole) in
+    let same : ts ≡ time = same_Some ts time (sym complete ∙ whole) in
     (ap Some (comes ∙ ap (merged old) same ∙ sym found_is), goes ∙ sym left)

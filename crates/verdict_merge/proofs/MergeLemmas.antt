@@ -1,10 +1,8 @@
 -- Rows merged are an ascending list, where they are a partition of it.
-use Rattle.std.proofs.Common.{◌≡◌, ◌∙◌, ◌<◌, Bool, true, false, List, [], ◌∷◌, length, refl, sym, arith}
-use Rattle.std.proofs.lemmas.List.Folds.{Any-from_list_any, list_any-from_Any}
-use Rattle.std.proofs.lemmas.List.Sorted.{Contains-permutation, IsPermutation-sym}
+use Rattle.std.proofs.Common.{◌≡◌, ◌∙◌, ◌<◌, List, [], ◌∷◌, length, refl, sym, arith}
+use Rattle.std.proofs.lemmas.List.Sorted.{list_any-IsPermutation}
 use Rattle.std.proofs.lemmas.Map.Lookups.{btree_set_from_contains}
 use Rattle.std.specs.BTreeSet.{BTreeSet}
-use Rattle.std.specs.List.{list_any}
 use Rattle.std.specs.List.Sorted.{IsPermutation, IsStrictlySortedBy}
 use Rattle.std.specs.Ordering.{eq_by_cmp}
 use Rattle.mfotl_model.proofs.AscendingLemmas.{any_ascending, sorted_ascending}
@@ -13,24 +11,6 @@ use Rattle.mfotl_model.specs.Ascending.{ascending}
 use Rattle.mfotl_model.specs.Values.{row_cmp, row_total}
 use Rattle.mfotl_model.specs.declared.value.Value.{Value}
 
-pub both_ways : (a b : Bool) → (a ≡ true → b ≡ true) → (b ≡ true → a ≡ true) → a ≡ b
-both_ways true true f g = refl
-both_ways true false f g = sym (f refl)
-both_ways false true f g = g refl
-both_ways false false f g = refl
-
-module _ {X : Type 0} (p : X → Bool) where
-  any_moved : (xs ys : List X) → IsPermutation xs ys → list_any p xs ≡ true → list_any p ys ≡ true
-  any_moved xs ys moved h =
-      let (k, x, within, at, holds) = Any-from_list_any p xs h in
-      let (j, low, is) = Contains-permutation xs ys x moved (k, within, at) in
-      list_any-from_Any p ys (j, x, low, is, holds)
-
-  any_permuted : (xs ys : List X) → IsPermutation xs ys → list_any p xs ≡ list_any p ys
-  any_permuted xs ys moved =
-      both_ways (list_any p xs) (list_any p ys) (any_moved xs ys moved)
-      (any_moved ys xs (IsPermutation-sym xs ys moved))
-
 -- the members of an ascending list, moved about, come out as that list
 pub partition_merges : (xs all : List (List Value)) → IsStrictlySortedBy row_cmp all → IsPermutation xs all
     → ascending row_cmp xs ≡ all
@@ -38,7 +18,8 @@ partition_merges xs all sorted moved =
     let left : BTreeSet (List Value) = record { keys = ascending row_cmp xs } in
     let right : BTreeSet (List Value) = record { keys = all } in
     btree_set_from_contains row_total left right (sorted_ascending row_total row_exact xs) sorted
-    (λ q. any_ascending row_total row_exact (eq_by_cmp row_cmp q) xs ∙ any_permuted (eq_by_cmp row_cmp q) xs all moved)
+    (λ q. any_ascending row_total row_exact (eq_by_cmp row_cmp q) xs
+    ∙ list_any-IsPermutation (eq_by_cmp row_cmp q) xs all moved)
     row_exact
 
 -- lists of the same members come out the same
@@ -50,7 +31,7 @@ ascending_permuted xs ys moved =
     btree_set_from_contains row_total left right (sorted_ascending row_total row_exact ys)
     (sorted_ascending row_total row_exact xs)
     (λ q. any_ascending row_total row_exact (eq_by_cmp row_cmp q) ys
-    ∙ sym (any_permuted (eq_by_cmp row_cmp q) xs ys moved)
+    ∙ sym (list_any-IsPermutation (eq_by_cmp row_cmp q) xs ys moved)
     ∙ sym (any_ascending row_total row_exact (eq_by_cmp row_cmp q) xs))
     row_exact
 

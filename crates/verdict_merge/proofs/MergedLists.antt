@@ -1,5 +1,5 @@
 -- What a merge of vectors gives are their items.
-use Rattle.std.proofs.Common.{◌≡◌, ◌∙◌, Bool, true, List, [], ◌∷◌, ◌++◌, length, map, refl, sym, ap, subst}
+use Rattle.std.proofs.Common.{◌≡◌, ◌∙◌, Bool, true, List, [], ◌∷◌, ◌++◌, length, map, refl, sym, ap, subst, map-id}
 use Rattle.std.proofs.Common.{Vec, arith, ◌<◌, Result, Ok, Err, IfOk, IsPermutation, flat_map}
 use Rattle.std.proofs.lemmas.List.{append-nil}
 use Rattle.std.proofs.lemmas.Iterator.Adapters.{YieldsList-from_vec}
@@ -10,10 +10,6 @@ use Rattle.std.specs.declared.vec.IntoIter.{IntoIter}
 use Rattle.itertools.proofs.AdaptorLemmas.{items_from_whole_run}
 use Rattle.itertools.specs.KMerge.{SourcesGive, MergeGivesAll, joined_lists, kmerge_steps}
 use Rattle.itertools.specs.declared.kmerge_impl.KMergeBy.{KMergeBy}
-
-map_same : {X : Type 0} (xs : List X) → map (λ y. y) xs ≡ xs
-map_same [] = refl
-map_same (x ∷ xs) = ap (λ ys. x ∷ ys) (map_same xs)
 
 -- lists one after another
 joined_map : {X Y : Type 0} (f : X → List Y) (xs : List X) → joined_lists (map f xs) ≡ flat_map f xs
@@ -40,7 +36,7 @@ module _ {X Z : Type 0} (gives : Vec X Z → IntoIter X Z → Type 0)
         ∙ ap length same)) merges.0 merges.1 merges.2 in
         merges.3 (map (λ l. l.items) lists)
         (subst (λ us. SourcesGive gives into_iter_steps us (map (λ l. l.items) lists))
-        (sym (sym (map_same merges.0.items) ∙ items)) (sources lists))
+        (sym (sym (map-id merges.0.items) ∙ items)) (sources lists))
 
     -- all that the merge gives, up to its end
     pub merged_all : (out : List X) → WholeRun (kmerge_steps into_iter_steps computes) m (λ p. out ≡ p.items)

@@ -27,11 +27,6 @@ module _ {X : Type 0} (P Q : X → Type 0) (holds : (x : X) → P x → Q x) whe
   each [] h = tt
   each (x ∷ xs) h = (holds x h.0, each xs h.1)
 
-pub all_joined : {X : Type 0} (P : X → Type 0) (xs ys : List X) → AllByRecursion P xs → AllByRecursion P ys
-    → AllByRecursion P (xs ++ ys)
-all_joined P [] ys h more = more
-all_joined P (x ∷ xs) ys h more = (h.0, all_joined P xs ys h.1 more)
-
 -- two tests, the one or the other first
 kept_twice : {X : Type 0} (f g : X → Bool) (xs : List X) → filter f (filter g xs) ≡ filter g (filter f xs)
 kept_twice f g [] = refl

@@ -3,40 +3,24 @@ use Rattle.std.proofs.Common.{◌≡◌, ◌≢◌, ◌⊎◌, inl, inr, ⊎_eli
 use Rattle.std.proofs.Common.{List, [], ◌∷◌, ◌++◌, map, filter, refl, sym, ap, subst, arith, eq-eqb, ◌∙◌}
 use Rattle.std.proofs.lemmas.List.Folds.{list_any-append}
 use Rattle.std.proofs.lemmas.Map.Lookups.{btree_set_from_contains}
+use Rattle.std.proofs.Math.Bool.{or-true}
 use Rattle.std.specs.BTreeSet.{BTreeSet}
 use Rattle.std.specs.List.{list_any, AllByRecursion}
 use Rattle.std.specs.Ordering.{eq_by_cmp}
+use Rattle.std.specs.Cmp.{both_ways}
 use native.Mathlib.Decide.{ℕ_discrete}
 use Rattle.mfotl_model.proofs.AscendingLemmas.{any_ascending, sorted_ascending}
 use Rattle.mfotl_model.proofs.RowLemmas.{row_exact}
+use Rattle.mfotl_model.proofs.LogicLemmas.{filtered_found}
 use Rattle.mfotl_model.specs.Ascending.{ascending}
 use Rattle.mfotl_model.specs.Values.{row_cmp, row_total}
 use Rattle.mfotl_model.specs.declared.value.Value.{Value}
 use Rattle.verdict_merge.proofs.CountLemmas.{at_most}
-use Rattle.verdict_merge.proofs.MergeLemmas.{both_ways}
 use Rattle.verdict_merge.specs.Gathers.{gathered_rows}
 use Rattle.verdict_merge.specs.Laws.{EveryWorker, IsPartition, OwnersMerge}
 use Rattle.verdict_merge.specs.declared.rows.Rows.{Rows}
 
-or_true : (a : Bool) → (a || true) ≡ true
-or_true true = refl
-or_true false = refl
-
 module _ (p : List Value → Bool) where
-  kept : (f : List Value → Bool) (xs : List (List Value)) → list_any p (filter f xs) ≡ true → list_any p xs ≡ true
-  kept f [] h = h
-  kept f (x ∷ xs) h = at (f x) (kept f xs) h
-    where
-      on : (b : Bool) → (list_any p (filter f xs) ≡ true → list_any p xs ≡ true)
-          → (b || list_any p (filter f xs)) ≡ true → (b || list_any p xs) ≡ true
-      on true more h = refl
-      on false more h = more h
-
-      at : (b : Bool) → (list_any p (filter f xs) ≡ true → list_any p xs ≡ true)
-          → list_any p (cond b (x ∷ filter f xs) (filter f xs)) ≡ true → (p x || list_any p xs) ≡ true
-      at true more h = on (p x) more h
-      at false more h = ap (λ c. p x || c) (more h) ∙ or_true (p x)
-
   module _ (owner : List Value → ℕ) where
     abbrev part : ℕ → List (List Value) → List (List Value)
     part k xs = filter (λ row. nat_eq (owner row) k) xs
@@ -48,7 +32,7 @@ module _ (p : List Value → Bool) where
       where
         more : (k : ℕ) (b : Bool) → list_any p (part k xs) ≡ true
             → list_any p (cond b (x ∷ part k xs) (part k xs)) ≡ true
-        more k true t = ap (λ c. p x || c) t ∙ or_true (p x)
+        more k true t = ap (λ c. p x || c) t ∙ or-true (p x)
         more k false t = t
 
         at : (b : Bool) → p x ≡ b
@@ -79,7 +63,8 @@ module _ (p : List Value → Bool) where
         where
           at : (b : Bool) → list_any p r.rows ≡ b → (list_any p (gathered_rows rs) ≡ true → list_any p all ≡ true)
               → (b || list_any p (gathered_rows rs)) ≡ true → list_any p all ≡ true
-          at true e next h = kept (λ row. nat_eq (owner row) r.worker) all (sym (ap (list_any p) parts.0) ∙ e)
+          at true e next h =
+              filtered_found (λ row. nat_eq (owner row) r.worker) p all (sym (ap (list_any p) parts.0) ∙ e)
           at false e next h = next h
 
       found : (k : ℕ) (given : List Rows) → Parts given → list_any p (part k all) ≡ true
@@ -96,7 +81,7 @@ module _ (p : List Value → Bool) where
               inl (list_any-append p r.rows (gathered_rows rs) ∙ ap (λ b. b || list_any p (gathered_rows rs)) here)
           at (no ne) (inl t) =
               inl (list_any-append p r.rows (gathered_rows rs)
-              ∙ ap (λ b. list_any p r.rows || b) t ∙ or_true (list_any p r.rows))
+              ∙ ap (λ b. list_any p r.rows || b) t ∙ or-true (list_any p r.rows))
           at (no ne) (inr none) = inr (ne, none)
 
       in_given : (n : ℕ) (given : List Rows) → IsPartition owner n given all → list_any p all ≡ true
@@ -125,7 +110,7 @@ among k (j ∷ js) = at (ℕ_discrete k j) (among k js)
     at : Dec (k ≡ j) → (list_any (nat_eq k) js ≡ true) ⊎ AllByRecursion (λ i. k ≢ i) js
         → ((nat_eq k j || list_any (nat_eq k) js) ≡ true) ⊎ ((k ≢ j) × AllByRecursion (λ i. k ≢ i) js)
     at (yes e) next = inl (ap (λ b. b || list_any (nat_eq k) js) (eq-eqb k j e))
-    at (no n) (inl t) = inl (ap (λ b. nat_eq k j || b) t ∙ or_true (nat_eq k j))
+    at (no n) (inl t) = inl (ap (λ b. nat_eq k j || b) t ∙ or-true (nat_eq k j))
     at (no n) (inr none) = inr (n, none)
 
 pub every_worker : EveryWorker

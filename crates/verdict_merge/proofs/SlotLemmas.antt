@@ -3,8 +3,9 @@ use Rattle.std.proofs.Common.{◌≡◌, ◌∙◌, ℕ, zero, suc, ◌+◌, ◌
 use Rattle.std.proofs.Common.{filter, drop, Some, refl, sym, ap, arith, eq-eqb, ne_eqb}
 use Rattle.std.proofs.lemmas.List.{append-nil, append_assoc, map-append}
 use Rattle.std.proofs.lemmas.List.Elements.{filter-append}
+use Rattle.std.proofs.Permutation.{every_append}
 use Rattle.std.specs.List.{AllByRecursion, find}
-use Rattle.verdict_merge.proofs.OrderLemmas.{all_joined, all_kept, comes_last, each, kept_in_order, none_in_order}
+use Rattle.verdict_merge.proofs.OrderLemmas.{all_kept, comes_last, each, kept_in_order, none_in_order}
 use Rattle.verdict_merge.proofs.OrderLemmas.{none_kept, none_numbered}
 use Rattle.verdict_merge.specs.declared.arrived.Arrived.{Arrived}
 use Rattle.verdict_merge.specs.Gathers.{at_point, rows_after, rows_at}
@@ -19,7 +20,7 @@ below_more n all = each (λ a. a.number < n) (λ a. a.number < suc n) (λ a low.
 all_below : (n p : ℕ) (slots : List (List Arrived)) → AreSlots n p slots → AllBelow n (all_held slots)
 all_below n p [] h = tt
 all_below n p (all ∷ more) h =
-    all_joined (λ a. a.number < n) all (all_held more) h.0.numbers (all_below n (p + 1) more h.1)
+    every_append (λ a. a.number < n) all (all_held more) h.0.numbers (all_below n (p + 1) more h.1)
 
 empty_slot : (n p : ℕ) → IsSlot n p []
 empty_slot n p = record { points = tt; numbers = tt; order = none_in_order n }
@@ -38,8 +39,8 @@ slots_more n p (all ∷ more) h = (slot_more n p all h.0, slots_more n (p + 1) m
 slot_put : (n p : ℕ) (a : Arrived) (all : List Arrived) → a.number ≡ n → a.rows.point ≡ p → IsSlot n p all
     → IsSlot (suc n) p (all ++ a ∷ [])
 slot_put n p a all number point h = record {
-  points = all_joined (λ b. b.rows.point ≡ p) all (a ∷ []) h.points (point, tt);
-  numbers = all_joined (λ b. b.number < suc n) all (a ∷ []) (below_more n all h.numbers)
+  points = every_append (λ b. b.rows.point ≡ p) all (a ∷ []) h.points (point, tt);
+  numbers = every_append (λ b. b.number < suc n) all (a ∷ []) (below_more n all h.numbers)
       ((omega (arith, number)), tt);
   order = comes_last a all [] n number h.numbers tt ∙ ap (λ bs. by_numbers n bs ++ a.rows ∷ []) (append-nil all)
       ∙ ap (λ rs. rs ++ a.rows ∷ []) h.order ∙ sym (map-append (λ b. b.rows) all (a ∷ []));
@@ -86,7 +87,7 @@ parts n p (suc i) a (all ∷ more) h =
       back = t.back;
       old = ap (λ bs. all ++ bs) t.old ∙ sym (append_assoc all t.front t.back);
       new = ap (λ bs. all ++ bs) t.new ∙ sym (append_assoc all t.front (a ∷ t.back));
-      below = all_joined (λ b. b.number < n) all t.front h.0.numbers t.below;
+      below = every_append (λ b. b.number < n) all t.front h.0.numbers t.below;
       beyond = t.beyond;
     }
 
@@ -102,7 +103,7 @@ later : (n p q : ℕ) (slots : List (List Arrived)) → p < q → AreSlots n q s
     → AllByRecursion (λ a. at_point p a.rows ≡ false) (all_held slots)
 later n p q [] low h = tt
 later n p q (all ∷ more) low h =
-    all_joined (λ a. at_point p a.rows ≡ false) all (all_held more)
+    every_append (λ a. at_point p a.rows ≡ false) all (all_held more)
     (each (λ a. a.rows.point ≡ q) (λ a. at_point p a.rows ≡ false)
     (λ a is. ne_eqb a.rows.point p (λ e. omega (arith, e, is, low))) all h.0.points)
     (later n p (q + 1) more (omega (arith, low)) h.1)

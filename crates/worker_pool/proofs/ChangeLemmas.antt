@@ -4,7 +4,6 @@ use Rattle.std.proofs.Common.{ap, sym, subst, refl, suc, All, append-nil, append
 use Rattle.std.specs.Prelude.{Result}
 use Rattle.std.specs.declared.collections.VecDeque.{VecDeque}
 use Rattle.std.specs.Global.{Global}
-use Rattle.std.specs.Option.{option_to_list}
 use Rattle.mfotl_model.specs.Strategies.{Strategy, workers_of}
 use Rattle.mfotl_model.specs.declared.event.TimePoint.{TimePoint}
 use Rattle.monitorable.specs.CoreForms.{CoreForm}
@@ -68,11 +67,6 @@ pub suits_routed : {d e f : Driver} {a b c : Option (List ℕ)} {t u v : Tally} 
 suits_routed {e} {f} entries s s2 r adds more same suits =
     subst (λ (cs : VecDeque Change Global). AllSuit (core_of f) cs.items) (sym same)
     (suits_by e f s (core_kept (adds r.0 r.1 r.2 r.3) (more r.0 r.1 r.2 r.4 r.3)) suits)
-
--- the changes, of which the first one was taken out
-pub taken : (old : List Change) (front : Option Change) (new : List Change) (c : Change)
-    → old ≡ option_to_list front ++ new → front ≡ Some c → old ≡ c ∷ new
-taken old front new c items is = items ∙ ap (λ o. option_to_list o ++ new) is
 
 -- ---- there are cells for what is to come
 

@@ -1,11 +1,10 @@
 -- The verdicts of a world are those of each policy that its core is one of.
 use Rattle.std.proofs.Common.{◌≡◌, ◌∙◌, ap, ap₂, sym, refl, ℕ, zero, suc, ◌+◌, ◌≤◌}
-use Rattle.std.proofs.Common.{Bool, true, false, cond, List, [], ◌∷◌, ◌++◌, map, length, take, drop, add-one}
-use Rattle.std.specs.List.{range_with_len, take_while}
+use Rattle.std.proofs.Common.{Bool, cond, List, [], ◌∷◌, ◌++◌, map, length, take, drop}
+use Rattle.std.specs.List.{range_with_len}
 use Rattle.std.proofs.lemmas.Grind.{flat_map-append}
 use Rattle.std.proofs.lemmas.List.{length-map, take-append-drop}
 use Rattle.std.proofs.lemmas.List.FromFn.{take-map-range_with_len}
-use Rattle.std.proofs.lemmas.List.Sums.{take_while-cons}
 use Rattle.mfotl_model.specs.Counts.{passing, settled_count}
 use Rattle.mfotl_model.specs.Formulas.{Form}
 use Rattle.mfotl_model.specs.Log.{times}
@@ -13,6 +12,7 @@ use Rattle.mfotl_model.specs.Satisfaction.{time_at}
 use Rattle.mfotl_model.specs.Settled.{settled}
 use Rattle.mfotl_model.specs.VerdictText.{VerdictOf, line_of, verdict_at, verdicts}
 use Rattle.mfotl_model.specs.declared.event.TimePoint.{TimePoint}
+use Rattle.mfotl_model.proofs.CountLemmas.{passing_taken}
 use Rattle.monitorable.specs.CoreForms.{CoreForm, meaning}
 use Rattle.monitorable.specs.Laws.{open_log}
 use Rattle.rescale_core.proofs.LogLemmas.{policy_violations}
@@ -21,18 +21,6 @@ use Rattle.rescale_core.specs.Worlds.{verdict_on}
 use Rattle.worker_pool.specs.Policies.{IsCoreOf}
 use Rattle.worker_pool.specs.Texts.{lines}
 use Rattle.worker_pool.specs.Writing.{all_verdicts, first_verdicts, seen}
-
-taken_by : (p : ℕ → Bool) (i n : ℕ) (b : Bool)
-    → take_while p (range_with_len (i + 1) n) ≡ range_with_len (i + 1) (passing p (i + 1) n)
-    → cond b (i ∷ take_while p (range_with_len (i + 1) n)) []
-    ≡ range_with_len i (cond b (passing p (i + 1) n + 1) 0)
-taken_by p i n true rest = ap (λ xs. i ∷ xs) rest ∙ ap (range_with_len i) (sym (add-one (passing p (i + 1) n)))
-taken_by p i n false rest = refl
-
--- the numbers before the first that fails the test
-taken : (p : ℕ → Bool) (i n : ℕ) → take_while p (range_with_len i n) ≡ range_with_len i (passing p i n)
-taken p i zero = refl
-taken p i (suc n) = take_while-cons p i (range_with_len (i + 1) n) ∙ taken_by p i n (p i) (taken p (i + 1) n)
 
 -- functions that agree map alike
 map_same : {A B : Type 0} (f g : A → B) → ((a : A) → f a ≡ g a) → (xs : List A) → map f xs ≡ map g xs
@@ -51,7 +39,7 @@ counted : (log : List TimePoint) (policy : Form)
 unfolding settled_count
 counted log policy =
     ap (map (verdict_at log policy))
-    (taken (settled (times log) policy) 0 (length log)
+    (passing_taken (settled (times log) policy) 0 (length log)
     ∙ ap (λ n. range_with_len 0 (passing (settled (times log) policy) 0 n)) (sym (length-map log (λ p. p.ts))))
 
 module _ (core : CoreForm) (policy : Form) (is : IsCoreOf core policy) (points : List TimePoint) where

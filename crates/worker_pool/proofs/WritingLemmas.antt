@@ -6,6 +6,7 @@ use Rattle.std.specs.Prelude.{Result}
 use Rattle.std.specs.List.{range_with_len}
 use Rattle.std.proofs.lemmas.Grind.{flat_map-append}
 use Rattle.std.proofs.lemmas.List.{map-append}
+use Rattle.std.proofs.KnownBytes.{Appends-nil, Appends-trans}
 use Rattle.mon_outside.specs.Sink.{Appends, AppendsFront}
 use Rattle.mfotl_model.specs.VerdictText.{VerdictOf, line_of}
 use Rattle.mfotl_model.specs.declared.event.TimePoint.{TimePoint}
@@ -32,7 +33,7 @@ use Rattle.worker_pool.specs.Writing.{AddsEntries, HasReadNothing, FallsShort, A
 use Rattle.worker_pool.specs.Writing.{Writes}
 use Rattle.worker_pool.specs.Writing.{all_verdicts, first_verdicts, seen}
 use Rattle.worker_pool.specs.declared.tally.Tally.{Tally}
-use Rattle.worker_pool.proofs.SinkLemmas.{appends_more, appends_none, front_behind, whole_front}
+use Rattle.worker_pool.proofs.SinkLemmas.{front_behind, whole_front}
 
 pub on_err : {T E : Type 0} (r : Result T E) (P : Type 0) → P → OnErr r P
 on_err (Ok x) P p = tt
@@ -144,7 +145,7 @@ wrote_one {d} {e} {v} {a} {b} emits line counts core read start w =
       core_is = w.core_is;
       read_is = w.read_is;
       verdicts = emitted_next w.world d v w.stands w.verdicts one.0;
-      text = subst (Appends start b) (sym (lines_more w.world.emitted v)) (appends_more start a b _ _ w.text line);
+      text = subst (Appends start b) (sym (lines_more w.world.emitted v)) (Appends-trans start a b _ _ w.text line);
       counts = counts (map seen w.world.emitted) w.counts
           ∙ ap tally_of (sym (map-append seen w.world.emitted (v ∷ [])));
     }
@@ -249,6 +250,6 @@ nothing_read core d start t begins none = record {
   core_is = refl;
   read_is = refl;
   verdicts = none_emitted core begins.first;
-  text = appends_none start;
+  text = Appends-nil start;
   counts = none;
 }

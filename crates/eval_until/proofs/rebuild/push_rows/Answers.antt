@@ -1,4 +1,5 @@
-use Rattle.std.proofs.Common.{◌≡◌, Bool, true, false, nat_eq, ◌&&◌, ◌||◌, List, [], ◌∷◌, refl, sym, ap, ◌∙◌, rules}
+use Rattle.std.proofs.Common.{◌≡◌, Bool, nat_eq, ◌&&◌, ◌||◌, List, [], ◌∷◌, sym, ap, ◌∙◌, rules}
+use Rattle.std.proofs.Math.Bool.{or_assoc, and_assoc, and-true}
 use Rattle.std.specs.List.{list_all, list_any}
 use Rattle.mfotl_model.specs.Tables.{has_row}
 use Rattle.mfotl_model.specs.declared.value.Value.{Value}
@@ -6,16 +7,7 @@ use Rattle.eval_until.specs.Keeping.{names}
 use Rattle.eval_until.specs.Recalled.{is_recalled}
 use Rattle.eval_until.specs.declared.contents.Taken.{Taken}
 use Rattle.eval_until.specs.declared.entries.Entry.{Entry}
-use Rattle.relations.proofs.TestLemmas.{and_true}
 use Rattle.eval_until.proofs.rebuild.push_rows.Goals as goal
-
-or_grouped : (a b c : Bool) → ((a || b) || c) ≡ (a || (b || c))
-or_grouped true b c = refl
-or_grouped false b c = refl
-
-and_grouped : (a b c : Bool) → ((a && b) && c) ≡ (a && (b && c))
-and_grouped true b c = refl
-and_grouped false b c = refl
 
 pub loop-row-preserved : goal.loop-row-preserved
 loop-row-preserved c =
@@ -23,7 +15,7 @@ loop-row-preserved c =
     record {
       names = λ u j.
           ap (λ b. b || is_recalled c.next.new.self u j) (c.in_ok-push_taken.ensures.names u j)
-          ∙ or_grouped (names c.loop-row.out.items u j)
+          ∙ or_assoc (names c.loop-row.out.items u j)
           (list_any (λ (e : Entry). nat_eq e.place j && has_row (c.in-Some.row.now ∷ []) u) c.in-Some.entries.now)
           (is_recalled c.next.new.self u j)
           ∙ sym (ap (λ rs. names c.loop-row.out.items u j || is_recalled rs u j) rest)
@@ -33,7 +25,7 @@ loop-row-preserved c =
           let passes : List (List Value × List Entry) → Bool =
           λ rs. list_all (λ (r : List Value × List Entry). list_all (λ (e : Entry). test e.place) r.1) rs in
           ap (λ b. b && passes c.next.new.self) (c.in_ok-push_taken.ensures.all test)
-          ∙ and_grouped (list_all (λ (q : Taken). test q.place) c.loop-row.out.items)
+          ∙ and_assoc (list_all (λ (q : Taken). test q.place) c.loop-row.out.items)
           (list_all (λ (e : Entry). test e.place) c.in-Some.entries.now) (passes c.next.new.self)
           ∙ sym (ap (λ rs. list_all (λ (q : Taken). test q.place) c.loop-row.out.items && passes rs) rest)
           ∙ c.loop-row.invariant.all test;
@@ -42,7 +34,7 @@ loop-row-preserved c =
 pub returns-clause-all : goal.returns-clause-all
 returns-clause-all c = λ test.
     let end : c.loop-row.row-iterator ≡ [] = search rules in
-    and_true (list_all (λ (q : Taken). test q.place) c.loop-row.out.items)
+    sym (and-true (list_all (λ (q : Taken). test q.place) c.loop-row.out.items))
     ∙ sym (ap (λ rs. list_all (λ (q : Taken). test q.place) c.loop-row.out.items
     && list_all (λ (r : List Value × List Entry). list_all (λ (e : Entry). test e.place) r.1) rs) end)
     ∙ c.loop-row.invariant.all test

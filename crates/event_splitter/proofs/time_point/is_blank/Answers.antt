@@ -1,8 +1,9 @@
 use Rattle.std.proofs.Common.{◌≡◌, ◌∙◌, ap, sym, not, true, false}
+use Rattle.std.proofs.lemmas.Bool.{not-true}
 use Rattle.std.specs.List.{list_any}
 use Rattle.monitorable.specs.Atoms.{atoms_of}
 use Rattle.monitorable.specs.Cores.{core_form}
-use Rattle.event_splitter.proofs.OwnedLemmas.{blank_part, none_are_seen, not_true, one_worker}
+use Rattle.event_splitter.proofs.OwnedLemmas.{blank_part, none_are_seen, one_worker}
 use Rattle.event_splitter.specs.Parts.{parts_for}
 use Rattle.event_splitter.specs.Readings.{is_seen}
 use Rattle.event_splitter.proofs.time_point.is_blank.Goals as goal
@@ -13,7 +14,7 @@ returns-then-workers-eq1-clause-blank g c = λ found.
     let near = g.S.Slicer.region s in
     let count = g.S.Slicer.count s in
     let atoms = c.atoms.result.now in
-    let none : list_any (is_seen atoms) c.inserted.result.now ≡ false = not_true _ (sym c.none_seen.ensures ∙ found) in
+    let none : list_any (is_seen atoms) c.inserted.result.now ≡ false = not-true _ (sym c.none_seen.ensures ∙ found) in
     sym (ap (λ asked. parts_for count near asked c.args.point.now) c.atoms.ensures)
     ∙ blank_part near count (sym c.workers.ensures.count ∙ c.if-workers-eq1.true) (g.met.S.Slicer.covers s) atoms
     c.args.point.now c.inserted.result.now c.inserted.ensures none

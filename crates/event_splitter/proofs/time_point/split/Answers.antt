@@ -1,7 +1,8 @@
 use Rattle.std.proofs.Common.{◌≡◌, ◌∙◌, ap, sym, replicate, [], length}
+use Rattle.std.proofs.lemmas.List.FromFn.{length-map-range_with_len}
 use Rattle.mfotl_model.specs.Ascending.{ascending}
 use Rattle.mfotl_model.specs.Events.{event_cmp}
-use Rattle.event_splitter.proofs.PartLemmas.{part_of, parts_none, parts_size, written_back}
+use Rattle.event_splitter.proofs.PartLemmas.{part_of, parts_none, written_back}
 use Rattle.event_splitter.proofs.time_point.split.Goals as goal
 use Rattle.event_splitter.specs.Parts.{parts_for}
 
@@ -20,8 +21,9 @@ returns g c =
     c.in_ok-give_all.ensures ts (c.as_mut_slice-parts.ensures.value ∙ none) in
     written_back c.give_all.new.parts c.in_ok-points.points.items c.in_ok-points.points.len
     (ap length all
-    ∙ parts_size (part_of near atoms ts events) 0 count
-    ∙ sym (ap length none ∙ parts_size (part_of near atoms ts []) 0 count)) (sym c.in_ok-points.points.ok.0)
+    ∙ length-map-range_with_len (part_of near atoms ts events) 0 count
+    ∙ sym (ap length none ∙ length-map-range_with_len (part_of near atoms ts []) 0 count))
+    (sym c.in_ok-points.points.ok.0)
     ∙ all
     ∙ ap (λ db. parts_for count near atoms (record { ts = ts; db = db })) c.inserted.ensures
     ∙ ap (λ asked. parts_for count near asked c.args.point.now) c.atoms.ensures

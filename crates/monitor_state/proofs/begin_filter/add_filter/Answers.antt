@@ -1,8 +1,8 @@
 use Rattle.std.proofs.Common.{subst, sym}
+use Rattle.std.proofs.lemmas.Result.{on_ok_weaker}
 use Rattle.monitorable.specs.CoreForms.{node_form}
 use Rattle.monitorable.specs.declared.role.Role.TheVariants as role
 use Rattle.monitor_state.proofs.FilterBegins.{filter_added, is_filtered_window, operand_accepted}
-use Rattle.monitor_state.proofs.OrderingLemmas.{on_ok_then}
 use Rattle.monitor_state.specs.Beginnings.{Accepted, WindowBegun}
 use Rattle.monitor_state.proofs.begin_filter.add_filter.Goals as goal
 
@@ -14,7 +14,7 @@ begun_window-requires c =
 
 pub returns : goal.returns
 returns c =
-    on_ok_then c.add.result _ _
+    on_ok_weaker c.add.result
     (filter_added (node_form c.args.left.now) (node_form c.args.right.now)
     (record {
       tables = c.new.result;

@@ -1,9 +1,9 @@
 use Rattle.std.proofs.Common.{ap, ◌∙◌}
+use Rattle.std.proofs.lemmas.Result.{on_ok_weaker}
 use Rattle.mfotl_model.specs.Tables.{all_apart}
 use Rattle.monitorable.proofs.FreeVariableLemmas.{fv_apart}
 use Rattle.monitorable.specs.CoreForms.{meaning, node_form}
 use Rattle.monitor_state.proofs.UntilBegins.{until_added}
-use Rattle.monitor_state.proofs.OrderingLemmas.{on_ok_then}
 use Rattle.monitor_state.proofs.begin_until.add_until.Goals as goal
 
 pub empty-requires : goal.empty-requires
@@ -15,7 +15,7 @@ empty-requires c =
 
 pub returns : goal.returns
 returns c =
-    on_ok_then c.add.result _ _
+    on_ok_weaker c.add.result
     (until_added (node_form c.args.whole.now) c.args.interval.now (node_form c.args.left.now)
     (node_form c.args.right.now) c.in_ok-state.state
     c.empty.result c.args.nodes.now.items c.add.new.nodes.items c.in_ok-state.ensures

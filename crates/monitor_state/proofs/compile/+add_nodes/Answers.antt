@@ -1,4 +1,5 @@
 use Rattle.std.proofs.Common.{rules, ◌<◌, ◌≤◌, ◌+◌, ◌*◌, ◌&&◌, ◌≡◌, true, subst, sym, ap, ◌∷◌, [], ◌++◌, ◌∙◌, arith}
+use Rattle.std.proofs.lemmas.Result.{on_ok_weaker}
 use Rattle.monitorable.specs.CoreForms.{node_form, And, Exists, Not, Next, Or, Previous, Since, Until}
 use Rattle.monitorable.specs.NodeCount.{nodes}
 use Rattle.monitorable.specs.declared.role.Role.TheVariants as role
@@ -11,7 +12,6 @@ use Rattle.monitor_state.proofs.GuardLemmas.{and_left, and_own_at, and_right, ex
 use Rattle.monitor_state.proofs.GuardLemmas.{not_own_at, not_under_at, or_even_at, or_left_at, or_right_at}
 use Rattle.monitor_state.proofs.GuardLemmas.{previous_under_at, since_covered_at, since_left_at, since_right_at}
 use Rattle.monitor_state.proofs.GuardLemmas.{until_covered_at, until_left_at, until_right_at}
-use Rattle.monitor_state.proofs.OrderingLemmas.{on_ok_then}
 use Rattle.monitor_state.proofs.SizeLemmas.{and_both_smaller, exists_smaller, next_smaller, nodes_some, not_smaller}
 use Rattle.monitor_state.proofs.SizeLemmas.{operand_no_larger, or_both_smaller, previous_smaller, since_both_smaller}
 use Rattle.monitor_state.proofs.SizeLemmas.{until_both_smaller}
@@ -22,21 +22,21 @@ use Rattle.monitor_state.proofs.compile.+add_nodes.Goals as goal
 
 pub add_nodes-returns-in-True : goal.add_nodes-returns-in-True
 add_nodes-returns-in-True t c =
-    on_ok_then c.add_true.result _ _
+    on_ok_weaker c.add_true.result
     (true_at c.args.role (node_form c.args.core.now) c.args.nodes.now.items c.add_true.new.nodes.items
     (ap node_form c.in-True.is))
     c.add_true.ensures
 
 pub add_nodes-returns-in-False : goal.add_nodes-returns-in-False
 add_nodes-returns-in-False t c =
-    on_ok_then c.add_false.result _ _
+    on_ok_weaker c.add_false.result
     (false_at c.args.role (node_form c.args.core.now) c.args.nodes.now.items c.add_false.new.nodes.items
     (ap node_form c.in-False.is))
     c.add_false.ensures
 
 pub add_nodes-returns-in-Atom : goal.add_nodes-returns-in-Atom
 add_nodes-returns-in-Atom t c =
-    on_ok_then c.add_atom.result _ _
+    on_ok_weaker c.add_atom.result
     (atom_at c.args.role (node_form c.args.core.now) c.in-Atom.atom c.args.nodes.now.items c.add_atom.new.nodes.items
     (ap node_form c.in-Atom.is))
     c.add_atom.ensures
@@ -46,14 +46,14 @@ add_nodes-add_comparison-requires t c = subst (Accepted c.args.role) (ap node_fo
 
 pub add_nodes-returns-in-Compare : goal.add_nodes-returns-in-Compare
 add_nodes-returns-in-Compare t c =
-    on_ok_then c.add_comparison.result _ _
+    on_ok_weaker c.add_comparison.result
     (compare_adds c.args.role (node_form c.args.core.now) c.in-Compare.comparison c.args.nodes.now.items
     c.add_comparison.new.nodes.items (ap node_form c.in-Compare.is))
     c.add_comparison.ensures
 
 pub add_nodes-returns-in_ok-add_nodes-in-Exists : goal.add_nodes-returns-in_ok-add_nodes-in-Exists
 add_nodes-returns-in_ok-add_nodes-in-Exists t c =
-    on_ok_then c.add_exists.result _ _
+    on_ok_weaker c.add_exists.result
     (exists_adds c.args.role (node_form c.args.core.now) c.in-Exists.bound (node_form c.in-Exists.inner.value)
     c.args.nodes.now.items c.add_nodes.new.nodes.items c.add_exists.new.nodes.items (ap node_form c.in-Exists.is)
     (subst (λ n. Adds (nodes_in role.Whole (node_form n)) c.args.nodes.now.items c.add_nodes.new.nodes.items)
@@ -62,7 +62,7 @@ add_nodes-returns-in_ok-add_nodes-in-Exists t c =
 
 pub add_nodes-returns-in_ok-add_nodes-in-Not : goal.add_nodes-returns-in_ok-add_nodes-in-Not
 add_nodes-returns-in_ok-add_nodes-in-Not t c =
-    on_ok_then c.add_join.result _ _
+    on_ok_weaker c.add_join.result
     (not_adds c.args.role c.under_not.result (node_form c.args.core.now) (node_form c.in-Not.inner.value)
     c.judges_not.result
     c.args.nodes.now.items c.add_nodes-in-Not.new.nodes.items c.add_join.new.nodes.items
@@ -73,7 +73,7 @@ add_nodes-returns-in_ok-add_nodes-in-Not t c =
 
 pub add_nodes-returns-in_ok-add_nodes-in-Previous : goal.add_nodes-returns-in_ok-add_nodes-in-Previous
 add_nodes-returns-in_ok-add_nodes-in-Previous t c =
-    on_ok_then c.add_previous.result _ _
+    on_ok_weaker c.add_previous.result
     (λ own.
     previous_adds c.args.role (node_form c.args.core.now) c.in-Previous.interval (node_form c.in-Previous.inner.value)
     c.args.nodes.now.items c.add_nodes-in-Previous.new.nodes.items c.add_previous.new.nodes.items
@@ -86,7 +86,7 @@ add_nodes-returns-in_ok-add_nodes-in-Previous t c =
 
 pub add_nodes-returns-in_ok-add_nodes-in-Next : goal.add_nodes-returns-in_ok-add_nodes-in-Next
 add_nodes-returns-in_ok-add_nodes-in-Next t c =
-    on_ok_then c.add_next.result _ _
+    on_ok_weaker c.add_next.result
     (λ own.
     next_adds c.args.role (node_form c.args.core.now) c.in-Next.interval (node_form c.in-Next.inner.value)
     c.args.nodes.now.items c.add_nodes-in-Next.new.nodes.items c.add_next.new.nodes.items
@@ -213,7 +213,7 @@ add_nodes-add_both-requires t c =
 
 pub add_nodes-returns-in_ok-add_both-in-Since : goal.add_nodes-returns-in_ok-add_both-in-Since
 add_nodes-returns-in_ok-add_both-in-Since t c =
-    on_ok_then c.add_since.result _ _
+    on_ok_weaker c.add_since.result
     (λ own.
     since_adds c.args.role (node_form c.args.core.now) c.in-Since.interval (node_form c.in-Since.left.value)
     (node_form c.in-Since.right.value)
@@ -257,7 +257,7 @@ add_nodes-add_both-requires-in-Until t c =
 
 pub add_nodes-returns-in_ok-add_both-in-Until : goal.add_nodes-returns-in_ok-add_both-in-Until
 add_nodes-returns-in_ok-add_both-in-Until t c =
-    on_ok_then c.add_until.result _ _
+    on_ok_weaker c.add_until.result
     (λ own.
     until_adds c.args.role (node_form c.args.core.now) c.in-Until.interval (node_form c.in-Until.left.value)
     (node_form c.in-Until.right.value)
@@ -297,7 +297,7 @@ add_nodes-add_both-requires-in-Or t c =
 
 pub add_nodes-returns-in_ok-add_both-in-Or : goal.add_nodes-returns-in_ok-add_both-in-Or
 add_nodes-returns-in_ok-add_both-in-Or t c =
-    on_ok_then c.add_or.result _ _
+    on_ok_weaker c.add_or.result
     (λ own.
     or_adds c.args.role (node_form c.args.core.now) (node_form c.in-Or.left.value) (node_form c.in-Or.right.value)
     c.args.nodes.now.items c.add_both-in-Or.new.nodes.items c.add_or.new.nodes.items
@@ -341,7 +341,7 @@ add_both-add_nodes-requires-2 t c =
 
 pub add_both-returns : goal.add_both-returns
 add_both-returns t c =
-    on_ok_then c.add_nodes-2.result _ _
+    on_ok_weaker c.add_nodes-2.result
     (λ second.
     adds_then (nodes_in c.args.left_role (node_form c.args.left.now))
     (nodes_in c.args.right_role (node_form c.args.right.now)) c.args.nodes.now.items
@@ -386,7 +386,7 @@ add_and-returns-then-branch t c =
     true = sym c.in_ok-is_filtered.ensures ∙ c.if-branch.true in
     let window = is_filter_window c.is_conjunction-own.result (node_form c.args.left.now) (node_form c.args.right.now)
     only in
-    on_ok_then c.add_filter.result _ _
+    on_ok_weaker c.add_filter.result
     (filter_adds c.args.role (node_form c.args.core.now) (node_form c.args.left.now) (node_form c.args.right.now)
     c.args.nodes.now.items c.add_nodes.new.nodes.items
     c.add_operands.new.nodes.items c.add_filter.new.nodes.items c.requires.sides
@@ -419,7 +419,7 @@ add_and-add_join-requires-clause-guarded t c =
 
 pub add_and-returns : goal.add_and-returns
 add_and-returns t c =
-    on_ok_then c.add_join.result _ _
+    on_ok_weaker c.add_join.result
     (and_adds c.args.role (node_form c.args.core.now) (node_form c.args.left.now) (node_form c.args.right.now)
     c.is_conjunction-own.result c.args.nodes.now.items
     c.add_both.new.nodes.items c.add_join.new.nodes.items c.requires.sides c.is_conjunction-own.ensures
@@ -452,7 +452,7 @@ add_operands-add_both-requires t c =
 
 pub add_operands-returns-in-Since : goal.add_operands-returns-in-Since
 add_operands-returns-in-Since t c =
-    on_ok_then c.add_both.result _ _
+    on_ok_weaker c.add_both.result
     (λ both.
     since_operands (node_form c.args.window.now) c.in-Since._interval (node_form c.in-Since.left.value)
     (node_form c.in-Since.right.value)
@@ -487,7 +487,7 @@ add_operands-add_both-requires-in-Until t c =
 
 pub add_operands-returns-in-Until : goal.add_operands-returns-in-Until
 add_operands-returns-in-Until t c =
-    on_ok_then c.add_both-in-Until.result _ _
+    on_ok_weaker c.add_both-in-Until.result
     (λ both.
     until_operands (node_form c.args.window.now) c.in-Until._interval (node_form c.in-Until.left.value)
     (node_form c.in-Until.right.value)

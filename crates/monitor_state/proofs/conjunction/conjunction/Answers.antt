@@ -1,6 +1,7 @@
-use Rattle.std.proofs.Common.{◌≡◌, ◌||◌, Bool, true, false, List, [], ◌∷◌, map, refl, sym, ap, ◌∙◌}
+use Rattle.std.proofs.Common.{◌≡◌, true, false, map, refl, sym, ap, ◌∙◌}
 use Rattle.std.proofs.lemmas.List.Folds.{list_all-map}
 use Rattle.std.specs.List.{list_all, list_any}
+use Rattle.mfotl_model.proofs.LogicLemmas.{any_map}
 use Rattle.eval_bool.specs.JoinView.{children_of, is_guarded, join_begun, tests_of}
 use Rattle.monitorable.specs.Conjuncts.{conjuncts_of}
 use Rattle.monitorable.specs.CoreForms.{node_form}
@@ -13,18 +14,13 @@ use Rattle.monitor_state.specs.Constants.{is_ground_test, passes_test}
 use Rattle.monitor_state.specs.Stands.{conjunct_as}
 use Rattle.monitor_state.proofs.conjunction.conjunction.Goals as goal
 
-any_mapped : {X Y : Type 0} (f : X → Y) (p : Y → Bool) (xs : List X)
-    → list_any (λ x. p (f x)) xs ≡ list_any p (map f xs)
-any_mapped f p [] = refl
-any_mapped f p (x ∷ xs) = ap (λ b. p (f x) || b) (any_mapped f p xs)
-
 pub join_state-requires : goal.join_state-requires
 join_state-requires c =
     let forms : map part_form c.as_slice-parts.result.now ≡ conjuncts_of (node_form c.args.core.now) =
     ap (map part_form) c.as_slice-parts.ensures.value ∙ c.in_ok-parts.ensures in
     let guarded = c.requires.guarded refl in
     record {
-      some = sym (any_mapped part_form is_child c.as_slice-parts.result.now) ∙ sym c.has_child.ensures
+      some = any_map is_child part_form c.as_slice-parts.result.now ∙ sym c.has_child.ensures
           ∙ c.if-has_child.true;
       guarded = ap (λ ps. is_guarded (children_of (map conjunct_as ps)) (tests_of (map conjunct_as ps))) forms
           ∙ join_guarded guarded.0 (node_form c.args.core.now) guarded.1;
@@ -35,7 +31,7 @@ returns-then-has_child c =
     let forms : map part_form c.as_slice-parts.result.now ≡ conjuncts_of (node_form c.args.core.now) =
     ap (map part_form) c.as_slice-parts.ensures.value ∙ c.in_ok-parts.ensures in
     let has : list_any is_child (conjuncts_of (node_form c.args.core.now)) ≡ true =
-    ap (list_any is_child) (sym forms) ∙ sym (any_mapped part_form is_child c.as_slice-parts.result.now)
+    ap (list_any is_child) (sym forms) ∙ any_map is_child part_form c.as_slice-parts.result.now
     ∙ sym c.has_child.ensures ∙ c.if-has_child.true in
     join_node (node_form c.args.core.now) c.in_ok-state.state c.requires.joined
     (c.requires.whole refl)
@@ -50,7 +46,7 @@ tested-requires c =
     ap (map part_form) c.as_slice-parts.ensures.value ∙ c.in_ok-parts.ensures in
     let guarded = c.requires.guarded refl in
     let none : list_any is_child (conjuncts_of (node_form c.args.core.now)) ≡ false =
-    ap (list_any is_child) (sym forms) ∙ sym (any_mapped part_form is_child c.as_slice-parts.result.now)
+    ap (list_any is_child) (sym forms) ∙ any_map is_child part_form c.as_slice-parts.result.now
     ∙ sym c.has_child.ensures ∙ c.if-has_child.false in
     sym (list_all-map is_ground_test part_form c.as_slice-parts.result.now)
     ∙ ap (list_all is_ground_test) forms
@@ -62,7 +58,7 @@ returns c =
     ap (map part_form) c.as_slice-parts.ensures.value ∙ c.in_ok-parts.ensures in
     let guarded = c.requires.guarded refl in
     let none : list_any is_child (conjuncts_of (node_form c.args.core.now)) ≡ false =
-    ap (list_any is_child) (sym forms) ∙ sym (any_mapped part_form is_child c.as_slice-parts.result.now)
+    ap (list_any is_child) (sym forms) ∙ any_map is_child part_form c.as_slice-parts.result.now
     ∙ sym c.has_child.ensures ∙ c.if-has_child.false in
     tests_node (node_form c.args.core.now) c.in_ok-table.table c.requires.joined
     (tests_are guarded.0 (node_form c.args.core.now) c.in_ok-table.table

@@ -1,9 +1,9 @@
 use Rattle.std.proofs.Common.{◌≡◌, ◌<◌, length, map, sym, ap, subst, ◌∙◌}
+use Rattle.std.proofs.lemmas.Result.{IfOk-weaker}
 use Rattle.eval_bool.specs.JoinView.{JoinOf, all_children, children_of, conjunct_of, is_guarded, join_begun, tests_of}
 use Rattle.mfotl_model.specs.Tables.{all_apart}
 use Rattle.monitorable.specs.PartView.{part_form}
 use Rattle.monitor_state.proofs.GuardLemmas.{join_apart, some_child}
-use Rattle.monitor_state.proofs.OrderingLemmas.{ok_then}
 use Rattle.monitor_state.specs.Stands.{conjunct_as}
 use Rattle.monitor_state.proofs.conjunction.join_state.Goals as goal
 
@@ -23,6 +23,6 @@ new-requires-clause-guarded c =
 
 pub returns : goal.returns
 returns c =
-    ok_then c.new.result (λ (s : JoinOf). s ≡ join_begun (map conjunct_of c.in_ok-own.own.items))
+    IfOk-weaker c.new.result (λ (s : JoinOf). s ≡ join_begun (map conjunct_of c.in_ok-own.own.items))
     (λ (s : JoinOf). s ≡ join_begun (map conjunct_as (map part_form c.args.parts.now)))
     (λ s is. is ∙ ap join_begun c.in_ok-own.ensures) c.new.ensures.state

@@ -1,9 +1,9 @@
 use Rattle.std.proofs.Common.{rules, ◌≡◌, true, sym, ◌∙◌}
+use Rattle.std.proofs.lemmas.Result.{on_ok_weaker}
 use Rattle.monitorable.specs.CoreForms.{Compare}
 use Rattle.monitorable.specs.Fragment.{binds}
 use Rattle.monitor_state.proofs.BeginLemmas.{judged_adds}
 use Rattle.monitor_state.proofs.ConstantLemmas.{alone_fixed}
-use Rattle.monitor_state.proofs.OrderingLemmas.{on_ok_then}
 use Rattle.monitor_state.specs.Constants.{stands_alone}
 use Rattle.monitor_state.specs.declared.node.Node.TheVariants as node
 use Rattle.monitor_state.proofs.constant.add_comparison.Goals as goal
@@ -16,7 +16,7 @@ comparison_table-requires c =
 pub returns : goal.returns
 returns c =
     let own : c.stands_alone.result ≡ true = search (rules, c.if-not-stands_alone.false) in
-    on_ok_then c.add.result _ _
+    on_ok_weaker c.add.result
     (judged_adds (stands_alone c.args.role (binds c.args.comparison.now)) (Compare c.args.comparison.now)
     (node.Constant c.in_ok-table.table) c.args.nodes.now.items c.add.new.nodes.items
     (sym c.stands_alone.ensures ∙ own) (c.in_ok-table.ensures, λ view empty. tt))

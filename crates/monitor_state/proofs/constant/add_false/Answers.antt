@@ -1,11 +1,11 @@
 use Rattle.std.proofs.Common.{◌∙◌}
+use Rattle.std.proofs.lemmas.Result.{on_ok_weaker}
 use Rattle.monitor_state.proofs.BeginLemmas.{false_adds}
-use Rattle.monitor_state.proofs.OrderingLemmas.{on_ok_then}
 use Rattle.monitor_state.proofs.constant.add_false.Goals as goal
 
 pub returns : goal.returns
 returns c =
-    on_ok_then c.add.result _ _
+    on_ok_weaker c.add.result
     (false_adds c.empty-table.result c.args.nodes.now.items c.add.new.nodes.items
     (c.empty-table.ensures.columns ∙ c.new.ensures.items) c.empty-table.ensures.has)
     c.add.ensures

@@ -1,10 +1,10 @@
 use Rattle.std.proofs.Common.{cond, [], ◌∷◌, ◌++◌, ap, ◌∙◌}
-use Rattle.monitor_state.proofs.OrderingLemmas.{on_ok_then}
+use Rattle.std.proofs.lemmas.Result.{on_ok_weaker}
 use Rattle.monitor_state.proofs.filter.keep_held.Goals as goal
 
 pub returns : goal.returns
 returns c =
-    on_ok_then c.keep.result _ _
+    on_ok_weaker c.keep.result
     (λ is. (
       c.in_ok-answer.answer,
       c.in_ok-answer.ensures,

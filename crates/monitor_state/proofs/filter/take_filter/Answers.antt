@@ -1,6 +1,6 @@
 use Rattle.std.proofs.Common.{List, refl}
+use Rattle.std.proofs.lemmas.Result.{IfOk-weaker}
 use Rattle.mfotl_model.specs.Tables.{TableOf}
-use Rattle.monitor_state.proofs.OrderingLemmas.{ok_then}
 use Rattle.monitor_state.specs.FilterFeeding.{FilterPulled, FilterStops, FilterTakes}
 use Rattle.monitor_state.specs.declared.filter.FilterState.{FilterState}
 use Rattle.monitor_state.proofs.filter.take_filter.Goals as goal
@@ -16,7 +16,7 @@ returns c =
     } in
     let Pulled : List TableOf → Type 0 =
     λ tables. (last : FilterState) × FilterPulled fed last tables × FilterStops last c.pulled.new.state in
-    ok_then c.pulled.result Pulled
+    IfOk-weaker c.pulled.result Pulled
     (FilterTakes c.args.state.now c.args.ts c.args.tables c.args.left c.args.right c.pulled.new.state)
     (λ tables pulled.
     record {

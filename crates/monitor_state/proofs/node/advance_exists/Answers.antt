@@ -1,5 +1,5 @@
+use Rattle.std.proofs.lemmas.Result.{IfOk-weaker}
 use Rattle.monitor_state.proofs.NodeSteps.{exists_advances}
-use Rattle.monitor_state.proofs.OrderingLemmas.{ok_then}
 use Rattle.monitor_state.specs.Quantified.{Quantifies}
 use Rattle.monitor_state.specs.Steps.{TakesPoint}
 use Rattle.monitor_state.specs.declared.node.Node.TheVariants as node
@@ -7,7 +7,7 @@ use Rattle.monitor_state.proofs.node.advance_exists.Goals as goal
 
 pub returns : goal.returns
 returns c =
-    ok_then c.quantified.result (Quantifies c.args.var c.popped-tables.result)
+    IfOk-weaker c.quantified.result (Quantifies c.args.var c.popped-tables.result)
     (TakesPoint (node.Exists c.args.var) c.args._point.now c.args.stack.now.items (node.Exists c.args.var)
     c.popped-tables.new.stack.items)
     (λ tables q.

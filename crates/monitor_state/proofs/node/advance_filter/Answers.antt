@@ -1,5 +1,5 @@
+use Rattle.std.proofs.lemmas.Result.{IfOk-weaker}
 use Rattle.monitor_state.proofs.NodeSteps.{filter_advances}
-use Rattle.monitor_state.proofs.OrderingLemmas.{ok_then}
 use Rattle.monitor_state.specs.FilterFeeding.{FilterTakes}
 use Rattle.monitor_state.specs.Steps.{TakesPoint}
 use Rattle.monitor_state.specs.declared.node.Node.TheVariants as node
@@ -7,7 +7,7 @@ use Rattle.monitor_state.proofs.node.advance_filter.Goals as goal
 
 pub returns : goal.returns
 returns c =
-    ok_then c.take_filter.result
+    IfOk-weaker c.take_filter.result
     (FilterTakes c.args.state.now c.args.point.now.ts c.popped-tables.result c.popped-left.result c.popped-right.result
     c.take_filter.new.state)
     (TakesPoint (node.Filter c.args.state.now) c.args.point.now c.args.stack.now.items

@@ -1,6 +1,6 @@
 use Rattle.std.proofs.Common.{subst}
+use Rattle.std.proofs.lemmas.Result.{IfOk-weaker}
 use Rattle.monitor_state.proofs.NodeSteps.{join_advances}
-use Rattle.monitor_state.proofs.OrderingLemmas.{ok_then}
 use Rattle.monitor_state.specs.JoinFeeding.{JoinTakes}
 use Rattle.monitor_state.specs.Stacks.{PopsMany}
 use Rattle.monitor_state.specs.Steps.{TakesPoint}
@@ -9,7 +9,7 @@ use Rattle.monitor_state.proofs.node.advance_join.Goals as goal
 
 pub returns : goal.returns
 returns c =
-    ok_then c.take_join.result (JoinTakes c.args.state.now c.in_ok-lists.lists.items c.take_join.new.state)
+    IfOk-weaker c.take_join.result (JoinTakes c.args.state.now c.in_ok-lists.lists.items c.take_join.new.state)
     (TakesPoint (node.Join c.args.state.now) c.args._point.now c.args.stack.now.items (node.Join c.take_join.new.state)
     c.popped_many.new.stack.items)
     (λ tables takes.

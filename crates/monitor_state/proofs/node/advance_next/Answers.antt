@@ -1,5 +1,5 @@
+use Rattle.std.proofs.lemmas.Result.{IfOk-weaker}
 use Rattle.monitor_state.proofs.NodeSteps.{next_advances}
-use Rattle.monitor_state.proofs.OrderingLemmas.{ok_then}
 use Rattle.monitor_state.specs.NextFeeding.{NextTakes}
 use Rattle.monitor_state.specs.Steps.{TakesPoint}
 use Rattle.monitor_state.specs.declared.node.Node.TheVariants as node
@@ -7,7 +7,7 @@ use Rattle.monitor_state.proofs.node.advance_next.Goals as goal
 
 pub returns : goal.returns
 returns c =
-    ok_then c.take_next.result
+    IfOk-weaker c.take_next.result
     (NextTakes c.args.state.now c.args.point.now.ts c.popped-operand.result c.take_next.new.state)
     (TakesPoint (node.Next c.args.state.now) c.args.point.now c.args.stack.now.items
     (node.Next c.take_next.new.state) c.popped-operand.new.stack.items)

@@ -1,5 +1,5 @@
+use Rattle.std.proofs.lemmas.Result.{IfOk-weaker}
 use Rattle.monitor_state.proofs.NodeSteps.{or_advances}
-use Rattle.monitor_state.proofs.OrderingLemmas.{ok_then}
 use Rattle.monitor_state.specs.OrFeeding.{OrTakes}
 use Rattle.monitor_state.specs.Steps.{TakesPoint}
 use Rattle.monitor_state.specs.declared.node.Node.TheVariants as node
@@ -7,7 +7,7 @@ use Rattle.monitor_state.proofs.node.advance_or.Goals as goal
 
 pub returns : goal.returns
 returns c =
-    ok_then c.take_or.result
+    IfOk-weaker c.take_or.result
     (OrTakes c.args.state.now c.popped-left.result c.popped-right.result c.take_or.new.state)
     (TakesPoint (node.Or c.args.state.now) c.args._point.now c.args.stack.now.items
     (node.Or c.take_or.new.state) c.popped-left.new.stack.items)

@@ -1,5 +1,5 @@
+use Rattle.std.proofs.lemmas.Result.{IfOk-weaker}
 use Rattle.monitor_state.proofs.NodeSteps.{previous_advances}
-use Rattle.monitor_state.proofs.OrderingLemmas.{ok_then}
 use Rattle.monitor_state.specs.PreviousFeeding.{PreviousTakes}
 use Rattle.monitor_state.specs.Steps.{TakesPoint}
 use Rattle.monitor_state.specs.declared.node.Node.TheVariants as node
@@ -7,7 +7,7 @@ use Rattle.monitor_state.proofs.node.advance_previous.Goals as goal
 
 pub returns : goal.returns
 returns c =
-    ok_then c.take_previous.result
+    IfOk-weaker c.take_previous.result
     (PreviousTakes c.args.state.now c.args.point.now.ts c.popped-operand.result c.take_previous.new.state)
     (TakesPoint (node.Previous c.args.state.now) c.args.point.now c.args.stack.now.items
     (node.Previous c.take_previous.new.state) c.popped-operand.new.stack.items)

@@ -1,5 +1,5 @@
+use Rattle.std.proofs.lemmas.Result.{IfOk-weaker}
 use Rattle.monitor_state.proofs.NodeSteps.{until_advances}
-use Rattle.monitor_state.proofs.OrderingLemmas.{ok_then}
 use Rattle.monitor_state.specs.UntilFeeding.{UntilTakes}
 use Rattle.monitor_state.specs.Steps.{TakesPoint}
 use Rattle.monitor_state.specs.declared.node.Node.TheVariants as node
@@ -7,7 +7,7 @@ use Rattle.monitor_state.proofs.node.advance_until.Goals as goal
 
 pub returns : goal.returns
 returns c =
-    ok_then c.take_until.result
+    IfOk-weaker c.take_until.result
     (UntilTakes c.args.order.now.columns c.args.state.now c.args.point.now.ts c.popped-left.result
     c.popped-right.result c.take_until.new.state)
     (TakesPoint (node.Until c.args.state.now c.args.order.now) c.args.point.now c.args.stack.now.items

@@ -1,11 +1,12 @@
-use Rattle.monitor_state.proofs.OrderingLemmas.{on_ok_then}
+use Rattle.std.proofs.lemmas.Result.{on_ok_weaker}
 use Rattle.monitor_state.specs.UntilFeeding.{UntilFeeds}
 use Rattle.monitor_state.proofs.until.feed_until.Goals as goal
 
 pub returns : goal.returns
 returns c =
-    on_ok_then c.push_rights.result _ (UntilFeeds c.args.state.now c.args.ts c.args.left c.args.right
-    c.push_rights.new.state)
+    on_ok_weaker {Q = UntilFeeds c.args.state.now c.args.ts c.args.left c.args.right
+    c.push_rights.new.state}
+    c.push_rights.result
     (λ rights.
     record {
       timed = c.push_time.new.self;

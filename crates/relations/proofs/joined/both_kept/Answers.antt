@@ -1,7 +1,7 @@
 use Rattle.std.proofs.Common.{sym, ◌∙◌}
 use Rattle.mfotl_model.specs.FreeVariables.{joined}
 use Rattle.relations.specs.Operations.{joined_rows, joined_table}
-use Rattle.relations.proofs.InsideLemmas.{joined_inside}
+use Rattle.relations.proofs.InsideLemmas.{joined_within}
 use Rattle.relations.proofs.OperationLaws.{has_as}
 use Rattle.relations.proofs.TwiceLemmas.{has_twice, kept_is}
 use Rattle.relations.proofs.joined.both_kept.Goals as goal
@@ -9,7 +9,7 @@ use Rattle.relations.proofs.joined.both_kept.Goals as goal
 pub returns-clause-columns : goal.returns-clause-columns
 returns-clause-columns c =
     c.in_ok-table.ensures.columns
-    ∙ sym (joined_inside (joined c.args.first.now.columns c.args.second.now.columns) c.args.third.now.columns
+    ∙ sym (joined_within (joined c.args.first.now.columns c.args.second.now.columns) c.args.third.now.columns
     c.requires.inside)
 
 pub returns-clause-rows : goal.returns-clause-rows
@@ -24,7 +24,7 @@ returns-clause-has c = λ v.
     let b = c.args.second.now in
     let d = c.args.third.now in
     has_as c.in_ok-table.table (joined (joined a.columns b.columns) d.columns) (joined_rows (joined_table a b) d) v
-    (c.in_ok-table.ensures.columns ∙ sym (joined_inside (joined a.columns b.columns) d.columns c.requires.inside))
+    (c.in_ok-table.ensures.columns ∙ sym (joined_within (joined a.columns b.columns) d.columns c.requires.inside))
     (c.in_ok-table.ensures.rows ∙ kept_is a b d c.rows.ensures.is_table c.rows-2.ensures.is_table
     c.rows-3.ensures.is_table c.requires.inside)
     ∙ has_twice a b d c.rows.ensures.is_table c.rows-2.ensures.is_table c.rows-3.ensures.is_table v

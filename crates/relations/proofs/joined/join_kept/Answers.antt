@@ -5,8 +5,9 @@ use Rattle.mfotl_model.specs.FreeVariables.{joined}
 use Rattle.mfotl_model.specs.Tables.{all_among, all_apart, all_sized, has_row}
 use Rattle.mfotl_model.specs.Values.{row_cmp}
 use Rattle.mfotl_model.specs.declared.value.Value.{Value}
+use Rattle.mfotl_model.proofs.ColumnLemmas.{joined_apart}
 use Rattle.relations.specs.Operations.{common, has_part, pairs, pairs_of, table_of_rows}
-use Rattle.relations.proofs.ColumnLemmas.{apart_joined, common_in_second}
+use Rattle.relations.proofs.ColumnLemmas.{common_in_second}
 use Rattle.relations.proofs.OperationLaws.{sized_filtered, sized_pairs}
 use Rattle.relations.proofs.TwiceLemmas.{kept_alike, kept_each, kept_of_join}
 use Rattle.relations.proofs.joined.join_kept.Goals as goal
@@ -22,7 +23,7 @@ pub from_rows-requires-clause-apart : goal.from_rows-requires-clause-apart
 from_rows-requires-clause-apart g c =
     ap all_apart (c.in_ok-columns.ensures ∙ (λ i. joined (c.columns.ensures.columns i)
     (c.columns-2.ensures.columns i)))
-    ∙ apart_joined c.args.first.now.columns c.args.second.now.columns c.columns.ensures.apart c.columns-2.ensures.apart
+    ∙ joined_apart c.args.first.now.columns c.args.second.now.columns c.columns.ensures.apart c.columns-2.ensures.apart
 
 pub from_rows-requires-clause-sized : goal.from_rows-requires-clause-sized
 from_rows-requires-clause-sized g c =

@@ -3,7 +3,7 @@ use Rattle.std.specs.List.{filter}
 use Rattle.mfotl_model.specs.FreeVariables.{joined}
 use Rattle.mfotl_model.specs.Tables.{has_row, part}
 use Rattle.relations.specs.Operations.{joined_rows}
-use Rattle.relations.proofs.InsideLemmas.{joined_inside, matched_is}
+use Rattle.relations.proofs.InsideLemmas.{joined_within, matched_is}
 use Rattle.relations.proofs.OperationLaws.{has_as, has_joined, some_of}
 use Rattle.relations.proofs.joined.only_matched.Goals as goal
 
@@ -23,7 +23,7 @@ of-requires c =
 pub returns-clause-columns : goal.returns-clause-columns
 returns-clause-columns c =
     c.of.ensures.columns ∙ c.into_parts-columns.ensures.columns
-    ∙ sym (joined_inside c.args.table.columns c.args.other.now.columns c.requires.inside)
+    ∙ sym (joined_within c.args.table.columns c.args.other.now.columns c.requires.inside)
 
 pub returns-clause-rows : goal.returns-clause-rows
 returns-clause-rows c =
@@ -42,7 +42,7 @@ returns-clause-has c = λ v.
     let b = c.args.other.now in
     let parts = c.into_parts-columns in
     has_as c.of.result (joined a.columns b.columns) (joined_rows a b) v
-    (c.of.ensures.columns ∙ parts.ensures.columns ∙ sym (joined_inside a.columns b.columns c.requires.inside))
+    (c.of.ensures.columns ∙ parts.ensures.columns ∙ sym (joined_within a.columns b.columns c.requires.inside))
     (c.of.ensures.rows ∙ c.in_ok-kept.ensures
     ∙ (λ i. filter (λ row. has_row (c.rows-seconds.ensures.rows i)
     (part ((c.as_slice.ensures ∙ parts.ensures.columns) i) (c.columns-wanted.ensures.columns i) row))

@@ -1,24 +1,17 @@
-use Rattle.std.proofs.Common.{◌≡◌, ℕ, zero, suc, List, [], ◌∷◌, map, ap, sym, ◌∙◌, refl, subst}
-use mathlib.Core.Option.{some}
+use Rattle.std.proofs.Common.{◌≡◌, List, ap, sym, ◌∙◌, subst}
 use lib.ListN.{get_elem?}
 use Rattle.turn_hub.specs.Steps.{started}
+use Rattle.turn_hub.proofs.Opens.{from_map}
 use Rattle.rescale_core.specs.Moving.{CellLine}
 use Rattle.rescale_core.specs.Works.{begun, seen}
 use Rattle.rescale_core.specs.declared.worker.Worker.{Worker}
 use Rattle.rescale_core.proofs.laws.opened_workers.Goals as goal
 
--- what stands in a place of a mapped list
-mapped : {A B : Type 0} (f : A → B) (xs : List A) (k : ℕ) (y : B) → get_elem? (map f xs) k ≡ some y
-    → (x : A) × (get_elem? xs k ≡ some x) × (f x ≡ y)
-mapped f [] k y e = cc
-mapped f (x ∷ xs) zero y e = (x, refl, cc)
-mapped f (x ∷ xs) (suc k) y e = mapped f xs k y e
-
 pub returns : goal.returns
 returns c = λ core s works main each lines. (
   (λ k w at. (each k w at).1),
   (λ k l at.
-      let found = mapped (λ (w : Worker). started (begun w)) works k l
+      let found = from_map (λ (w : Worker). started (begun w)) works k l
       (ap (λ (z : List CellLine). get_elem? z k) (sym lines) ∙ at) in (
         subst (λ (y : CellLine). seen y.seed ≡ record { core = core; first = s; number = k }) found.2
             (each k found.0 found.1).0,

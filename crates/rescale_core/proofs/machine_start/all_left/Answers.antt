@@ -1,7 +1,8 @@
 use Rattle.std.proofs.Common.{◌≡◌, ◌≤◌, ◌∷◌, ◌++◌, [], List, ap, sym, append_assoc, subst, ◌∙◌, arith}
+use Rattle.std.proofs.Permutation.{every_append}
 use Rattle.rescale_core.specs.Cells.{AreWithin, workers_for}
 use Rattle.rescale_core.specs.declared.item.Entry.{Entry}
-use Rattle.rescale_core.proofs.Fitting.{every_map, every_more}
+use Rattle.rescale_core.proofs.Fitting.{every_map}
 use Rattle.rescale_core.proofs.machine_start.all_left.Goals as goal
 
 pub loop-entry-preserved : goal.loop-entry-preserved
@@ -20,7 +21,7 @@ loop-entry-preserved c =
       left = ap (λ x. x ++ rest) items ∙ append_assoc done (entry ∷ []) rest ∙ ap (λ x. done ++ x) (sym e) ∙ i.left;
       wide = (let h = i.wide in omega arith);
       within = subst (AreWithin c.larger-most.result) (sym items)
-          (every_more (λ (x : Entry). workers_for x ≤ c.larger-most.result) done (entry ∷ [])
+          (every_append (λ (x : Entry). workers_for x ≤ c.larger-most.result) done (entry ∷ [])
           (every_map (λ (x : Entry). workers_for x ≤ c.loop-entry.most)
           (λ (x : Entry). workers_for x ≤ c.larger-most.result) done (λ x h. (omega arith)) i.within)
           (second, tt));

@@ -1,14 +1,15 @@
-use Rattle.std.proofs.Common.{◌≡◌, List, [], ◌∷◌, ◌++◌, subst, subst₂, sym}
+use Rattle.std.proofs.Common.{◌≡◌, List, [], ◌∷◌, ◌++◌, subst, subst₂, sym, ◌∙◌}
+use Rattle.std.proofs.lemmas.List.{nil_from_length}
 use Rattle.mfotl_model.specs.Tables.{TableOf}
 use Rattle.monitor_state.specs.StateUnions.{TablesUnion}
 use Rattle.state_merge.specs.Fits.{TablesFit}
-use Rattle.state_merge.proofs.EndLemmas.{none_left, tables_done, tables_on}
+use Rattle.state_merge.proofs.EndLemmas.{tables_done, tables_on}
 use Rattle.state_merge.proofs.tables.united_tables.Goals as goal
 
 pub returns : goal.returns
 returns c =
     let rest = c.loop-table.table-iterator.rest in
-    let none : rest.items ≡ [] = none_left rest.items rest.len rest.ok.0 c.in-None.ensures.steps.0 in
+    let none : rest.items ≡ [] = nil_from_length rest.items (sym rest.ok.0 ∙ c.in-None.ensures.steps.0) in
     tables_done c.args.first.items c.args.second.items c.loop-table.table-iterator.rest.items
     c.loop-table.others.rest.items c.loop-table.tables.items none c.loop-table.invariant.fit c.loop-table.invariant.done
 

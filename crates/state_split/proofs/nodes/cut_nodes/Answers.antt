@@ -1,10 +1,10 @@
 use Rattle.std.proofs.Common.{rules, ◌≡◌, ◌∙◌, ap, sym, subst, [], ◌++◌, List, length, map}
-use Rattle.std.proofs.lemmas.List.{length-map, length-replicate}
+use Rattle.std.proofs.lemmas.List.{length-map, length-replicate, nil_from_length}
 use Rattle.relations.specs.Pushed.{StandFrom}
 use Rattle.monitor_state.specs.StateCuts.{NodeCut, NodesCut}
 use Rattle.monitor_state.specs.declared.state.NodeData.{NodeData}
 use Rattle.state_split.specs.Fits.{NodeFits, NodesFit}
-use Rattle.state_split.proofs.ShareLemmas.{empty_stand, longer_size, longer_stands, none_left, stand_unmapped}
+use Rattle.state_split.proofs.ShareLemmas.{empty_stand, longer_size, longer_stands, stand_unmapped}
 use Rattle.state_split.proofs.ShareLemmas.{stand_weaker}
 use Rattle.state_split.proofs.SieveLemmas.{nodes_all, nodes_step}
 use Rattle.state_split.proofs.nodes.cut_nodes.Goals as goal
@@ -59,7 +59,7 @@ returns g c =
     let near = g.S.Sorter.region c.args.sorter.now in
     let nodes = c.args.nodes.items in
     let left = c.loop-node.node-iterator.rest in
-    let none : left.items ≡ [] = none_left left.items left.len left.ok.0 c.in-None.ensures.steps.0 in
+    let none : left.items ≡ [] = nil_from_length left.items (sym left.ok.0 ∙ c.in-None.ensures.steps.0) in
     record {
       sized = c.loop-node.invariant.sized;
       each = stand_unmapped (λ k share. NodesFit nodes → NodesCut (near k) nodes share) (λ s. s.items) 0

@@ -1,9 +1,9 @@
 use Rattle.std.proofs.Common.{rules, ◌≡◌, ◌∙◌, ap, sym, subst, ℕ, Bool, ◌++◌, List, length, map, []}
-use Rattle.std.proofs.lemmas.List.{length-map, length-replicate}
+use Rattle.std.proofs.lemmas.List.{length-map, length-replicate, nil_from_length}
 use Rattle.std.specs.List.{filter}
 use Rattle.relations.specs.Pushed.{StandFrom}
 use Rattle.state_split.specs.Sieves.{is_kept}
-use Rattle.state_split.proofs.ShareLemmas.{dealt_all, dealt_step, given_size, given_stands, none_left}
+use Rattle.state_split.proofs.ShareLemmas.{dealt_all, dealt_step, given_size, given_stands}
 use Rattle.state_split.proofs.ShareLemmas.{stand_unmapped, stand_weaker, told_nothing}
 use Rattle.state_split.proofs.rows.dealt_rows.Goals as goal
 
@@ -50,7 +50,7 @@ returns g c =
     is_kept (g.S.Sorter.region c.args.sorter.now k) c.args.columns.now (g.K.Kept.row_of e) in
     let told = g.K.Kept.told in
     let left = c.loop-kept.kept-iterator.rest in
-    let none : left.items ≡ [] = none_left left.items left.len left.ok.0 c.in-None.ensures.steps.0 in
+    let none : left.items ≡ [] = nil_from_length left.items (sym left.ok.0 ∙ c.in-None.ensures.steps.0) in
     let all : ℕ → List g.K.Kept.Told = λ k. filter (goes k) (map told c.args.rows.items) in
     record {
       sized = c.loop-kept.invariant.sized;

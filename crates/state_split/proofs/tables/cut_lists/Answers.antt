@@ -1,9 +1,9 @@
 use Rattle.std.proofs.Common.{rules, ◌≡◌, ◌∙◌, ap, sym, subst, refl, ℕ, [], ◌∷◌, ◌++◌, List, length, map}
-use Rattle.std.proofs.lemmas.List.{length-map, length-replicate}
+use Rattle.std.proofs.lemmas.List.{length-map, length-replicate, nil_from_length}
 use Rattle.mfotl_model.specs.Tables.{TableOf}
 use Rattle.relations.specs.Pushed.{StandFrom}
 use Rattle.monitor_state.specs.StateCuts.{cut_tables}
-use Rattle.state_split.proofs.ShareLemmas.{empty_stand, longer_size, longer_stands, mapped_all, mapped_step, none_left}
+use Rattle.state_split.proofs.ShareLemmas.{empty_stand, longer_size, longer_stands, mapped_all, mapped_step}
 use Rattle.state_split.proofs.ShareLemmas.{stand_unmapped, stand_weaker, told_more}
 use Rattle.state_split.proofs.tables.cut_lists.Goals as goal
 
@@ -51,7 +51,7 @@ pub returns : goal.returns
 returns g c =
     let near = g.S.Sorter.region c.args.sorter.now in
     let left = c.loop-tables.tables-iterator.rest in
-    let none : left.items ≡ [] = none_left left.items left.len left.ok.0 c.in-None.ensures.steps.0 in
+    let none : left.items ≡ [] = nil_from_length left.items (sym left.ok.0 ∙ c.in-None.ensures.steps.0) in
     let all : ℕ → List (List TableOf) = λ k. map (cut_tables (near k)) (map (λ ts. ts.items) c.args.lists.items) in
     record {
       sized = c.loop-tables.invariant.sized;

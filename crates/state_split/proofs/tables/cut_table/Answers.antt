@@ -1,7 +1,7 @@
-use Rattle.std.proofs.Common.{rules, ◌∙◌, length, sym, ap₂}
+use Rattle.std.proofs.Common.{rules, ◌∙◌, length, sym, ap₂, map-id}
 use Rattle.std.specs.List.{filter}
 use Rattle.state_split.specs.Sieves.{is_kept}
-use Rattle.state_split.proofs.ShareLemmas.{build_more, build_none, each_weaker, first_waits, same_mapped}
+use Rattle.state_split.proofs.ShareLemmas.{build_more, build_none, each_weaker, first_waits}
 use Rattle.state_split.proofs.SieveLemmas.{kept_is_cut, kept_table}
 use Rattle.state_split.proofs.tables.cut_table.Goals as goal
 
@@ -10,10 +10,10 @@ loop-rows-init g c =
     let near = g.S.Sorter.region c.args.sorter.now in
     build_none _ _ _ c.in_ok-shares.shares.items _ _ c.in_ok-cuts.ensures.items (search rules)
     (each_weaker _ _ _ c.in_ok-shares.shares.items (λ k share e.
-    sym (same_mapped share.items) ∙ e
+    sym (map-id share.items) ∙ e
     ∙ ap₂ (λ cs rs. filter (is_kept (near k) cs) rs)
     (c.deref.ensures.value ∙ c.in_ok-columns.ensures.items ∙ c.columns.ensures.columns)
-    (same_mapped c.into_rows.result.items ∙ c.into_rows.ensures.rows)) c.in_ok-shares.ensures)
+    (map-id c.into_rows.result.items ∙ c.into_rows.ensures.rows)) c.in_ok-shares.ensures)
 
 pub table_over-requires : goal.table_over-requires
 table_over-requires g c =

@@ -1,9 +1,9 @@
 use Rattle.std.proofs.Common.{rules, ◌≡◌, ◌∙◌, ap, sym, subst, ℕ, [], ◌++◌, List, length, map}
-use Rattle.std.proofs.lemmas.List.{length-map, length-replicate}
+use Rattle.std.proofs.lemmas.List.{length-map, length-replicate, nil_from_length}
 use Rattle.mfotl_model.specs.Tables.{TableOf}
 use Rattle.relations.specs.Pushed.{StandFrom}
 use Rattle.monitor_state.specs.StateCuts.{cut_table, cut_tables}
-use Rattle.state_split.proofs.ShareLemmas.{empty_stand, longer_size, longer_stands, mapped_all, mapped_step, none_left}
+use Rattle.state_split.proofs.ShareLemmas.{empty_stand, longer_size, longer_stands, mapped_all, mapped_step}
 use Rattle.state_split.proofs.ShareLemmas.{stand_unmapped, stand_weaker}
 use Rattle.state_split.proofs.tables.cut_tables.Goals as goal
 
@@ -44,7 +44,7 @@ pub returns : goal.returns
 returns g c =
     let near = g.S.Sorter.region c.args.sorter.now in
     let left = c.loop-table.table-iterator.rest in
-    let none : left.items ≡ [] = none_left left.items left.len left.ok.0 c.in-None.ensures.steps.0 in
+    let none : left.items ≡ [] = nil_from_length left.items (sym left.ok.0 ∙ c.in-None.ensures.steps.0) in
     let all : ℕ → List TableOf = λ k. cut_tables (near k) c.args.tables.items in
     record {
       sized = c.loop-table.invariant.sized;

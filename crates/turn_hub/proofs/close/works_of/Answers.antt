@@ -1,14 +1,13 @@
 use Rattle.std.proofs.Common.{◌≡◌, ◌<◌, ◌≤◌, ◌+◌, ℕ, List, [], ◌∷◌, ◌++◌, length, ap, sym, ◌∙◌, subst, arith}
 use Rattle.std.proofs.Common.{length-append, Some, Option, get_or, set, true, false, Bool, get_or-set_same}
 use Rattle.std.proofs.Common.{get_or-set_other}
-use Rattle.std.proofs.lemmas.Option.{none-some}
+use Rattle.std.proofs.lemmas.Option.{none-some, same_Some}
 use mathlib.Core.Logic.{dite}
 use native.Mathlib.Decide.{ℕ_discrete}
 use mathlib.Core.Option.{some, some-injective}
 use lib.ListN.{get_elem?}
 use Rattle.atomic_table.proofs.Lists.{at_longer, at_last}
 use Rattle.turn_hub.specs.declared.view.Cell.{Cell}
-use Rattle.turn_hub.proofs.Keeps.{some_inj}
 use Rattle.turn_hub.proofs.Opens.{below_length}
 use Rattle.std.specs.Prelude.{vec_capacity}
 use Rattle.std.specs.Mem.Slots.{slots_filled, slots_len, slots_items}
@@ -22,7 +21,7 @@ more_works : {W I O : Type 0} (slots : List (Option (Cell W I O))) (works : List
 more_works slots works n c long at old k x below e = dite (ℕ_discrete k n)
     (λ is. ap (get_elem? (works ++ c.work ∷ [])) is ∙ at_last works c.work n long
     ∙ ap (λ (y : Cell _ _ _). some y.work)
-    (some_inj c x (some-injective (Some c) (Some x) (sym at ∙ ap (get_elem? slots) (sym is) ∙ e))))
+    (same_Some c x (some-injective (Some c) (Some x) (sym at ∙ ap (get_elem? slots) (sym is) ∙ e))))
     (λ other. at_longer works (c.work ∷ []) k x.work (old k x (omega arith) e))
 
 all_taken : (fs : List Bool) (k n : ℕ) → k < n → n ≡ length fs → ((q : ℕ) → q < k → get_or fs q false ≡ false)

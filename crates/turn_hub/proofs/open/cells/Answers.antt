@@ -1,5 +1,6 @@
-use Rattle.std.proofs.Common.{◌≡◌, ◌++◌, ◌+◌, [], ◌∷◌, ℕ, List, length, ap, sym, ◌∙◌, subst, refl, arith}
+use Rattle.std.proofs.Common.{◌≡◌, ◌++◌, ◌+◌, [], ◌∷◌, ℕ, List, length, ap, sym, ◌∙◌, subst, refl}
 use Rattle.std.proofs.Common.{append-nil, append_assoc, length-append, Option, Some, ⊎_elim}
+use Rattle.std.proofs.lemmas.List.{nil_from_length}
 use mathlib.Core.Option.{some, some-ne-none}
 use lib.ListN.{get_elem?}
 use Rattle.atomic_table.proofs.Lists.{at_longer, at_last}
@@ -7,10 +8,6 @@ use Rattle.turn_hub.specs.declared.view.Cell.{Cell}
 use Rattle.turn_hub.specs.Ends.{IsFresh}
 use Rattle.turn_hub.proofs.Opens.{at_end}
 use Rattle.turn_hub.proofs.open.cells.Goals as goal
-
-none_left : {A : Type 0} (xs : List A) (n : ℕ) → n ≡ length xs → n ≡ 0 → xs ≡ []
-none_left [] n e z = refl
-none_left (x ∷ xs) n e z = absurd (omega arith)
 
 more_fresh : {W I O : Type 0} (works : List W) (slots : List (Option (Cell W I O))) (w : W) (c : Cell W I O)
     → length slots ≡ length works → c.work ≡ w → c.count ≡ 0 → c.outs.items ≡ []
@@ -57,6 +54,6 @@ pub returns : goal.returns
 returns g c = let i = c.loop-work.invariant in let rest = c.loop-work.work-iterator.rest in
     let all : c.args.works.items ≡ c.loop-work.yielded = i.0
     ∙ ap (λ xs. c.loop-work.yielded ++ xs)
-    (none_left rest.items rest.len rest.ok.0 (c.in-None.ensures {u = tt}).steps.0)
+    (nil_from_length rest.items (sym rest.ok.0 ∙ (c.in-None.ensures {u = tt}).steps.0))
     ∙ append-nil c.loop-work.yielded in
     (i.1 ∙ ap length (sym all), λ k w e. i.2 k w (ap (λ xs. get_elem? xs k) (sym all) ∙ e))

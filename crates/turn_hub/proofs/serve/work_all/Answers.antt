@@ -1,5 +1,6 @@
-use Rattle.std.proofs.Common.{◌≡◌, ◌++◌, [], ◌∷◌, ap, sym, ◌∙◌, subst, append-nil, append_assoc, ℕ, List}
-use Rattle.std.proofs.Common.{length, refl, arith}
+use Rattle.std.proofs.Common.{◌≡◌, ◌++◌, [], ◌∷◌, ap, sym, ◌∙◌, subst, append-nil, append_assoc}
+use Rattle.std.proofs.Common.{refl}
+use Rattle.std.proofs.lemmas.List.{nil_from_length}
 use Rattle.turn_hub.specs.Work.{Takes, Leads}
 use Rattle.turn_hub.proofs.WorkLemmas.{leads_none, leads_on, takes_less, takes_on}
 use Rattle.turn_hub.proofs.serve.work_all.Goals as goal
@@ -45,16 +46,12 @@ loop-item-preserved g c =
       ),
     )
 
-none_left : {A : Type 0} (xs : List A) (n : ℕ) → n ≡ length xs → n ≡ 0 → xs ≡ []
-none_left [] n e z = refl
-none_left (x ∷ xs) n e z = absurd (omega arith)
-
 pub returns-clause-did : goal.returns-clause-did
 returns-clause-did g c =
     let i = c.loop-item.invariant in
     let gave = i.3 in
     let rest = c.loop-item.item-iterator.rest in
-    let none = none_left rest.items rest.len rest.ok.0 (c.in-None.ensures {u = tt}).steps.0 in
+    let none = nil_from_length rest.items (sym rest.ok.0 ∙ (c.in-None.ensures {u = tt}).steps.0) in
     let all : c.args.cell.now.items.items ≡ c.loop-item.yielded = i.0 ∙ ap (λ xs. c.loop-item.yielded ++ xs) none
     ∙ append-nil c.loop-item.yielded in (
       gave.0,

@@ -1,9 +1,10 @@
 use Rattle.std.proofs.Common.{◌≡◌, not, nat_eq, length, ap, ◌∙◌}
+use Rattle.std.proofs.Math.Bool.{not-not}
 use Rattle.std.specs.List.{filter}
 use Rattle.std.specs.Ordering.{eq_by_cmp}
 use Rattle.mfotl_model.specs.Tables.{has_row, part}
 use Rattle.mfotl_model.specs.Values.{row_cmp}
-use Rattle.relations.proofs.PairLemmas.{own_rows, none_left, not_not}
+use Rattle.relations.proofs.PairLemmas.{own_rows, none_left}
 use Rattle.relations.proofs.index.Index.has.Goals as goal
 
 pub returns-clause-found : goal.returns-clause-found
@@ -15,4 +16,4 @@ returns-clause-found g c =
     ∙ own_rows index.columns c.args.row.now index.rows c.columns.ensures.apart c.columns.ensures.sized in
     ap not (c.is_empty.ensures ∙ ap (λ xs. nat_eq (length xs) 0) found
     ∙ none_left (eq_by_cmp row_cmp c.args.row.now) index.rows)
-    ∙ not_not (has_row index.rows c.args.row.now)
+    ∙ not-not (has_row index.rows c.args.row.now)

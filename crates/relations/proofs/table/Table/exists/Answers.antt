@@ -1,7 +1,7 @@
 use Rattle.std.proofs.Common.{◌≡◌, not, nat_eq, length, map, sym, ap, ◌∙◌}
 use Rattle.mfotl_model.specs.FreeVariables.{without}
 use Rattle.mfotl_model.specs.Tables.{all_apart, all_sized, has, has_row, part}
-use Rattle.relations.proofs.ColumnLemmas.{apart_filtered}
+use Rattle.mfotl_model.proofs.ColumnLemmas.{filter_apart}
 use Rattle.relations.proofs.OperationLaws.{sized_parts}
 use Rattle.relations.proofs.WithoutLemmas.{has_without}
 use Rattle.relations.proofs.table.Table.exists.Goals as goal
@@ -9,7 +9,7 @@ use Rattle.relations.proofs.table.Table.exists.Goals as goal
 pub from_rows-requires-clause-apart : goal.from_rows-requires-clause-apart
 from_rows-requires-clause-apart c =
     ap all_apart (c.in_ok-columns.ensures ∙ ap (without c.args.x) c.columns.ensures.columns)
-    ∙ apart_filtered (λ y. not (nat_eq y c.args.x)) c.args.self.now.columns c.columns.ensures.apart
+    ∙ filter_apart (λ y. not (nat_eq y c.args.x)) c.args.self.now.columns c.columns.ensures.apart
 
 pub from_rows-requires-clause-sized : goal.from_rows-requires-clause-sized
 from_rows-requires-clause-sized c =

@@ -3,9 +3,9 @@ use Rattle.mfotl_model.specs.Ascending.{ascending}
 use Rattle.mfotl_model.specs.FreeVariables.{joined}
 use Rattle.mfotl_model.specs.Tables.{all_apart, all_sized}
 use Rattle.mfotl_model.specs.Values.{row_cmp}
+use Rattle.mfotl_model.proofs.ColumnLemmas.{joined_apart}
 use Rattle.relations.specs.Indexes.{table_of}
 use Rattle.relations.specs.Operations.{joined_rows, pairs}
-use Rattle.relations.proofs.ColumnLemmas.{apart_joined}
 use Rattle.relations.proofs.OperationLaws.{has_as, has_joined, sized_pairs}
 use Rattle.relations.proofs.table.Table.join_by.Goals as goal
 
@@ -13,7 +13,7 @@ pub from_rows-requires-clause-apart : goal.from_rows-requires-clause-apart
 from_rows-requires-clause-apart g c =
     ap all_apart (c.in_ok-columns.ensures ∙ (λ i. joined (c.columns.ensures.columns i)
     (c.columns-2.ensures.columns i)))
-    ∙ apart_joined c.args.self.now.columns c.args.index.now.columns c.columns.ensures.apart c.columns-2.ensures.apart
+    ∙ joined_apart c.args.self.now.columns c.args.index.now.columns c.columns.ensures.apart c.columns-2.ensures.apart
 
 pub from_rows-requires-clause-sized : goal.from_rows-requires-clause-sized
 from_rows-requires-clause-sized g c =

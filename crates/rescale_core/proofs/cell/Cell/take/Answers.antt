@@ -1,7 +1,7 @@
 use Rattle.std.proofs.Common.{◌≡◌, ◌++◌, ◌∷◌, [], length, arith, refl, sym, ap, ◌∙◌}
+use Rattle.std.proofs.lemmas.List.{nil_from_length}
 use Rattle.rescale_core.proofs.CellLemmas.{may_take, same_cell, took}
 use Rattle.rescale_core.proofs.Leading.{leads_seen, takes_by}
-use Rattle.rescale_core.proofs.MachineLemmas.{none_left}
 use Rattle.rescale_core.proofs.cell.Cell.take.Goals as goal
 
 pub returns-in_default : goal.returns-in_default
@@ -9,7 +9,7 @@ returns-in_default c =
     let q = c.args.self.now.items in
     let none : q.len ≡ 0 = c.in_default.ensures.cases.0 in
     let len : q.len ≡ length q.items = q.ok.0 in (
-      none_left q.items (omega arith),
+      nil_from_length q.items (omega arith),
       λ w k is. same_cell w k c.args.self.now _ is
           (sym c.in_default.ensures.items) refl refl refl,
     )

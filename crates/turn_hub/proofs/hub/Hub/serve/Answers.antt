@@ -1,6 +1,6 @@
 use Rattle.std.proofs.Common.{◌≡◌, ap, sym, ◌∙◌, arith, Some, inl, inr, subst, refl, ◌<◌}
+use Rattle.std.proofs.lemmas.Option.{same_Some}
 use Rattle.turn_hub.specs.Work.{Takes}
-use Rattle.turn_hub.proofs.Keeps.{some_inj}
 use Rattle.turn_hub.proofs.Slots.{taken_out, put_in, can_take}
 use Rattle.turn_hub.proofs.Hands.{hand_loads, hand_stores, due_ready}
 use Rattle.turn_hub.proofs.hub.Hub.serve.Goals as goal
@@ -22,7 +22,7 @@ work_all-done-requires g c = let l = c.load-found.ensures in let p = l.2.0 c.if-
     let cf = p.0 in
     let out = c.exchange.ensures in
     let x : c.exchange.result ≡ Some cf = taken_out c.args.hand.now.cell _ _ _ _ c.load-found.new.seat.me p.1 out.2 in
-    let same : c.in-Some.cell ≡ cf = some_inj _ _ (sym c.in-Some.is ∙ x) in
+    let same : c.in-Some.cell ≡ cf = same_Some _ _ (sym c.in-Some.is ∙ x) in
     subst (λ y. Takes g.W.Work.stands g.W.Work.may y.work y.items.items) (sym same) p.2.0
 
 pub store-requires : goal.store-requires
@@ -36,7 +36,7 @@ store-requires g c =
     let near : k < c.args.self.now.table.shared.table_id.slots = m.4 in
     let sized = c.args.self.now.sized in
     let found : c.exchange.result ≡ Some p.0 = taken_out k _ _ _ _ c.load-found.new.seat.me p.1 out.2 in
-    let same : c.in-Some.cell ≡ p.0 = some_inj _ _ (sym c.in-Some.is ∙ found) in
+    let same : c.in-Some.cell ≡ p.0 = same_Some _ _ (sym c.in-Some.is ∙ found) in
     let gone = put_in k _ _ _ _ c.load-found.new.seat.me c.exchange.new.seat.me p.1 out.3 in
     let left = put_in k _ _ _ _ c.exchange.new.seat.me c.exchange-2.new.seat.me gone back.3 in
     let ok = c.in-Ok.ensures {u = tt} in
@@ -64,7 +64,7 @@ store-requires-in-Err g c =
     let near : k < c.args.self.now.table.shared.table_id.slots = m.4 in
     let sized = c.args.self.now.sized in
     let found : c.exchange.result ≡ Some p.0 = taken_out k _ _ _ _ c.load-found.new.seat.me p.1 out.2 in
-    let same : c.in-Some.cell ≡ p.0 = some_inj _ _ (sym c.in-Some.is ∙ found) in
+    let same : c.in-Some.cell ≡ p.0 = same_Some _ _ (sym c.in-Some.is ∙ found) in
     let gone = put_in k _ _ _ _ c.load-found.new.seat.me c.exchange.new.seat.me p.1 out.3 in
     let left = put_in k _ _ _ _ c.exchange.new.seat.me c.exchange-2.new.seat.me gone back.3 in (
       back.0 ∙ out.0 ∙ l.0 ∙ m.0,

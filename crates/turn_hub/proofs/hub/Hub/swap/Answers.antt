@@ -1,8 +1,9 @@
 use Rattle.std.proofs.Common.{◌++◌, ◌⊎◌, ◌≢◌, [], length, refl, ◌≡◌, ◌∷◌, ap, sym, ◌∙◌, subst, arith, Some, ◌<◌}
+use Rattle.std.proofs.lemmas.Option.{same_Some}
 use lib.ListN.{get_elem?}
 use Rattle.turn_hub.specs.Steps.{looked}
 use Rattle.turn_hub.proofs.Swaps.{turn_is, turn_same, looks_once, swaps}
-use Rattle.turn_hub.proofs.Keeps.{main_loads, main_stores, some_inj}
+use Rattle.turn_hub.proofs.Keeps.{main_loads, main_stores}
 use Rattle.turn_hub.proofs.Slots.{taken_out, put_in, can_take}
 use Rattle.turn_hub.proofs.hub.Hub.swap.Goals as goal
 
@@ -32,7 +33,7 @@ store-requires g c =
     let near : k < c.args.self.now.table.shared.table_id.slots = m.1 in
     let sized = c.args.self.now.sized in
     let found : c.exchange.result ≡ Some p.0 = taken_out k _ _ _ _ c.load-found.new.seat.me p.1 out.2 in
-    let same : c.in-Some.cell ≡ p.0 = some_inj _ _ (sym c.in-Some.is ∙ found) in
+    let same : c.in-Some.cell ≡ p.0 = same_Some _ _ (sym c.in-Some.is ∙ found) in
     let gone = put_in k _ _ _ _ c.load-found.new.seat.me c.exchange.new.seat.me p.1 out.3 in
     let left = put_in k _ _ _ _ c.exchange.new.seat.me c.exchange-2.new.seat.me gone back.3 in
     let new = c.refill-count.ensures.cell in
@@ -60,7 +61,7 @@ returns-clause-did g c =
     let k = c.args.number in
     let items = c.args.items in
     let found : c.exchange.result ≡ Some p.0 = taken_out k _ _ _ _ c.load-found.new.seat.me p.1 out.2 in
-    let same : c.in-Some.cell ≡ p.0 = some_inj _ _ (sym c.in-Some.is ∙ found) in
+    let same : c.in-Some.cell ≡ p.0 = same_Some _ _ (sym c.in-Some.is ∙ found) in
     let gone = put_in k _ _ _ _ c.load-found.new.seat.me c.exchange.new.seat.me p.1 out.3 in
     let left = put_in k _ _ _ _ c.exchange.new.seat.me c.exchange-2.new.seat.me gone back.3 in
     let new = c.refill-count.ensures in

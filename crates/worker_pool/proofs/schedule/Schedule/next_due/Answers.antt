@@ -1,7 +1,8 @@
 use Rattle.std.proofs.Common.{◌≡◌, ap, refl, rules, subst, true}
+use Rattle.monitor_state.proofs.OrderingLemmas.{taken_one}
 use Rattle.slice_strategy.specs.declared.change.Change.{Change}
 use Rattle.worker_pool.specs.Changes.{DueTells, IsDue}
-use Rattle.worker_pool.proofs.ChangeLemmas.{first_is, taken}
+use Rattle.worker_pool.proofs.ChangeLemmas.{first_is}
 use Rattle.worker_pool.proofs.schedule.Schedule.next_due.Goals as goal
 
 -- the change that was taken out is the one that is due
@@ -10,5 +11,5 @@ returns-in-Some c =
     let told : c.is_due.result ≡ true = search rules in
     let due : IsDue c.args.self.now = subst (DueTells c.args.self.now) told c.is_due.ensures in
     let both = first_is c.args.self.now due c.in-Some.change c.pop_front.new.self.items
-    (taken _ c.pop_front.result _ c.in-Some.change c.pop_front.ensures.items c.in-Some.is) in
+    (taken_one c.pop_front.result c.in-Some.change _ _ c.in-Some.is c.pop_front.ensures.items) in
     (due, ap (λ (x : Change). x.strategy) both.0, both.1, refl)
