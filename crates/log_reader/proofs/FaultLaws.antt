@@ -193,7 +193,7 @@ module _ (sig : List PredOf) (limits : Limits) where
 pub exact_faults_law : ExactFaults
 exact_faults_law sig limits bytes ended fault =
     let exact =
-        exact_faults (step sig limits) nothing_read at_tail IsViable (IsCause sig limits) IsLast (follows sig limits)
+    exact_faults (step sig limits) nothing_read at_tail IsViable (IsCause sig limits) IsLast (follows sig limits)
     (log_text limits bytes ended) fault in (
       λ first. exact.0 (fault_by _ fault (sym (log_ending sig limits bytes ended) ∙ first)),
       λ shown. log_ending sig limits bytes ended ∙ ap ending_by (exact.1 shown),

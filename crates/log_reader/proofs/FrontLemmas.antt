@@ -113,4 +113,4 @@ module _ (sig : List PredOf) (limits : Limits) where
       → Stands sig p.stage p (symbols_before front)
   run_stands front p e =
       subst (Stands sig p.stage p) (append-nil (symbols_before front))
-          (run_on front nothing_read p [] e (nothing_stands sig))
+      (run_on front nothing_read p [] e (nothing_stands sig))

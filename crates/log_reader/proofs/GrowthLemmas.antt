@@ -88,7 +88,7 @@ module _ (sig : List PredOf) (limits : Limits) where
   joined_keeps : (first last : Partial → Reading) → ((q : Partial) → first q ≡ nothing)
       → (fault : Option LexFault) (list : List Lexeme) (more : Tokens)
       → ExtendsReading (run sig limits (behind_tokens fault first) nothing_read list)
-          (run_tokens last (joined_at fault list more))
+      (run_tokens last (joined_at fault list more))
   joined_keeps first last none (Some x) list more = same _ _ (run_alike _ _ (λ q. refl) nothing_read list)
   joined_keeps first last none None list more =
       let further = λ (q : Partial). run sig limits (behind_tokens more.fault last) q more.list in

@@ -52,7 +52,7 @@ module _ (sig : List PredOf) (limits : Limits) (s : Stretch) (from : ℕ) (looke
   advanced : AdvancesTo result
   advanced =
       subst (λ (n : ℕ). AdvancesToPoint sig limits n (looked_at limits s)
-          (is_end_told limits s is_ended) at p result at' q)
+      (is_end_told limits s is_ended) at p result at' q)
       begins (subst (λ (x : Bool). AdvancesToPoint sig limits from (looked_at limits s) x at p result at' q) end
       (subst (λ (x : List ℕ). AdvancesToPoint sig limits from x told at p result at' q) look a))
 

@@ -53,7 +53,7 @@ module _ {U : Type 0} (limits : Limits) (p q : Partial) (at : ℕ) (result : Res
       → StepsMark limits p at b result q
   comma_steps b stage is moves = rw is (steps_mark 44 Comma AfterComma refl
       (ap (λ (s : Stage). stage_after s Separator) stage) (ap (λ (s : Stage). completes s Separator) stage)
-          (λ sig. moves))
+      (λ sig. moves))
 
   pub closing_steps : (b : ℕ) → p.stage ≡ AfterValue → b ≡ 41 → StateMoves p q result (group_closed at p p.due)
       → StepsMark limits p at b result q

@@ -45,7 +45,7 @@ ShowsFault sig limits p t (TimestampRange at) =
 -- a timestamp below the last one
 ShowsFault sig limits p t (FallingTime before now at) =
     (at ≡ t.at) × LeadsTo AfterStamp p t × (timestamp_of (token_content t) ≡ Some now) × (before ≡ p.time)
-        × (now < before)
+    × (now < before)
 -- the `(` of a group, of which the time-point has all that it may have
 ShowsFault sig limits p t (TooManyEvents at) = (at ≡ t.at) × LeadsTo AfterOpen p t × (limits.events ≤ p.groups)
 -- the `@` of a time-point, where as many were begun as may be

@@ -101,7 +101,7 @@ module _ (limits : Limits) (from : ℕ) where
   hash_place : (comment more : List ℕ) (later : Bool) → blank_len false (hash ∷ comment) ≡ 0
       → from + suc (length comment) ≤ limits.bytes
       → tokens
-          (stretch_place limits (with_piece (record { from = from + length comment; bytes = hash ∷ [] }) more) later 0)
+      (stretch_place limits (with_piece (record { from = from + length comment; bytes = hash ∷ [] }) more) later 0)
       ≡ tokens (stretch_place limits (with_piece (at_comment (hash ∷ comment)) more) later 0)
   hash_place comment more later none short =
       let k = limits.bytes - from - suc (length comment) in

@@ -46,4 +46,4 @@ tokens_joined front more = joined_at front.fault front.list more
 abbrev pub MoreBytesChangeNothing : Type 0
 MoreBytesChangeNothing = (p : Place) (more : List ℕ) (ended : Bool) → p.ended ≡ false →
     ReadsOn p more ended
-        × (tokens (grown p more ended) ≡ tokens_joined (tokens p) (tokens (grown (stopped p) more ended)))
+    × (tokens (grown p more ended) ≡ tokens_joined (tokens p) (tokens (grown (stopped p) more ended)))

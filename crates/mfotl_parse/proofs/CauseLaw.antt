@@ -92,7 +92,7 @@ module _ (sig : List PredOf) (front : List Lexeme) (s : Partial) (t : Lexeme)
         due.0,
         accepted_formula sig (front ++ t ∷ due.0)
             (accepts_read sig front (t ∷ due.0) nothing_read s ran ∙ ap (λ o. if_moved o (accepts sig due.0)) e
-                ∙ due.1),
+            ∙ due.1),
       )
 
   -- where it doesn't, none does
@@ -104,7 +104,7 @@ module _ (sig : List PredOf) (front : List Lexeme) (s : Partial) (t : Lexeme)
       ∙ formula_accepted sig ((front ++ t ∷ []) ++ b.0) b.1 in
       let none : false ≡ true =
       ap (λ o. if_moved o (accepts sig b.0)) (sym e) ∙ sym (accepts_read sig front (t ∷ b.0) nothing_read s ran)
-          ∙ all in
+      ∙ all in
       absurd cc
 
   caused : (o : Option Transition) (fault : PolicyFault) → transition sig s t ≡ o → given t.at o ≡ Err fault

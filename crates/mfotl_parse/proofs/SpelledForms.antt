@@ -175,7 +175,7 @@ module _ (sig : List PredOf) where
       (moves_one sig t _ _ rules (joins l.form l.stack base v nodes names o t class there)) in
       rw (← append_assoc ls (t ∷ []) rs)
       (takes_behind p _ (ls ++ t ∷ []) rs base edge (operator_form o i v w) more others behind all
-          (l.rules ++ rules) front
+      (l.rules ++ rules) front
       (λ a. kept_both l.rules rules (l.kept.0 (b a)) (k a)) h
       (λ d a. opens d (kept_back l.rules rules a))
       (λ d a e. back (kept_back l.rules rules a) (l.kept.1 d (kept_front l.rules rules a)) e) whole)

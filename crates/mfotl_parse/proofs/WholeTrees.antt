@@ -99,4 +99,4 @@ module _ (sig : List PredOf) (ts : List Lexeme) (p : Partial) (ran : run (step s
         let m = read_moves sig ts nothing_read p ran in
         ap (λ (q : Partial). ended_at q.now q.context end) (sym (same_next (reached m.0 m.1)))
         ∙ ap (λ (r : Reduced). closed_at_end (all_names sig tree) r.form (is_closed r.stack) end)
-            (all_closed sig tree fits)
+        (all_closed sig tree fits)

@@ -139,7 +139,7 @@ names_behind sig (AtomOf name opening arguments closing) scope n =
     arguments_names arguments (call_of (named name.text sig) 0).rest scope n
 names_behind sig (Comparison left token sign right) scope n =
     with_comparison (operand_of left scope n) (place_of left) token.at
-        (operand_of right scope (term_names left scope n))
+    (operand_of right scope (term_names left scope n))
     (place_of right)
     (term_names right scope (term_names left scope n))
 names_behind sig (Enclosed opening body closing) scope n = names_behind sig body scope n

@@ -68,7 +68,7 @@ impl SymbolTable {
     pub fn compare(&mut self, left: &Side, at: u64, right: &Side) -> Result<(), AllocError>
         ensures { OnOk result (names_met self.new
             ≡ sorting.with_comparison left.now.operand left.now.at at right.now.operand right.now.at
-                (names_met self.old)) }
+            (names_met self.old)) }
     {
         match (&left.operand, &right.operand) {
             (Operand::Variable(left), Operand::Variable(right)) => {

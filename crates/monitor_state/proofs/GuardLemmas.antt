@@ -96,7 +96,7 @@ join_guarded names f accepted =
     (λ y m. ap (among y) (bound_is f) ∙ guarded names f y accepted (ap (among y) (sym (columns_are f)) ∙ m)) in
     and_from (all_children (λ columns. all_among columns bound) (children_of (map conjunct_as (conjuncts_of f))))
     (list_all (λ t. all_among (compared_variables t.comparison) bound)
-        (tests_of (map conjunct_as (conjuncts_of f)))) both.0
+    (tests_of (map conjunct_as (conjuncts_of f)))) both.0
     both.1
 
 -- no child has a column twice

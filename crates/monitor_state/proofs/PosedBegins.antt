@@ -129,11 +129,11 @@ constants_led a (And g h) b m =
           (constants_led a g b left)) [
             | inl one ↦
                 or_left (in_domain (constants (meaning a)) b)
-                    (in_domain (constants (meaning g) ++ constants (meaning h)) b)
+                (in_domain (constants (meaning g) ++ constants (meaning h)) b)
                 one
             | inr two ↦
                 or_right (in_domain (constants (meaning a)) b)
-                    (in_domain (constants (meaning g) ++ constants (meaning h)) b)
+                (in_domain (constants (meaning g) ++ constants (meaning h)) b)
                 (within_both b (constants (meaning g)) (constants (meaning h))
                 ∙ or_left (in_domain (constants (meaning g)) b) (in_domain (constants (meaning h)) b) two)
           ]

@@ -123,5 +123,5 @@ sift_more w negated answer stays columns done kept new row before told is same u
     is
     ∙ ap (turned negated)
     (answers answer
-        (subst (λ r. WindowHolds w (valuation columns r) answer) (sym (tells_apart row_exact u row e)) told)))
+    (subst (λ r. WindowHolds w (valuation columns r) answer) (sym (tells_apart row_exact u row e)) told)))
     ∙ ap (λ b. b && turned negated holds) (sym (list_any-append (eq_by_cmp row_cmp u) done (row ∷ [])))

@@ -29,7 +29,7 @@ at_none p q (Some y) e = absurd (let clash : Some (p y) ≡ None = e in cc)
 guards_named : (names other : Names) (f : CoreForm) → guards names f ≡ None → guards other f ≡ None
 guards_named names other f e =
     at_none (λ y. Unguarded (named_variable names y)) (λ y. Unguarded (named_variable other y))
-        (first_outside (bound_by f) (needed_by f))
+    (first_outside (bound_by f) (needed_by f))
     e
 
 pub inside_all : (xs ys : List ℕ) → ((y : ℕ) → among y ys ≡ true → among y xs ≡ true) → first_outside xs ys ≡ None

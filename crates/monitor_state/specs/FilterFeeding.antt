@@ -49,7 +49,7 @@ WindowGoes old new = ⊥
 abbrev pub Sifts : Window → Bool → List ℕ → List (List Value) → List (List Value) → Type 0
 Sifts w negated columns rows kept =
     (row : List Value) (holds : Bool)
-        → ((answer : Bool) → WindowHolds w (valuation columns row) answer → answer ≡ holds)
+    → ((answer : Bool) → WindowHolds w (valuation columns row) answer → answer ≡ holds)
     → has_row kept row ≡ (has_row rows row && turned negated holds)
 
 -- one row more was asked of: it is kept or left out

@@ -116,7 +116,7 @@ guards_new : (names names' : Names) (p : Numbers) (n : ℕ) (f : CoreForm) → S
 guards_new names names' p n f s h =
     no_fault p (bound_by f) (needed_by f) (bound_by (renamed p n f)) (needed_by (renamed p n f))
     (λ y. Unguarded (named_variable names y)) (λ y. Unguarded (named_variable names' y)) (bound_new p n f s)
-        (needed_new p n f s) h
+    (needed_new p n f s) h
 
 asked_new : (b : Bool) (x y : Option FragmentFault) → (x ≡ None → y ≡ None) → asked b x ≡ None → asked b y ≡ None
 asked_new true x y h e = h e
@@ -141,7 +141,7 @@ covers_new : (names names' : Names) (p : Numbers) (f g f' g' : CoreForm) → fv 
     → covers names f g ≡ None → covers names' f' g' ≡ None
 covers_new names names' p f g f' g' e k h =
     no_fault p (fv (meaning g)) (fv (meaning f)) (fv (meaning g')) (fv (meaning f'))
-        (λ z. LooseLeft (named_variable names z))
+    (λ z. LooseLeft (named_variable names z))
     (λ z. LooseLeft (named_variable names' z)) k e h
 
 uses_new : (p : Numbers) (n : ℕ) (x : Bound) (f f' : CoreForm)

@@ -390,7 +390,7 @@ gather_emitted g h w v r e is =
     e.2 ∙ ap (λ m. record { point = m; ts = e.0; rows = ascending row_cmp (gathered_rows (rows_at g.next g.added)) })
     is.next
     ∙ ap (λ t. record { point = n; ts = t; rows = ascending row_cmp (gathered_rows (rows_at g.next g.added)) })
-        (sym c.time)
+    (sym c.time)
     ∙ ap (λ (x : List Rows). record { point = n; ts = c.first.ts; rows = ascending row_cmp (gathered_rows x) }) same in
     let due = merged_due w r n v (workers_in g.begun) is.workers c.first c.rest (sym same ∙ c.rows)
     (sym (ap length same) ∙ c.all) made in

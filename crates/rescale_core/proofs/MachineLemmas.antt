@@ -235,7 +235,7 @@ machine_read m n entries w e is left cells verdicts router =
     let sound : AreSound w.core (spot_in w) (e ∷ n.left.items) =
     subst (AreSound w.core (spot_in w)) left is.left in
     let spot : spot_in (world_after w (Read e)) ≡ moved (spot_in w) e =
-        spot_more (first_spot w.first) w.read (e ∷ []) in (
+    spot_more (first_spot w.first) w.read (e ∷ []) in (
       sound.0,
       record {
         entries_are = append_assoc w.read (e ∷ []) n.left.items ∙ ap (λ x. w.read ++ x) (sym left)

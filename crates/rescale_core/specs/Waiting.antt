@@ -45,4 +45,4 @@ added_waiting (Emit v) = 0
 abbrev pub WaitsFor : Type 0
 WaitsFor =
     (w : World) (s : Step) (k : ℕ) → IsSound w → Allowed w s
-        → waiting_in (world_after w s) k ≤ waiting_in w k + added_waiting s
+    → waiting_in (world_after w s) k ≤ waiting_in w k + added_waiting s

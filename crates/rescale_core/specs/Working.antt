@@ -25,7 +25,7 @@ IsAt core k (Active s log) phase = (m : Monitor) × (phase ≡ held.Active m s) 
 IsAt core k Vacant phase = phase ≡ held.Vacant
 IsAt core k (Waiting t froms) phase =
     (m : Merging) × (missing : ℕ) × (phase ≡ held.Waiting m t.new missing)
-        × MergesPieces core t.old t.new k t.before froms m
+    × MergesPieces core t.old t.new k t.before froms m
     × (missing + length froms ≡ workers_of t.old) × (0 < missing) × Adopted t.old froms
 
 -- what the worker began with

@@ -156,7 +156,7 @@ module _ (vars : List Var) where
       let c = stopped vars s w in
       ap (decided vars c.done c.current w t) kind
       ∙ ap (λ b. if b then Err (Strategy (Syntax t.at)) else change_opened vars c.done c.current w.at t.at
-          (point_number t)) low
+      (point_number t)) low
 
   -- a token of this kind
   stopped_step : (s : Script) (w t : Lexeme) (k : Kind) → t.kind ≡ k
@@ -304,7 +304,7 @@ module _ (vars : List Var) where
     before_moves : (p : Part) (t : Lexeme) → FitsPlace (Here p) → IsBefore t → may_begin (behind vars p).stage ≡ true
         → Moves (Here p) t
         (lifted (ended (behind vars p).entries (behind vars p).stage) >>= λ q. Ok
-            (interrupted done (point_number n) t q))
+        (interrupted done (point_number n) t q))
     before_moves (Whole es) t fits is begins = stop_moves es t fits is
     before_moves (ToName es m) t fits is begins = absurd cc
     before_moves (ToEqual es m e) t fits is begins = absurd cc

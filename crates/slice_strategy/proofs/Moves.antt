@@ -112,7 +112,7 @@ module _ (vars : List Var) where
   new_judged : (es : Entries) → Fits es → AreKnown vars es → AreFew es → (t : Lexeme) → t.kind ≡ Word
       → Judged (spell_part (Whole es)) t (IsNew vars es t)
       (with_stage (strategy_of vars es) (entry_named (strategy_of vars es) (variable_of vars t.text) t))
-          (behind (ToName es t))
+      (behind (ToName es t))
   new_judged es fits known few t kind = by (variable_of vars t.text) refl
     where
       by : (found : Option ℕ) → variable_of vars t.text ≡ found

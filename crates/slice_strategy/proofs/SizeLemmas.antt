@@ -64,7 +64,7 @@ step_size : (vars : List Var) (p : Partial) (t : Lexeme) (q : Partial) → step 
 unfolding step
 step_size vars p t q is =
     let r = bind_ok (entry_settled p t.kind)
-        (λ m. with_stage m.entries (stage_step vars m.entries m.stage t t.kind)) q is in
+    (λ m. with_stage m.entries (stage_step vars m.entries m.stage t t.kind)) q is in
     let entries = r.0.entries in
     let n = bind_ok (stage_step vars entries r.0.stage t t.kind) (λ next. Ok (with entries next)) q r.2 in
     same_size entries n.0 q (Ok (with entries n.0)) refl n.2 ∙ settled_size p t.kind r.0 r.1

@@ -21,7 +21,7 @@ change n strategy = record { before = n; strategy = strategy }
 abbrev pub next_number : ℕ → ℕ → Result ScriptOf ChangeFault
 next_number before n =
     change_opened vars (replicate before (change 6 []))
-        (Some (record { number = 6; reader = nothing_read vars })) 7 14 n
+    (Some (record { number = 6; reader = nothing_read vars })) 7 14 n
 
 -- what is read
 pub record WorkedChanges : Type 0 where

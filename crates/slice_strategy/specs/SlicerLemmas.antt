@@ -85,7 +85,7 @@ covers_from y (e ∷ es) some vs v =
       a * workers_of es + rest.0,
       below_product a (parts_of e) (workers_of es) rest.0
           (low_bound (among y vs) (strategy_part e (v y)) (parts_of e) parts.0
-              (strategy_part_below e (v y) parts.0)) rest.1,
+          (strategy_part_below e (v y) parts.0)) rest.1,
       and_from (not (among y vs) || nat_eq (strategy_part e (v y)) ((a * workers_of es + rest.0) / workers_of es))
           (near_from (y + 1) es ((a * workers_of es + rest.0) % workers_of es) vs v)
           (ap (λ q. not (among y vs) || nat_eq (strategy_part e (v y)) q) (div-mul-add a (workers_of es) rest.0 rest.1)

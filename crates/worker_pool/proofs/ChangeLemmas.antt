@@ -48,7 +48,7 @@ both_suit d old new s due suits = subst (λ cs. AllSuit (core_of d) cs) due.0.fi
 -- so what is left suits once the first was read
 pub suits_later : {d e : Driver} {a b : Option (List ℕ)} {t u : Tally} {entries : List Entry} (old new : Schedule)
     (s : Strategy) → TakesDue old (Some s) new → Runs d a t → AddsEntries d a t entries e b u → Suits d old
-        → Suits e new
+    → Suits e new
 suits_later {d} {e} old new s due r adds suits =
     suits_by d e new (core_kept r.3 (adds r.0 r.1 r.2 r.3))
     (subst (λ cs. AllSuit (core_of d) cs) (sym due.2) (both_suit d old new s due suits).1)

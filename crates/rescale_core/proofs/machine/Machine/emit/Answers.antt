@@ -13,6 +13,8 @@ returns c = λ entries w is.
     subst (λ o. IfSome o (λ v. (w : World) → IsRouterOf m.router w
     → Allowed w (Emit v) × IsRouterOf c.emit.new.self (world_after w (Emit v)))) c.in-Some.is
     c.in_ok-emitted.ensures.emitted in
-    let r = all w is.router in
-    (world_after w (Emit v),
-        (v, r.0, refl), machine_emitted m _ entries w v is refl refl c.in_ok-push.ensures.items r.0 r.1)
+    let r = all w is.router in (
+      world_after w (Emit v),
+      (v, r.0, refl),
+      machine_emitted m _ entries w v is refl refl c.in_ok-push.ensures.items r.0 r.1,
+    )

@@ -25,6 +25,8 @@ returns c = λ entries w is.
     let near : k < length m.cells.items = omega (arith, c.len.ensures) in
     let old = is.cells k c.index_mut-cell.result.now
     (nth_here m.cells.items k c.index_mut-cell.result.now near c.index_mut-cell.ensures.value) in
-    let cell = fed_cell w k c.index_mut-cell.result.now _ item old c.in_ok-push_back.ensures.items refl refl refl in
-    (world_after w (Feed k item),
-        (item, may, refl), machine_fed m _ entries w is k _ refl refl refl item may cell router)
+    let cell = fed_cell w k c.index_mut-cell.result.now _ item old c.in_ok-push_back.ensures.items refl refl refl in (
+      world_after w (Feed k item),
+      (item, may, refl),
+      machine_fed m _ entries w is k _ refl refl refl item may cell router,
+    )
