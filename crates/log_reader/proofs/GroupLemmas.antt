@@ -162,7 +162,8 @@ module _ (from : ℕ) (looked : List ℕ) (ended : Bool) (sig : List PredOf) (li
       opening_leads _ stage may room is = absurd cc
 
 module _ (limits : Limits) (from : ℕ) (looked : List ℕ) (ended : Bool) (at : ℕ) (p : Partial) where
-  pub lead_on : (at' : ℕ) (q : Partial) → at ≤ at' → ((sig : List PredOf) → Goes from looked ended sig limits at p at' q)
+  pub lead_on : (at' : ℕ) (q : Partial) → at ≤ at'
+      → ((sig : List PredOf) → Goes from looked ended sig limits at p at' q)
       → LeadsOn limits from looked ended at p at' q
   lead_on at' q further leads =
       let one = leads [] in

@@ -65,7 +65,8 @@ with_group p row = closed_with (record p { groups = p.groups + 1 }) row
 -- behind a `(` stand these values and the `)` of their group
 abbrev pub ReadsValues : ℕ → List ℕ → Bool → List Sort → ℕ → List Value → ℕ → Type 0
 ReadsValues from looked ended sorts at row behind =
-    ((limits : Limits) (p : Partial) → IsOpen sorts p → LeadsOn limits from looked ended at p behind (closed_with p row))
+    ((limits : Limits) (p : Partial) → IsOpen sorts p
+    → LeadsOn limits from looked ended at p behind (closed_with p row))
     × (at < behind)
 
 -- a group of these values stands there

@@ -85,8 +85,7 @@ impl<T: Copy + Drop> ShortQueue<T> {
     {
         match &self.held {
             Held::Zero => true,
-            Held::One(_) => false,
-            Held::Two(_, _) => false,
+            Held::One(_) | Held::Two(_, _) => false,
             Held::Many(items) => items.is_empty(),
         }
     }
@@ -97,8 +96,7 @@ impl<T: Copy + Drop> ShortQueue<T> {
     {
         match &self.held {
             Held::Zero => None,
-            Held::One(first) => Some(*first),
-            Held::Two(first, _) => Some(*first),
+            Held::One(first) | Held::Two(first, _) => Some(*first),
             Held::Many(items) => items.front().copied(),
         }
     }
@@ -110,8 +108,7 @@ impl<T: Copy + Drop> ShortQueue<T> {
     {
         match &self.held {
             Held::Zero => None,
-            Held::One(last) => Some(*last),
-            Held::Two(_, last) => Some(*last),
+            Held::One(last) | Held::Two(_, last) => Some(*last),
             Held::Many(items) => items.back().copied(),
         }
     }

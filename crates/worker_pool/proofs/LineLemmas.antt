@@ -1,5 +1,6 @@
 -- The front of a line in its room.
-use Rattle.std.proofs.Common.{◌≡◌, ◌∙◌, ap, arith, ℕ, ◌-◌, ◌≤◌, List, ◌++◌, length, take, drop, length-append, length-drop}
+use Rattle.std.proofs.Common.{◌≡◌, ◌∙◌, ap, arith, ℕ, ◌-◌, ◌≤◌, List, ◌++◌, length, take, drop, length-append}
+use Rattle.std.proofs.Common.{length-drop}
 use Rattle.std.proofs.lemmas.List.{take_at}
 
 -- what stands in the room up to its last byte

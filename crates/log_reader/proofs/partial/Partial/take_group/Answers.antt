@@ -10,7 +10,8 @@ use Rattle.log_reader.proofs.partial.Partial.take_group.Goals as goal
 
 pub returns : goal.returns
 returns c =
-    let none : c.self.inside.args ≡ [] = sym c.values.ensures ∙ none_left c.values.result.now c.if-not-is_empty.ensures in
+    let none : c.self.inside.args ≡ [] = sym c.values.ensures
+    ∙ none_left c.values.result.now c.if-not-is_empty.ensures in
     let inserted : c.insert.new.self ≡ insert_key event_cmp c.self.inside.events
     (record { pred = c.self.inside.pred; args = c.in-Some.args }) = search rules in
     let after : Partial = record {
@@ -24,8 +25,8 @@ returns c =
       args = c.self.inside.args;
       due = [];
     } in
-    subst (λ (p : Partial). LeadsOn c.args.limits.now c.args.look.from c.args.look.bytes.now c.args.look.ended c.args.at p
-    c.in-Some.behind after × (c.args.at < c.in-Some.behind)) c.self.view_is
+    subst (λ (p : Partial). LeadsOn c.args.limits.now c.args.look.from c.args.look.bytes.now c.args.look.ended
+    c.args.at p c.in-Some.behind after × (c.args.at < c.in-Some.behind)) c.self.view_is
     (takes_group c.args.limits.now c.args.look.from c.args.look.bytes.now c.args.look.ended c.args.at _ after
     c.in_ok-args.field-0 c.in-Some.args c.in-Some.behind c.in_ok-args.ensures c.in-Some.is (record {
       stage = sym c.may_open.ensures ∙ c.if-not-may_open.false;

@@ -9,18 +9,18 @@ staged same is = sym (ap (λ (r : Partial). r.stage) same) ∙ is
 
 pub returns-in-AfterValue : goal.returns-in-AfterValue
 returns-in-AfterValue c =
-    comma_steps c.args.limits.now c.args.self.now _ c.args.at c.separate.result c.args.b (staged c.self.view_is c.in-AfterValue.is)
-    c.if-b-eq44.true c.separate.ensures
+    comma_steps c.args.limits.now c.args.self.now _ c.args.at c.separate.result c.args.b
+    (staged c.self.view_is c.in-AfterValue.is) c.if-b-eq44.true c.separate.ensures
 
 pub returns-in-AfterValue-2 : goal.returns-in-AfterValue-2
 returns-in-AfterValue-2 c =
-    closing_steps c.args.limits.now c.args.self.now _ c.args.at c.end_group.result c.args.b (staged c.self.view_is c.in-AfterValue-2.is)
-    c.if-b-eq41.true c.end_group.ensures
+    closing_steps c.args.limits.now c.args.self.now _ c.args.at c.end_group.result c.args.b
+    (staged c.self.view_is c.in-AfterValue-2.is) c.if-b-eq41.true c.end_group.ensures
 
 pub returns-in-AfterName : goal.returns-in-AfterName
 returns-in-AfterName c =
-    opening_steps c.args.limits.now c.args.self.now _ c.args.at c.begin_group.result c.args.b (staged c.self.view_is c.in-AfterName.is)
-    c.if-b-eq40.true c.begin_group.ensures
+    opening_steps c.args.limits.now c.args.self.now _ c.args.at c.begin_group.result c.args.b
+    (staged c.self.view_is c.in-AfterName.is) c.if-b-eq40.true c.begin_group.ensures
 
 pub returns-in-AfterClose : goal.returns-in-AfterClose
 returns-in-AfterClose c =
@@ -29,5 +29,5 @@ returns-in-AfterClose c =
 
 pub returns-in-Between : goal.returns-in-Between
 returns-in-Between c =
-    begin_steps c.args.limits.now c.args.self.now _ c.args.at c.open.result c.args.b (staged c.self.view_is c.in-Between.is)
-    c.if-b-eq64.true c.open.ensures
+    begin_steps c.args.limits.now c.args.self.now _ c.args.at c.open.result c.args.b
+    (staged c.self.view_is c.in-Between.is) c.if-b-eq64.true c.open.ensures
