@@ -14,9 +14,9 @@ use Rattle.log_reader.specs.CompletedPoints.{Closes}
 use Rattle.log_reader.specs.Grammar.{symbols_of}
 use Rattle.log_reader.specs.Partials.{Partial, point_of}
 use Rattle.log_reader.specs.Readings.{Reading, Ending, behind, went_on, run, finish_at}
-use Rattle.log_reader.specs.Stages.{is_whole, ends_point, completes}
+use Rattle.log_reader.specs.Stages.{is_whole, completes}
 use Rattle.log_reader.specs.Steps.{step, completed}
-use Rattle.log_reader.specs.Symbols.{symbol}
+use Rattle.log_reader.specs.Symbols.{symbol, ends_point}
 use Rattle.log_reader.proofs.LogJudging.{last}
 use Rattle.log_reader.proofs.LogLaws.{whole}
 use Rattle.log_reader.proofs.TokenSteps.{completed_none, completed_one}

@@ -8,8 +8,7 @@ use Rattle.log_reader.specs.declared.fault.LogFault.{LogFault}
 use Rattle.log_reader.specs.declared.limits.Limits.{Limits}
 use Rattle.log_reader.specs.Grammar.{PointText, Spells, symbols_of}
 use Rattle.log_reader.specs.Rules.{log_value}
-use Rattle.log_reader.specs.Stages.{ends_point}
-use Rattle.log_reader.specs.Symbols.{Symbol}
+use Rattle.log_reader.specs.Symbols.{Symbol, ends_point}
 
 -- no more of a time-point comes in front of these symbols: an `@` or a `;` stands there, or the end
 abbrev pub Closes : List Symbol → Tail LogFault → Type 0

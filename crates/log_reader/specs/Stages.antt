@@ -5,7 +5,8 @@ use Rattle.mfotl_lex.specs.declared.kind.Kind.TheVariants.{Semicolon}
 use Rattle.log_reader.specs.declared.stage.Stage.{Stage}
 use Rattle.log_reader.specs.declared.stage.Stage.TheVariants.{Between, AfterAt, AfterStamp, AfterName, AfterOpen}
 use Rattle.log_reader.specs.declared.stage.Stage.TheVariants.{AfterValue, AfterComma, AfterClose}
-use Rattle.log_reader.specs.Symbols.{Symbol, AtSign, Opening, Closing, Separator, Terminator, Says, Bare, is_digits}
+use Rattle.log_reader.specs.Symbols.{Symbol, AtSign, Opening, Closing, Separator, Terminator, Says, Bare, ends_point}
+use Rattle.log_reader.specs.Symbols.{is_digits}
 
 -- the stage behind a symbol; none where the grammar can't go on with it
 abbrev pub stage_after : Stage → Symbol → Option Stage
@@ -31,12 +32,6 @@ abbrev pub is_whole : Stage → Bool
 is_whole AfterStamp = true
 is_whole AfterClose = true
 is_whole _ = false
-
--- a symbol behind which no more of the present time-point comes
-abbrev pub ends_point : Symbol → Bool
-ends_point AtSign = true
-ends_point Terminator = true
-ends_point _ = false
 
 -- whether a symbol completes the present time-point
 abbrev pub completes : Stage → Symbol → Bool

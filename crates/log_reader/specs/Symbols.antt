@@ -1,5 +1,5 @@
 -- What the grammar of logs sees of a token.
-use Rattle.std.specs.Prelude.{ℕ, List, [], ◌∷◌, Bool, false}
+use Rattle.std.specs.Prelude.{ℕ, List, [], ◌∷◌, Bool, true, false}
 use Rattle.std.specs.Char.{is_ascii_digit}
 use Rattle.std.specs.List.{list_all}
 use Rattle.mfotl_lex.specs.Contents.{content_of}
@@ -21,6 +21,12 @@ pub data Symbol : Type 0 where
   Terminator : Symbol
   Says : Written → Symbol
   Stray : Symbol
+
+-- a symbol behind which no more of the present time-point comes
+abbrev pub ends_point : Symbol → Bool
+ends_point AtSign = true
+ends_point Terminator = true
+ends_point _ = false
 
 -- what the grammar sees of a kind of token with this content
 abbrev pub symbol_of : Kind → List ℕ → Symbol

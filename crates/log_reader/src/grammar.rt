@@ -3,8 +3,8 @@ ghost use Rattle.std.specs.Prelude.{◌≡◌};
 ghost use Rattle.std.specs.Char.{is_ascii_digit};
 ghost use Rattle.std.specs.List.{list_all};
 ghost use Rattle.log_reader.specs.Groups.{may_open};
-ghost use Rattle.log_reader.specs.Stages.{stage_after, is_whole, ends_point, read_on};
-ghost use Rattle.log_reader.specs.Symbols.{symbol_of, is_digits};
+ghost use Rattle.log_reader.specs.Stages.{stage_after, is_whole, read_on};
+ghost use Rattle.log_reader.specs.Symbols.{ends_point, symbol_of, is_digits};
 
 use crate::stage::Stage;
 use mfotl_lex::Kind;

@@ -13,7 +13,8 @@ use Rattle.mfotl_model.proofs.LogicLemmas.{among_joined, among_without}
 use Rattle.mfotl_model.proofs.VariableLemmas.{variables_in-cons}
 use Rattle.mfotl_sig.specs.Preds.{PredOf, named}
 use Rattle.mfotl_parse.specs.declared.class.Quantifier.{Quantifier}
-use Rattle.mfotl_parse.specs.Arguments.{call_of, due_sort, after_due, blanks}
+use Rattle.mfotl_parse.specs.Arguments.{call_of, blanks}
+use Rattle.mfotl_parse.specs.SortsDue.{due_sort, after_due}
 use Rattle.mfotl_parse.specs.Grammar.{WrittenTerm, Named, Number, Quoted, WrittenArgument, Given, Hidden}
 use Rattle.mfotl_parse.specs.Grammar.{WrittenArguments, LastArgument, MoreArguments, WrittenVariables, LastVariable}
 use Rattle.mfotl_parse.specs.Grammar.{MoreVariables, Tree, Truth, BareAtom, AtomOf, Comparison, Enclosed, Denied}

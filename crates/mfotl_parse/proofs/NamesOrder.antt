@@ -13,7 +13,8 @@ use Rattle.mfotl_parse.specs.declared.term.Operand.TheVariants as operands
 use Rattle.mfotl_parse.specs.declared.term.Pair.{Pair}
 use Rattle.mfotl_parse.specs.declared.term.Variable.{Variable}
 use Rattle.mfotl_parse.specs.declared.term.Variable.TheVariants as variables
-use Rattle.mfotl_parse.specs.Arguments.{call_of, due_sort, after_due}
+use Rattle.mfotl_parse.specs.Arguments.{call_of}
+use Rattle.mfotl_parse.specs.SortsDue.{due_sort, after_due}
 use Rattle.mfotl_parse.specs.Grammar.{WrittenTerm, Named, Number, Quoted, WrittenArgument, Given, Hidden}
 use Rattle.mfotl_parse.specs.Grammar.{WrittenArguments, LastArgument, MoreArguments, WrittenVariables, LastVariable}
 use Rattle.mfotl_parse.specs.Grammar.{MoreVariables, Tree, Truth, BareAtom, AtomOf, Comparison, Enclosed, Denied}

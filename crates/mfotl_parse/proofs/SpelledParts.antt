@@ -18,7 +18,8 @@ use Rattle.mfotl_parse.specs.declared.class.Class.{Class}
 use Rattle.mfotl_parse.specs.declared.class.Class.TheVariants as classes
 use Rattle.mfotl_parse.specs.declared.term.Operand.TheVariants as operands
 use Rattle.mfotl_parse.specs.declared.term.Side.{Side}
-use Rattle.mfotl_parse.specs.Arguments.{call_of, known, due_sort, after_due, with_argument, argument_move, first_move}
+use Rattle.mfotl_parse.specs.Arguments.{call_of, known, with_argument, argument_move, first_move}
+use Rattle.mfotl_parse.specs.SortsDue.{due_sort, after_due}
 use Rattle.mfotl_parse.specs.Arguments.{atom_of}
 use Rattle.mfotl_parse.specs.Classes.{class_of}
 use Rattle.mfotl_parse.specs.Grammar.{Bare, Asked, WrittenTerm, Named, Number, Quoted, WrittenArgument, Given, Hidden}
@@ -36,7 +37,8 @@ use Rattle.mfotl_parse.specs.Meanings.{argument_count, HasArity, InRange, EndKee
 use Rattle.mfotl_parse.specs.Occurrences.{hidden_count, blank_count}
 use Rattle.mfotl_parse.specs.Meanings.{IntervalKeeps}
 use Rattle.mfotl_parse.specs.Occurrences.{place_of}
-use Rattle.mfotl_parse.specs.Transitions.{Rule, goes, within_nodes, one_due, none_due, is_empty}
+use Rattle.mfotl_parse.specs.Transitions.{Rule, goes, within_nodes, one_due, none_due}
+use Rattle.mfotl_parse.specs.SortsDue.{is_empty}
 use Rattle.mfotl_parse.specs.SymbolTable.{binder_of, with_comparison, term_of}
 use Rattle.mfotl_parse.specs.Reading.{transition, transition_at}
 use Rattle.mfotl_parse.specs.States.{Frame, Parens, Negation, Moment, Binding, Left, opens_level, depth, Call}

@@ -15,7 +15,8 @@ use Rattle.mfotl_parse.specs.declared.class.Class.{Class}
 use Rattle.mfotl_parse.specs.declared.class.Class.TheVariants as classes
 use Rattle.mfotl_parse.specs.declared.term.Operand.TheVariants as operands
 use Rattle.mfotl_parse.specs.declared.term.Side.{Side}
-use Rattle.mfotl_parse.specs.Arguments.{call_of, due_sort, after_due, with_argument}
+use Rattle.mfotl_parse.specs.Arguments.{call_of, with_argument}
+use Rattle.mfotl_parse.specs.SortsDue.{due_sort, after_due}
 use Rattle.mfotl_parse.specs.Classes.{class_of}
 use Rattle.mfotl_parse.specs.Grammar.{Bare, Asked, WrittenTerm, Named, Number, Quoted, WrittenArgument, Given, Hidden}
 use Rattle.mfotl_parse.specs.Grammar.{WrittenArguments, LastArgument, MoreArguments, WrittenBound, Count, Counted}

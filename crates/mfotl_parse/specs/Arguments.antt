@@ -3,8 +3,6 @@ use Rattle.std.specs.Prelude.{ℕ, zero, suc, ◌+◌, ◌-◌, List, [], ◌∷
 use Rattle.std.specs.Prelude.{codes}
 use Rattle.mfotl_lex.specs.Lexemes.{Lexeme}
 use Rattle.mfotl_lex.specs.Contents.{content_of}
-use Rattle.mfotl_model.specs.declared.policy.Sort.{Sort}
-use Rattle.mfotl_model.specs.declared.policy.Sort.TheVariants as sorts
 use Rattle.mfotl_model.specs.declared.term.Term.{Term}
 use Rattle.mfotl_model.specs.declared.term.Term.TheVariants as terms
 use Rattle.mfotl_model.specs.declared.value.Value.TheVariants as values
@@ -16,6 +14,7 @@ use Rattle.mfotl_parse.specs.declared.class.Class.TheVariants as classes
 use Rattle.mfotl_parse.specs.declared.term.Operand.{Operand}
 use Rattle.mfotl_parse.specs.declared.term.Operand.TheVariants as operands
 use Rattle.mfotl_parse.specs.Transitions.{Unknown, Rule, Transition, goes, within_nodes, one_due, none_due}
+use Rattle.mfotl_parse.specs.SortsDue.{due_sort, after_due}
 use Rattle.mfotl_parse.specs.SymbolTable.{resolved, noted, bound_more, constrain_term, term_of}
 use Rattle.mfotl_parse.specs.States.{Call, Context, Partial, with_now, with_names, counted, AfterOperand}
 use Rattle.mfotl_parse.specs.States.{FirstArgument, NextArgument, AfterArgument, AfterArgumentMark}
@@ -36,16 +35,6 @@ called sig p at name =
     let found = named name sig in
     goes (known at found ∷ within_nodes at p.nodes ∷ [])
     (with_now (counted p) (FirstArgument (call_of found (length p.names.bound_sorts))))
-
--- the sort of the argument that is due
-abbrev pub due_sort : List Sort → Sort
-due_sort [] = sorts.Int
-due_sort (sort ∷ rest) = sort
-
--- the sorts of the arguments behind the one that is due
-abbrev pub after_due : List Sort → List Sort
-after_due [] = []
-after_due (sort ∷ rest) = rest
 
 -- an argument more
 abbrev pub with_argument : Call → Term → Call

@@ -3,6 +3,7 @@ pub mod Classes
 pub mod States
 pub mod SymbolTable
 pub mod Reduction
+pub mod SortsDue
 pub mod Transitions
 pub mod Comparisons
 pub mod Operands

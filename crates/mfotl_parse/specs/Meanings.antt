@@ -15,7 +15,8 @@ use Rattle.mfotl_sig.specs.Preds.{PredOf, named}
 use Rattle.mfotl_parse.specs.declared.class.Quantifier.{Quantifier}
 use Rattle.mfotl_parse.specs.declared.term.Operand.{Operand}
 use Rattle.mfotl_parse.specs.declared.term.Operand.TheVariants as operands
-use Rattle.mfotl_parse.specs.Arguments.{call_of, due_sort, after_due, blanks}
+use Rattle.mfotl_parse.specs.Arguments.{call_of, blanks}
+use Rattle.mfotl_parse.specs.SortsDue.{due_sort, after_due}
 use Rattle.mfotl_parse.specs.Grammar.{WrittenTerm, Named, Number, Quoted}
 use Rattle.mfotl_parse.specs.Grammar.{WrittenArgument, Given, Hidden, WrittenArguments, LastArgument, MoreArguments}
 use Rattle.mfotl_parse.specs.Grammar.{WrittenVariables, LastVariable, MoreVariables, WrittenBound, Count, Counted}

@@ -10,7 +10,7 @@ use Rattle.mfotl_parse.specs.declared.class.Class.TheVariants as classes
 use Rattle.mfotl_parse.specs.declared.fault.PolicyFault.{PolicyFault}
 use Rattle.mfotl_parse.specs.declared.fault.PolicyFault.TheVariants.{EmptyInterval, BoundRange, UnknownPredicate}
 use Rattle.mfotl_parse.specs.declared.fault.PolicyFault.TheVariants.{WrongArity, TooDeep, TooManyNodes}
-use Rattle.mfotl_parse.specs.Arguments.{after_due}
+use Rattle.mfotl_parse.specs.SortsDue.{after_due}
 use Rattle.mfotl_parse.specs.Classes.{class_of}
 use Rattle.mfotl_parse.specs.Grammar.{WrittenVariable, WrittenArgument, Given, Hidden, WrittenArguments, LastArgument}
 use Rattle.mfotl_parse.specs.Grammar.{MoreArguments, WrittenVariables, LastVariable, MoreVariables, WrittenBound}
@@ -21,7 +21,7 @@ use Rattle.mfotl_parse.specs.Grammar.{is_timed, deepens}
 use Rattle.mfotl_parse.specs.Meanings.{sorts_behind, bound_value, node_count}
 use Rattle.mfotl_parse.specs.Mentions.{places_of}
 use Rattle.mfotl_parse.specs.Occurrences.{place_of_variable, place_of, hidden_count, variable_count}
-use Rattle.mfotl_parse.specs.Transitions.{is_empty}
+use Rattle.mfotl_parse.specs.SortsDue.{is_empty}
 use Rattle.mfotl_parse.specs.Limits.{max_levels, max_nodes, max_bound}
 
 -- the faults that tokens show, a list for each token

@@ -7,6 +7,7 @@ use Rattle.mfotl_parse.specs.declared.fault.PolicyFault.{PolicyFault}
 use Rattle.mfotl_parse.specs.declared.fault.PolicyFault.TheVariants.{Syntax, EmptyInterval, BoundRange}
 use Rattle.mfotl_parse.specs.declared.fault.PolicyFault.TheVariants.{UnknownPredicate, WrongArity, TooDeep}
 use Rattle.mfotl_parse.specs.declared.fault.PolicyFault.TheVariants.{TooManyNodes}
+use Rattle.mfotl_parse.specs.SortsDue.{is_empty}
 use Rattle.mfotl_parse.specs.States.{Partial, depth, Frame}
 use Rattle.mfotl_parse.specs.Limits.{max_levels, max_nodes}
 
@@ -65,11 +66,6 @@ within_depth at stack = record { broken = nat_le max_levels (depth stack); limit
 -- one node more fits
 abbrev pub within_nodes : ℕ → ℕ → Rule
 within_nodes at nodes = record { broken = nat_le max_nodes nodes; limit = Nodes; at = at }
-
--- no argument is due
-abbrev pub is_empty : List Sort → Bool
-is_empty [] = true
-is_empty (sort ∷ rest) = false
 
 -- an argument more is due
 abbrev pub one_due : ℕ → List Sort → Rule

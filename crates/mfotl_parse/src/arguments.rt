@@ -4,7 +4,8 @@
 ghost use Rattle.std.specs.Prelude.{◌≡◌, ◌∷◌, [], false};
 ghost use Rattle.mfotl_lex.specs.Lexemes.{lexeme};
 ghost use Rattle.mfotl_parse.specs.Arguments as calls;
-ghost use Rattle.mfotl_parse.specs.Transitions.{given, goes, within_nodes, is_empty};
+ghost use Rattle.mfotl_parse.specs.Transitions.{given, goes, within_nodes};
+ghost use Rattle.mfotl_parse.specs.SortsDue.{is_empty};
 ghost use Rattle.mfotl_parse.specs.Views.{context_of, call_view, GoesOn};
 
 use crate::call::Call;

@@ -2,7 +2,7 @@
 ghost use Rattle.std.specs.Prelude.{◌≡◌, ◌-◌, IfOk, codes};
 ghost use Rattle.mfotl_model.specs.Formulas.{form};
 ghost use Rattle.mfotl_parse.specs.Arguments as calls;
-ghost use Rattle.mfotl_parse.specs.Transitions.{is_empty};
+ghost use Rattle.mfotl_parse.specs.SortsDue.{is_empty};
 ghost use Rattle.mfotl_parse.specs.Views.{call_view};
 
 use crate::class::Quantifier;
