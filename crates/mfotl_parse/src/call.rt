@@ -2,7 +2,7 @@
 ghost use Rattle.std.specs.Prelude.{◌≡◌, ◌-◌, IfOk, codes};
 ghost use Rattle.mfotl_model.specs.Formulas.{form};
 ghost use Rattle.mfotl_parse.specs.Arguments as calls;
-ghost use Rattle.mfotl_parse.specs.SortsDue.{is_empty};
+ghost use Rattle.mfotl_parse.specs.SortsDue.{due_sort, is_empty};
 ghost use Rattle.mfotl_parse.specs.Views.{call_view};
 
 use crate::class::Quantifier;
@@ -24,7 +24,7 @@ pub struct Call<'a> {
 impl<'a> Call<'a> {
     /// The sort of the argument that is due; `int` where none is.
     pub fn due(&self) -> Sort
-        ensures { result ≡ calls.due_sort (call_view self.now).rest }
+        ensures { result ≡ due_sort (call_view self.now).rest }
     {
         match self.rest {
             [] => Sort::Int,
