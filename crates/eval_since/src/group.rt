@@ -51,7 +51,7 @@ fn hashed(alloc: Global, row: Row, times: Times) -> Result<Hashed, AllocError>
     ensures some { IfOk result (λ rows. 0 < length times → HaveTimes rows) }
 {
     let mut rows = Hashed::new(alloc);
-    rows.put(row, times)?;
+    rows.put(alloc, row, times)?;
     Ok(rows)
 }
 
@@ -174,11 +174,11 @@ fn with_times(alloc: Global, held: Held, row: Row, times: Times) -> Result<Held,
         Held::Zero => Ok(Held::One(row, times)),
         Held::One(first, kept) => {
             let mut rows = hashed(alloc, first, kept)?;
-            rows.put(row, times)?;
+            rows.put(alloc, row, times)?;
             Ok(Held::Many(Box::new(alloc, rows)?))
         }
         Held::Many(mut rows) => {
-            rows.put(row, times)?;
+            rows.put(alloc, row, times)?;
             Ok(Held::Many(rows))
         }
     }

@@ -1,61 +1,88 @@
 //! Many rows with the times kept for them, each found by its hash.
-ghost use Rattle.std.specs.Prelude.{◌≡◌, ◌||◌, ◌&&◌, ◌==◌, ◌<◌, [], List, OnOk, cond, length};
+ghost use Rattle.std.specs.Prelude.{◌≡◌, ◌||◌, ◌&&◌, ◌==◌, ◌<◌, [], IfOk, List, OnOk, cond, length};
 ghost use Rattle.std.specs.BTreeMap.{is_at};
 ghost use Rattle.mfotl_model.specs.Values.{row_cmp};
 ghost use Rattle.mfotl_model.specs.declared.value.Value.{Value};
-ghost use Rattle.eval_since.specs.Groups.{HaveTimes, hit, times_in};
+ghost use Rattle.eval_since.specs.Groups.{HaveTimes, times_in};
+ghost use Rattle.eval_since.specs.HashedTimes.{stored_times};
 ghost use Rattle.mfotl_model.specs.Tables.{has_row, part};
 ghost use Rattle.eval_since.specs.Times.{ArePast, added, reaches, recent};
-ghost use Rattle.std.specs.List.{list_any};
 ghost use Rattle.std.specs.Option.{option_or};
 ghost use Rattle.mfotl_model.specs.declared.interval.Interval.{Interval};
-ghost use Rattle.relations.specs.KeptRows.{RowsDiffer, filled, first_filled, kept_for};
+ghost use Rattle.relations.specs.KeptRows.{filled, kept_for};
 
-use crate::keys::has_part;
+use crate::ints::{IntRows, int_of};
 use crate::ordered::OrderedGroup;
 use crate::times::Times;
+use crate::wide::WideRows;
 use mfotl_model::{Interval, Row};
 use relations::Table;
 use std::alloc::{AllocError, Global};
-use std::collections::HashMap;
-use std::collections::hash_map::Entry;
 use std::marker::Model;
+use std::mem;
+
+// Rows of one integer each stand as these integers: a row has room for two values. The first row of another kind
+// brings all into rows.
+#[derive(Drop)]
+enum Stored {
+    Ints(IntRows),
+    Wide(WideRows),
+}
 
 #[derive(Drop)]
 pub(crate) struct Hashed {
-    rows: HashMap<Row, Times>,
+    stored: Stored,
 }
 
 impl Model for Hashed {
     ghost use Rattle.std.specs.Prelude.{List, ℕ};
     ghost use Rattle.mfotl_model.specs.declared.value.Value.{Value as OneValue};
+    ghost use Rattle.eval_since.specs.HashedTimes.{stored_times};
 
     ghost Value = { List (List OneValue × List ℕ) };
 
-    ghost view = { λ g. g.rows.entries };
+    ghost view = { λ g. stored_times g.stored };
 }
 
-// A row that is left without times goes.
-fn forget_times(rows: &mut HashMap<Row, Times>, row: Row, hi: u64, now: u64)
-    ensures times { (v : List Value) → times_in rows.new.entries v
-        ≡ cond (is_at (row_cmp row) v)
-        (recent hi now (times_in rows.old.entries v)) (times_in rows.old.entries v) }
-    ensures some { HaveTimes rows.old.entries → HaveTimes rows.new.entries }
+fn wide(alloc: Global, stored: Stored) -> Result<WideRows, AllocError>
+    ensures times { IfOk result (λ rows. (v : List Value) →
+        times_in rows v ≡ times_in (stored_times stored) v) }
+    ensures some { IfOk result (λ rows. HaveTimes (stored_times stored) → HaveTimes rows) }
 {
-    let slot = match rows.entry(row) {
-        Ok(slot) => slot,
-        Err(_absent) => return,
-    };
-    match slot {
-        Entry::Occupied(mut kept) => {
-            let times = kept.get_mut();
-            times.forget(hi, now);
-            if times.is_empty() {
-                kept.remove();
-            }
-        }
-        Entry::Vacant(vacant) => drop(vacant.into_key()),
+    match stored {
+        Stored::Ints(rows) => rows.widened(alloc),
+        Stored::Wide(rows) => Ok(rows),
     }
+}
+
+fn wide_time(
+    alloc: Global,
+    stored: Stored,
+    row: Row,
+    x: u64,
+    bounded: bool,
+) -> Result<Stored, AllocError>
+    requires { ArePast x (times_in (stored_times stored) row) }
+    ensures times { IfOk result (λ more. (v : List Value) → times_in (stored_times more) v
+        ≡ cond (is_at (row_cmp row) v)
+        (added bounded (times_in (stored_times stored) v) x) (times_in (stored_times stored) v)) }
+    ensures some { IfOk result (λ more.
+        HaveTimes (stored_times stored) → HaveTimes (stored_times more)) }
+{
+    let mut rows = wide(alloc, stored)?;
+    rows.add(alloc, row, x, bounded)?;
+    Ok(Stored::Wide(rows))
+}
+
+fn wide_put(alloc: Global, stored: Stored, row: Row, times: Times) -> Result<Stored, AllocError>
+    ensures times { IfOk result (λ more. (v : List Value) → times_in (stored_times more) v
+        ≡ cond (is_at (row_cmp row) v) times (times_in (stored_times stored) v)) }
+    ensures some { IfOk result (λ more.
+        0 < length times → HaveTimes (stored_times stored) → HaveTimes (stored_times more)) }
+{
+    let mut rows = wide(alloc, stored)?;
+    rows.put(row, times)?;
+    Ok(Stored::Wide(rows))
 }
 
 impl Hashed {
@@ -63,14 +90,17 @@ impl Hashed {
         ensures { result ≡ [] }
     {
         Hashed {
-            rows: HashMap::new(alloc),
+            stored: Stored::Ints(IntRows::new(alloc)),
         }
     }
 
     pub fn is_empty(&self) -> bool
         ensures { result ≡ (length self.now == 0) }
     {
-        self.rows.len() == 0
+        match &self.stored {
+            Stored::Ints(rows) => rows.is_empty(),
+            Stored::Wide(rows) => rows.is_empty(),
+        }
     }
 
     /// The times of a row, with one more.
@@ -81,8 +111,20 @@ impl Hashed {
             (added bounded (times_in self.old v) x) (times_in self.old v)) }
         ensures some { OnOk result (HaveTimes self.old → HaveTimes self.new) }
     {
-        let times = self.rows.entry(row)?.or_insert(Times::new());
-        times.add(alloc, x, bounded)?;
+        match &mut self.stored {
+            Stored::Wide(rows) => {
+                rows.add(alloc, row, x, bounded)?;
+                return Ok(());
+            }
+            Stored::Ints(rows) => {
+                if let Some(number) = int_of(&row) {
+                    rows.add(alloc, number, x, bounded)?;
+                    return Ok(());
+                }
+            }
+        }
+        let stored = mem::replace(&mut self.stored, Stored::Ints(IntRows::new(alloc)));
+        self.stored = wide_time(alloc, stored, row, x, bounded)?;
         Ok(())
     }
 
@@ -93,16 +135,19 @@ impl Hashed {
             (recent hi now (times_in self.old v)) (times_in self.old v) }
         ensures some { HaveTimes self.old → HaveTimes self.new }
     {
-        forget_times(&mut self.rows, row, hi, now);
+        match &mut self.stored {
+            Stored::Wide(rows) => rows.forget(row, hi, now),
+            Stored::Ints(rows) => rows.forget(&row, hi, now),
+        }
     }
 
     /// Whether the times of a row reach.
     pub fn reaches(&self, row: &Row, interval: &Interval, x: u64) -> bool
         ensures { result ≡ reaches interval.now (times_in self.now row.now) x }
     {
-        match self.rows.get(row) {
-            Some(times) => times.reaches(interval, x),
-            None => false,
+        match &self.stored {
+            Stored::Wide(rows) => rows.reaches(row, interval, x),
+            Stored::Ints(rows) => rows.reaches(row, interval, x),
         }
     }
 
@@ -117,26 +162,10 @@ impl Hashed {
         ensures { OnOk result ((u : List Value) → has_row out.new.items u
             ≡ (has_row out.old.items u || reaches interval.now (times_in self.now u) x)) }
     {
-        self.push_hits(alloc, out, interval, x)
-    }
-
-    fn push_hits(
-        &self,
-        alloc: Global,
-        out: &mut Vec<Row>,
-        interval: &Interval,
-        x: u64,
-    ) -> Result<(), AllocError>
-        ensures rows { OnOk result ((u : List Value) → has_row out.new.items u
-            ≡ (has_row out.old.items u || list_any (hit interval.now x u) self.now)) }
-        ensures differ { RowsDiffer self.now }
-    {
-        for (row, times) in &self.rows {
-            if times.reaches(interval, x) {
-                out.push(row.copy(alloc)?)?;
-            }
+        match &self.stored {
+            Stored::Ints(rows) => rows.push_reaching(alloc, out, interval, x),
+            Stored::Wide(rows) => rows.push_reaching(alloc, out, interval, x),
         }
-        Ok(())
     }
 
     /// Appends the rows whose times reach, of those whose part at the columns of `keys` is one of its rows.
@@ -153,49 +182,32 @@ impl Hashed {
             ≡ (has_row out.old.items u || (reaches interval.now (times_in self.now u) x
             && has_row keys.now.rows (part columns.now keys.now.columns u)))) }
     {
-        self.push_matches(alloc, out, interval, x, columns, keys)
-    }
-
-    fn push_matches(
-        &self,
-        alloc: Global,
-        out: &mut Vec<Row>,
-        interval: &Interval,
-        x: u64,
-        columns: &[u32],
-        keys: &Table,
-    ) -> Result<(), AllocError>
-        ensures rows { OnOk result ((u : List Value) → has_row out.new.items u
-            ≡ (has_row out.old.items u || list_any (λ e. hit interval.now x u e
-            && has_row keys.now.rows (part columns.now keys.now.columns e.0)) self.now)) }
-        ensures differ { RowsDiffer self.now }
-    {
-        for (row, times) in &self.rows {
-            if times.reaches(interval, x) && has_part(alloc, columns, row, keys)? {
-                out.push(row.copy(alloc)?)?;
-            }
+        match &self.stored {
+            Stored::Ints(rows) => rows.push_matching(alloc, out, interval, x, columns, keys),
+            Stored::Wide(rows) => rows.push_matching(alloc, out, interval, x, columns, keys),
         }
-        Ok(())
     }
 
     /// Puts the times of a row in the place of those that it has.
-    pub fn put(&mut self, row: Row, times: Times) -> Result<(), AllocError>
+    pub fn put(&mut self, alloc: Global, row: Row, times: Times) -> Result<(), AllocError>
         ensures times { OnOk result ((v : List Value) → times_in self.new v
             ≡ cond (is_at (row_cmp row) v) times (times_in self.old v)) }
         ensures some { OnOk result (0 < length times → HaveTimes self.old → HaveTimes self.new) }
     {
-        self.rows.insert(row, times)?;
-        Ok(())
-    }
-
-    fn pour_rows(&self, alloc: Global, out: &mut OrderedGroup) -> Result<(), AllocError>
-        ensures rows { OnOk result ((u : List Value) → kept_for out.new u
-            ≡ option_or (kept_for out.old u) (first_filled self.now u)) }
-        ensures differ { RowsDiffer self.now }
-    {
-        for (row, times) in &self.rows {
-            out.pour_row(alloc, row, times)?;
+        match &mut self.stored {
+            Stored::Wide(rows) => {
+                rows.put(row, times)?;
+                return Ok(());
+            }
+            Stored::Ints(rows) => {
+                if let Some(number) = int_of(&row) {
+                    rows.put(number, times)?;
+                    return Ok(());
+                }
+            }
         }
+        let stored = mem::replace(&mut self.stored, Stored::Ints(IntRows::new(alloc)));
+        self.stored = wide_put(alloc, stored, row, times)?;
         Ok(())
     }
 
@@ -204,6 +216,9 @@ impl Hashed {
         ensures { OnOk result ((u : List Value) → kept_for out.new u
             ≡ option_or (kept_for out.old u) (filled (times_in self.now u))) }
     {
-        self.pour_rows(alloc, out)
+        match &self.stored {
+            Stored::Ints(rows) => rows.pour(alloc, out),
+            Stored::Wide(rows) => rows.pour(alloc, out),
+        }
     }
 }

@@ -6,6 +6,7 @@ mod expiry;
 mod group;
 mod groups;
 mod hashed;
+mod ints;
 mod keys;
 mod latest_time;
 pub mod laws;
@@ -17,6 +18,7 @@ mod recalled;
 mod since;
 mod since_steps;
 mod times;
+mod wide;
 mod window;
 
 pub use previous::PrevState;

@@ -1,0 +1,11 @@
+use Rattle.std.proofs.Common.{◌≡◌, List}
+use Rattle.std.specs.Option.{option_or}
+use Rattle.mfotl_model.specs.declared.value.Value.{Value}
+use Rattle.relations.specs.KeptRows.{first_filled, kept_for}
+use Rattle.eval_since.specs.IntRows.{int_times}
+use Rattle.eval_since.proofs.ints.IntRows.pour_rows.Given as goal
+
+abbrev pub invariant-loop-number : goal.invariant-loop-number
+invariant-loop-number l = (u : List Value) →
+    option_or (kept_for l.out u) (first_filled (int_times l.number-iterator) u)
+    ≡ option_or (kept_for l.fn.out u) (first_filled l.fn.self u)

@@ -1,0 +1,10 @@
+-- The rows of a group with their times, wherever they stand.
+use Rattle.std.specs.Prelude.{ℕ, List}
+use Rattle.mfotl_model.specs.declared.value.Value.{Value}
+use Rattle.eval_since.specs.declared.hashed.Stored.{Stored}
+use Rattle.eval_since.specs.declared.hashed.Stored.TheVariants.{Ints, Wide}
+
+-- the rows, each with its times
+abbrev pub stored_times : Stored → List (List Value × List ℕ)
+stored_times (Ints rows) = rows
+stored_times (Wide rows) = rows
