@@ -48,7 +48,8 @@ def runs(path):
         elif kind == b"word":
             case["words"].append(rest[0])
         elif kind == b"file":
-            case["files"][b" ".join(rest[:-1])] = rest[-1]
+            # of two files of one name the first counts
+            case["files"].setdefault(b" ".join(rest[:-1]), rest[-1])
         elif kind.startswith(b"fail"):
             case["fails"] = True
         elif kind == b"end":
