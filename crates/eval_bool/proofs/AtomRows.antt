@@ -8,12 +8,12 @@ use Rattle.std.specs.List.{filter, flat_map}
 use Rattle.std.specs.Ordering.{eq_by_cmp}
 use Rattle.std.specs.Cmp.{both_ways}
 use Rattle.mfotl_model.proofs.AscendingLemmas.{any_ascending}
-use Rattle.mfotl_model.proofs.LogicLemmas.{among_distinct, any_alike, any_map, any_filter}
+use Rattle.mfotl_model.proofs.LogicLemmas.{absorbed, among_distinct, any_alike, any_map, any_filter}
 use Rattle.mfotl_model.proofs.MatchingLemmas.{reads_own, same_event_of}
 use Rattle.mfotl_model.proofs.RowLemmas.{event_exact, row_exact}
 use Rattle.mfotl_model.proofs.ColumnLemmas.{same_columns, distinct_apart}
 use Rattle.mfotl_model.specs.Ascending.{ascending}
-use Rattle.mfotl_model.specs.Events.{event_cmp, event_total}
+use Rattle.mfotl_model.specs.Events.{event_cmp, event_total, has_pred}
 use Rattle.mfotl_model.specs.FreeVariables.{among, variable_in, variables_in}
 use Rattle.mfotl_model.specs.Matching.{Query, is_match, matching_rows, reads, row_read}
 use Rattle.mfotl_model.specs.Satisfaction.{Valuation, event_of, has_event}
@@ -93,6 +93,17 @@ module _ (v : Valuation) (atom : OneAtom) where
       (ap (eq_by_cmp row_cmp (map v columns)) (sym (same_columns v (reads atom event) columns
       (λ y m. own y (sym (among_distinct y (flat_map variable_in atom.args)) ∙ m))))
       ∙ row_itself (map v columns)))
+
+  -- the event that the atom stands for is among all events exactly where it is among those of its predicate
+  pub has_own : (db : List Event)
+      → has_event (filter (has_pred atom.pred) db) (event_of v atom) ≡ has_event db (event_of v atom)
+  has_own db =
+      any_filter (eq_by_cmp event_cmp (event_of v atom)) (has_pred atom.pred) db
+      ∙ any_alike (λ e. has_pred atom.pred e && eq_by_cmp event_cmp (event_of v atom) e)
+      (eq_by_cmp event_cmp (event_of v atom)) db
+      (λ e. absorbed (has_pred atom.pred e) (eq_by_cmp event_cmp (event_of v atom) e)
+      (λ h. let is : event_of v atom ≡ e = tells_apart event_exact (event_of v atom) e h in
+      eq-eqb e.pred atom.pred (ap (λ (x : Event). x.pred) (sym is))))
 
   -- the rows that are read off have v's row exactly where the event is in the database
   pub has_matching : (events : List Event)

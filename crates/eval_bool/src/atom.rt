@@ -63,7 +63,7 @@ impl AtomReader {
         ensures has { IfOk result (λ table. (v : Valuation) →
             has table v ≡ has_event point.now.db (event_of v self.now)) }
     {
-        let rows = self.rows(alloc, point.db.inserted())?;
+        let rows = self.rows(alloc, point.db.of_pred(self.atom.pred))?;
         Ok(Table::from_rows(self.columns(alloc)?, rows))
     }
 }

@@ -6,11 +6,11 @@ ghost use Rattle.log_reader.specs.Groups.{TakesPlain, ReadsValues, ReadsGroup, T
 
 use crate::grammar::may_open;
 use crate::limits::{Limits, Look};
-use crate::partial::Partial;
+use crate::partial::{Partial, push_event};
 use crate::plain_tokens::{blank_before, word_before};
 use crate::short_numbers::integer_before;
 use crate::stage::Stage;
-use mfotl_model::{Event, Row, Sort, Text, Value};
+use mfotl_model::{Row, Sort, Text, Value};
 use std::alloc::{AllocError, Global};
 
 // A Word at the front of bytes as a text, and how many bytes it has.
@@ -126,10 +126,7 @@ impl<'a> Partial<'a> {
         let Some((args, behind)) = group_at(alloc, self.sorts, look, at)? else {
             return Ok(None);
         };
-        self.events.insert(Event {
-            pred: self.pred,
-            args,
-        })?;
+        push_event(&mut self.events, self.pred, args)?;
         self.stage = Stage::AfterClose;
         self.groups += 1;
         self.due = &[];

@@ -1,6 +1,9 @@
 //! The part of a log's time-point that has been read, and what the next token does to it.
 ghost use Rattle.std.specs.Prelude.{◌≡◌, ◌++◌, ◌∷◌, [], true, OnOk, Ok};
+ghost use Rattle.std.specs.BTreeSet.{insert_key};
 ghost use Rattle.mfotl_lex.specs.Lexemes.{lexeme};
+ghost use Rattle.mfotl_model.specs.Ascending.{ascending};
+ghost use Rattle.mfotl_model.specs.Events.{event_cmp};
 ghost use Rattle.log_reader.specs.Given.{StateMoves};
 ghost use Rattle.log_reader.specs.Quick.{TakesStraight, TakesInteger, TakesMark, TakesWord};
 ghost use Rattle.log_reader.specs.Stages.{completes, is_whole};
@@ -28,7 +31,7 @@ pub struct Partial<'a> {
     pub(crate) stage: Stage,
     pub(crate) points: u32,
     pub(crate) time: u64,
-    pub(crate) events: Db,
+    pub(crate) events: Vec<Event>,
     pub(crate) groups: u32,
     pub(crate) pred: u32,
     pub(crate) sorts: &'a [Sort],
@@ -48,6 +51,8 @@ pub enum Straight {
 }
 
 impl<'a> Model for Partial<'a> {
+    ghost use Rattle.mfotl_model.specs.Ascending.{ascending};
+    ghost use Rattle.mfotl_model.specs.Events.{event_cmp};
     ghost use Rattle.log_reader.specs.Partials.{Partial as PartialOf};
 
     ghost Value = { PartialOf };
@@ -56,13 +61,27 @@ impl<'a> Model for Partial<'a> {
       stage = p.stage;
       points = p.points;
       time = p.time;
-      events = p.events;
+      events = ascending event_cmp p.events.items;
       groups = p.groups;
       pred = p.pred;
       sorts = p.sorts.now;
       args = p.args;
       due = p.due.now;
     } };
+}
+
+// Puts an event behind the others, in whatever order they come. A first one takes memory for itself alone: many logs
+// have one event at a time-point.
+#[tactic(auto, using(mfotl_model::proofs::EventLemmas::event_behind))]
+pub(crate) fn push_event(events: &mut Vec<Event>, pred: u32, args: Row) -> Result<(), AllocError>
+    ensures { OnOk result (ascending event_cmp events.new.items
+        ≡ insert_key event_cmp (ascending event_cmp events.old.items) (record { pred = pred; args = args })) }
+{
+    if events.is_empty() {
+        events.reserve_exact(1)?;
+    }
+    events.push(Event { pred, args })?;
+    Ok(())
 }
 
 impl<'a> Partial<'a> {
@@ -80,7 +99,7 @@ impl<'a> Partial<'a> {
             stage: Stage::Between,
             points: 0,
             time: 0,
-            events: Db::new(alloc),
+            events: Vec::new(alloc),
             groups: 0,
             pred: 0,
             sorts: &[],
@@ -98,11 +117,11 @@ impl<'a> Partial<'a> {
         self.groups = 0;
         TimePoint {
             ts: self.time,
-            db: mem::replace(&mut self.events, Db::new(alloc)),
+            db: Db::from_events(mem::replace(&mut self.events, Vec::new(alloc))),
         }
     }
 
-    fn open(&mut self, alloc: Global, limits: &Limits, at: u64) -> Result<(), LogFault>
+    fn open(&mut self, limits: &Limits, at: u64) -> Result<(), LogFault>
         ensures { StateMoves self.old self.new result (point_opened limits.now at self.old) }
     {
         if self.points >= limits.points {
@@ -110,18 +129,9 @@ impl<'a> Partial<'a> {
         }
         self.stage = Stage::AfterAt;
         self.points += 1;
-        self.forget_events(alloc);
+        self.events.clear();
         self.groups = 0;
         Ok(())
-    }
-
-    // Where there are none, nothing is to be done.
-    fn forget_events(&mut self, alloc: Global)
-        ensures { self.new ≡ record self.old { events = [] } }
-    {
-        if !self.events.is_empty() {
-            self.events = Db::new(alloc);
-        }
     }
 
     fn stamp(&mut self, at: u64, digits: &[u8]) -> Result<(), LogFault>
@@ -237,7 +247,7 @@ impl<'a> Partial<'a> {
         let [first, ..] = bytes else {
             return Ok(Straight::Nothing);
         };
-        match self.take_mark(alloc, limits, at as u64, *first) {
+        match self.take_mark(limits, at as u64, *first) {
             Some(stepped) => match stepped {
                 Ok(()) => Ok(Straight::Took(1)),
                 Err(fault) => Err(fault),
@@ -268,13 +278,7 @@ impl<'a> Partial<'a> {
 
     // Takes a mark straight by its byte, where its stage awaits it and it completes no time-point. It does what the
     // token would do.
-    fn take_mark(
-        &mut self,
-        alloc: Global,
-        limits: &Limits,
-        at: u64,
-        b: u8,
-    ) -> Option<Result<(), LogFault>>
+    fn take_mark(&mut self, limits: &Limits, at: u64, b: u8) -> Option<Result<(), LogFault>>
         ensures { TakesMark limits.now self.old at b result self.new }
     {
         match self.stage {
@@ -282,7 +286,7 @@ impl<'a> Partial<'a> {
             Stage::AfterValue if b == b')' => Some(self.end_group(at)),
             Stage::AfterName if b == b'(' => Some(self.begin_group(limits, at)),
             Stage::AfterClose if b == b'(' => Some(self.begin_group(limits, at)),
-            Stage::Between if b == b'@' => Some(self.open(alloc, limits, at)),
+            Stage::Between if b == b'@' => Some(self.open(limits, at)),
             _ => None,
         }
     }
@@ -301,10 +305,7 @@ impl<'a> Partial<'a> {
             return Err(LogFault::WrongArity(at));
         }
         let args = mem::replace(&mut self.args, Row::empty());
-        self.events.insert(Event {
-            pred: self.pred,
-            args,
-        })?;
+        push_event(&mut self.events, self.pred, args)?;
         self.stage = Stage::AfterClose;
         Ok(())
     }
@@ -331,7 +332,7 @@ impl<'a> Partial<'a> {
         let content = token.content();
         match stage_behind(self.stage, token.kind, content) {
             None => Err(LogFault::Syntax(at)),
-            Some(Stage::AfterAt) => self.open(alloc, limits, at),
+            Some(Stage::AfterAt) => self.open(limits, at),
             Some(Stage::AfterStamp) => self.stamp(at, content),
             Some(Stage::AfterName) => self.name(sig, at, content),
             Some(Stage::AfterOpen) => self.begin_group(limits, at),

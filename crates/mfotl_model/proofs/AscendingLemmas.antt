@@ -1,17 +1,19 @@
 -- Lists put into ascending order: what is found in them, and when two come out the same.
-use Rattle.std.proofs.Common.{◌≡◌, Bool, true, false, ◌||◌, List, [], ◌∷◌, ◌++◌, refl, sym, ap, ◌∙◌}
+use Rattle.std.proofs.Common.{◌≡◌, Bool, true, false, ◌&&◌, ◌||◌, List, [], ◌∷◌, ◌++◌, refl, sym, ap, ◌∙◌}
 use Rattle.std.proofs.lemmas.List.Folds.{list_any-append}
+use Rattle.std.proofs.lemmas.List.Kept.{IsStrictlySortedBy-filter}
+use Rattle.std.proofs.lemmas.List.Sorted.{list_any-IsPermutation}
 use Rattle.std.proofs.lemmas.Map.Lookups.{btree_set_from_contains, CmpEqualImpliesEq}
 use Rattle.std.proofs.Math.Bool.{or_self_left}
 use Rattle.std.specs.BTreeSet.{BTreeSet, insert_key}
 use Rattle.std.specs.Cmp.{IsTotalOrder}
-use Rattle.std.specs.List.{list_any, AllByRecursion}
-use Rattle.std.specs.List.Sorted.{IsStrictlySortedBy}
+use Rattle.std.specs.List.{filter, list_any, AllByRecursion}
+use Rattle.std.specs.List.Sorted.{IsPermutation, IsStrictlySortedBy}
 use Rattle.std.specs.Ordering.{eq_by_cmp, match_ordering, ordering_reverse}
 use Rattle.std.specs.declared.cmp.Ordering.{Ordering}
 use Rattle.std.specs.declared.cmp.Ordering.TheVariants.{Less, Equal, Greater}
 use Rattle.mfotl_model.specs.Ascending.{ascending}
-use Rattle.mfotl_model.proofs.LogicLemmas.{or_moved}
+use Rattle.mfotl_model.proofs.LogicLemmas.{any_filter, or_moved}
 
 or_last : (a b : Bool) → (a || (b || false)) ≡ (b || a)
 or_last true true = refl
@@ -94,3 +96,20 @@ module _ {K : Type 0} {cmp : K → K → Ordering} (total : IsTotalOrder cmp) (e
       same_ascending (x ∷ xs) (xs ++ x ∷ [])
       (λ q. sym (list_any-append (eq_by_cmp cmp q) xs (x ∷ [])
       ∙ or_last (list_any (eq_by_cmp cmp q) xs) (eq_by_cmp cmp q x)))
+
+  -- a list and what it becomes by moving its elements come out the same
+  pub moved_ascending : (xs ys : List K) → IsPermutation xs ys → ascending cmp ys ≡ ascending cmp xs
+  moved_ascending xs ys moved =
+      same_ascending ys xs (λ q. sym (list_any-IsPermutation (eq_by_cmp cmp q) xs ys moved))
+
+  -- what a test keeps of a list comes out as what it keeps of the list in order
+  pub filter_ascending : (p : K → Bool) (xs : List K) → ascending cmp (filter p xs) ≡ filter p (ascending cmp xs)
+  filter_ascending p xs =
+      let left : BTreeSet K = record { keys = ascending cmp (filter p xs) } in
+      let right : BTreeSet K = record { keys = filter p (ascending cmp xs) } in
+      btree_set_from_contains total left right
+      (sorted_ascending (filter p xs)) (IsStrictlySortedBy-filter cmp p (ascending cmp xs) (sorted_ascending xs))
+      (λ q. any_ascending (eq_by_cmp cmp q) (filter p xs)
+      ∙ any_filter (eq_by_cmp cmp q) p xs
+      ∙ sym (any_ascending (λ x. p x && eq_by_cmp cmp q x) xs)
+      ∙ sym (any_filter (eq_by_cmp cmp q) p (ascending cmp xs))) exact

@@ -3,6 +3,7 @@ pub mod AscendingLemmas
 pub mod RowLemmas
 pub mod SortedLemmas
 pub mod EventLemmas
+pub mod RunLemmas
 pub mod VariableLemmas
 pub mod TimeLemmas
 pub mod MatchingLemmas

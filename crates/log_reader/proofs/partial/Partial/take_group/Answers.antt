@@ -1,5 +1,6 @@
 use Rattle.std.proofs.Common.{◌≡◌, ◌+◌, ◌<◌, [], sym, subst, ◌∙◌, rules, refl}
 use Rattle.std.specs.BTreeSet.{insert_key}
+use Rattle.mfotl_model.specs.Ascending.{ascending}
 use Rattle.mfotl_model.specs.Events.{event_cmp}
 use Rattle.log_reader.specs.declared.stage.Stage.TheVariants.{AfterClose}
 use Rattle.log_reader.specs.Cursors.{IsCounted}
@@ -12,13 +13,14 @@ pub returns : goal.returns
 returns c =
     let none : c.self.inside.args ≡ [] = sym c.values.ensures
     ∙ none_left c.values.result.now c.if-not-is_empty.ensures in
-    let inserted : c.insert.new.self ≡ insert_key event_cmp c.self.inside.events
+    let inserted : ascending event_cmp c.push_event.new.events.items
+    ≡ insert_key event_cmp (ascending event_cmp c.self.inside.events.items)
     (record { pred = c.self.inside.pred; args = c.in-Some.args }) = search rules in
     let after : Partial = record {
       stage = AfterClose;
       points = c.self.inside.points;
       time = c.self.inside.time;
-      events = c.insert.new.self;
+      events = ascending event_cmp c.push_event.new.events.items;
       groups = c.self.inside.groups + 1;
       pred = c.self.inside.pred;
       sorts = c.self.inside.sorts.now;
