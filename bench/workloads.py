@@ -1,4 +1,5 @@
-"""The policies and logs by which the monitor is measured: fifteen shapes that stress it in different places.
+"""The policies and logs by which the monitor is measured: fifteen shapes that stress it in different places, and three
+with a window that isn't written last in its conjunction, which are measured where they are asked for.
 
 `write(name, events, folder)` writes a signature, a policy and a log of about so many events. The same name and
 number give the same bytes.
@@ -21,6 +22,7 @@ class Workload:
     shape: str
     points: Callable[[random.Random, int], Iterator[Point]]
     variable: str = "x"  # the one whose values a strategy would part by hash
+    only_asked: bool = False  # measured only where it is asked for by its name
 
 
 def event(predicate, *values):
@@ -207,6 +209,12 @@ def approvals_with_approvers(draw, events):
                     else event("publish", draw.randrange(5000)) for _ in range(size)]
 
 
+def approvals_with_drafts(draw, events):
+    kinds = ["approve"] * 5 + ["publish"] * 4 + ["draft"]
+    for size, now in zip(batches(events, 10), clock(draw, 3)):
+        yield now, [event(draw.choice(kinds), draw.randrange(5000)) for _ in range(size)]
+
+
 def bursts(draw, events):
     now = 0
     kinds = ["request"] * 10 + ["grant"] * 9 + ["drop"]
@@ -236,6 +244,7 @@ def sessions(draw, events):
 
 APPROVED = "publish(x) IMPLIES ONCE[0,7] approve(x)"
 REPORTS = "publish(int) approve(int)"
+DRAFTS = "publish(int) approve(int) draft(int)"
 
 WORKLOADS = {
     "approvals": Workload(REPORTS, APPROVED, "one event a time-point", approvals_one_by_one),
@@ -272,7 +281,15 @@ WORKLOADS = {
     "sessions": Workload("open(session:string,user:string) use(session:string) close(session:string)",
                          "use(s) IMPLIES (NOT close(s)) SINCE[0,500] (EXISTS u. open(s,u))",
                          "texts of 36 bytes", sessions, "s"),
+    "approved-or-draft": Workload(DRAFTS, "publish(x) IMPLIES (draft(x) OR ONCE[0,700] approve(x))",
+                                  "a window that is denied with an atom", approvals_with_drafts, only_asked=True),
+    "unapproved-draft": Workload(DRAFTS, "NOT (publish(x) AND NOT ONCE[0,700] approve(x) AND draft(x))",
+                                 "a window between two atoms", approvals_with_drafts, only_asked=True),
+    "approved-first": Workload(REPORTS, "ONCE[0,700] approve(x) OR NOT publish(x)",
+                               "a window before its atom", approvals_one_by_one, only_asked=True),
 }
+
+MEASURED = [name for name, workload in WORKLOADS.items() if not workload.only_asked]
 
 
 def write(name, events, folder):

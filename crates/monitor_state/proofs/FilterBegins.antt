@@ -18,7 +18,7 @@ use Rattle.monitor_state.proofs.BeginLemmas.{adds_one, none_reached, since_begin
 use Rattle.monitor_state.proofs.GuardLemmas.{and_left, and_own, not_under}
 use Rattle.monitor_state.proofs.WholeLemmas.{asker_guarded, part_whole}
 use Rattle.monitor_state.proofs.MonitorSteps.{last_off}
-use Rattle.monitor_state.proofs.PosedBegins.{among_both}
+use Rattle.monitor_state.proofs.NarrowedBegins.{among_both}
 use Rattle.monitor_state.proofs.UntilBegins.{until_begins_at, until_state_is}
 use Rattle.monitor_state.specs.Beginnings.{Accepted, Adds, WindowBegun}
 use Rattle.monitor_state.specs.FilterNode.{GivenAs}

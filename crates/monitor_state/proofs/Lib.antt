@@ -27,8 +27,11 @@ pub mod LawProofs
 pub mod WindowSteps
 pub mod FilterSteps
 pub mod WholeLemmas
+pub mod NarrowedLemmas
+pub mod NarrowedBegins
+pub mod ArrangedLemmas
+pub mod ArrangedBegins
 pub mod PosedLemmas
-pub mod PosedBegins
 pub mod PosedSteps
 pub mod FilterBegins
 pub mod LookupLemmas

@@ -8,8 +8,7 @@ use Rattle.mfotl_model.specs.Settled.{settled}
 use Rattle.mfotl_model.specs.Tables.{TableOf}
 use Rattle.mfotl_model.specs.declared.event.TimePoint.{TimePoint}
 use Rattle.monitorable.specs.CoreForms.{CoreForm, meaning}
-use Rattle.monitor_state.proofs.PosedBegins.{same_posed, sound_posed}
-use Rattle.monitor_state.proofs.PosedLemmas.{fv_posed, sat_posed, settled_posed}
+use Rattle.monitor_state.proofs.PosedLemmas.{fv_posed, same_posed, sat_posed, settled_posed, sound_posed}
 use Rattle.monitor_state.specs.Nodes.{posed}
 use Rattle.monitor_state.specs.Steps.{News, Premises, longer}
 use Rattle.monitor_state.specs.Views.{reached}

@@ -2,8 +2,10 @@
 //! they settle.
 #![tactic(auto)]
 
+mod arranging;
 mod begin_filter;
 mod begin_until;
+mod boxes;
 mod compile;
 mod conjunction;
 mod constant;

@@ -3,37 +3,48 @@ ghost use Rattle.std.specs.Prelude.{◌≡◌, ◌&&◌, cond, IfOk, not};
 ghost use Rattle.std.specs.List.{list_any};
 ghost use Rattle.mfotl_model.specs.FreeVariables.{among, fv};
 ghost use Rattle.monitorable.specs.CoreForms.{meaning, node_form, And, Not};
-ghost use Rattle.monitor_state.specs.Nodes.{first_conjunct, is_atom, is_window, leads, led, posed};
+ghost use Rattle.monitor_state.specs.Nodes.{first_conjunct, is_atom, is_window, leads, led, narrowed, posed};
 
+use crate::arranging::arranged;
 use crate::begin_filter::{is_window, some_among};
+use crate::boxes::{beside, boxed};
 use mfotl_model::is_among;
 use monitorable::Node as Core;
 use std::alloc::{AllocError, Global};
 
-/// A core as it is evaluated: where a conjunction denies an EXISTS, its first conjunct may stand under that too.
+/// A core as it is evaluated.
 pub fn posed(alloc: Global, core: &Core) -> Result<Core, AllocError>
     ensures { IfOk result (λ own. node_form own ≡ posed (node_form core.now)) }
 {
+    let own = narrowed(alloc, core)?;
+    Ok(Box::into_inner(arranged(alloc, &own)?))
+}
+
+// A core whose denied EXISTS is asked for fewer rows: where a conjunction denies one, its first conjunct may stand
+// under that too.
+fn narrowed(alloc: Global, core: &Core) -> Result<Core, AllocError>
+    ensures { IfOk result (λ own. node_form own ≡ narrowed (node_form core.now)) }
+{
     match core {
-        Core::And(left, right) => posed_and(alloc, left, right),
+        Core::And(left, right) => narrowed_and(alloc, left, right),
         _ => core.copy(alloc),
     }
 }
 
-// A conjunction of these sides as it is evaluated.
-fn posed_and(alloc: Global, left: &Core, right: &Core) -> Result<Core, AllocError>
-    ensures { IfOk result (λ own. node_form own ≡ posed (And (node_form left.now) (node_form right.now))) }
+// A conjunction of these sides whose denied EXISTS is asked for fewer rows.
+fn narrowed_and(alloc: Global, left: &Core, right: &Core) -> Result<Core, AllocError>
+    ensures { IfOk result (λ own. node_form own ≡ narrowed (And (node_form left.now) (node_form right.now))) }
 {
     match right {
-        Core::Not(inner) => posed_denial(alloc, left, inner),
+        Core::Not(inner) => narrowed_denial(alloc, left, inner),
         _ => Ok(Core::And(boxed(alloc, left)?, boxed(alloc, right)?)),
     }
 }
 
-// A conjunction that denies `inner`, as it is evaluated.
-fn posed_denial(alloc: Global, left: &Core, inner: &Core) -> Result<Core, AllocError>
+// A conjunction that denies `inner`, which is asked for fewer rows where it is an EXISTS.
+fn narrowed_denial(alloc: Global, left: &Core, inner: &Core) -> Result<Core, AllocError>
     ensures { IfOk result (λ own.
-        node_form own ≡ posed (And (node_form left.now) (Not (node_form inner.now)))) }
+        node_form own ≡ narrowed (And (node_form left.now) (Not (node_form inner.now)))) }
 {
     match inner {
         Core::Exists(bound, body) => {
@@ -112,20 +123,4 @@ fn led(alloc: Global, first: &Core, body: &Core) -> Result<Box<Core>, AllocError
             beside(alloc, first, body)
         }
     }
-}
-
-// The conjunction of a core and a copy of another one.
-#[inline(never)]
-fn beside(alloc: Global, left: Box<Core>, right: &Core) -> Result<Box<Core>, AllocError>
-    ensures { IfOk result (λ own. node_form own.value ≡ And (node_form left.value) (node_form right.now)) }
-{
-    let right = boxed(alloc, right)?;
-    Ok(Box::new(alloc, Core::And(left, right))?)
-}
-
-#[inline(never)]
-fn boxed(alloc: Global, core: &Core) -> Result<Box<Core>, AllocError>
-    ensures { IfOk result (λ own. node_form own.value ≡ node_form core.now) }
-{
-    Ok(Box::new(alloc, core.copy(alloc)?)?)
 }

@@ -1,4 +1,4 @@
--- What the fragment gives a core it gives the core as it is evaluated.
+-- What the fragment gives a core it gives the one whose denied EXISTS is asked for fewer rows.
 use Rattle.std.proofs.Common.{subst, ◌≡◌, ℕ, true, false, not, None, ◌&&◌, ◌||◌, nat_eq, List, [], ◌∷◌, ◌++◌}
 use Rattle.std.proofs.Common.{refl, sym, ap, ◌∙◌, inl, inr}
 use Rattle.std.proofs.lemmas.Bool.{and_from, and_parts, cases_Bool, cond-false, cond-true, eqb-true, or_cases}
@@ -22,10 +22,10 @@ use Rattle.monitorable.specs.Fragment.{named_variable, uses, with_name}
 use Rattle.monitorable.specs.Soundness.{IsWellFormedIn}
 use Rattle.monitorable.specs.declared.fault.FragmentFault.TheVariants.{UnusedBound, Unguarded}
 use Rattle.monitorable.specs.declared.role.Role.TheVariants as role
-use Rattle.monitor_state.proofs.PosedLemmas.{among_led}
+use Rattle.monitor_state.proofs.NarrowedLemmas.{among_led}
 use Rattle.monitor_state.proofs.WholeLemmas.{guarded, inside_all}
 use Rattle.monitor_state.specs.Beginnings.{Accepted}
-use Rattle.monitor_state.specs.Nodes.{first_conjunct, is_atom, is_window, leads, led, posed, shares_window}
+use Rattle.monitor_state.specs.Nodes.{first_conjunct, is_atom, is_window, leads, led, narrowed, shares_window}
 use Rattle.monitor_state.specs.Steps.{SameNear}
 
 -- ---- a conjunction with one more conjunct before the others
@@ -115,7 +115,7 @@ led_uses a x g m =
       | inr none ↦ absurd (let clash : false ≡ true = none in cc)
     ])))
 
-within_both : (b : Value) (xs ys : List Value) → in_domain (xs ++ ys) b ≡ (in_domain xs b || in_domain ys b)
+pub within_both : (b : Value) (xs ys : List Value) → in_domain (xs ++ ys) b ≡ (in_domain xs b || in_domain ys b)
 within_both b xs ys = list_any-append (eq_by_cmp value_cmp b) xs ys
 
 constants_led : (a g : CoreForm) (b : Value) → in_domain (constants (meaning (led a g))) b ≡ true
@@ -193,9 +193,9 @@ leads_parts a x g on =
 
 -- ---- the core
 
-pub same_posed : (view : View) (f : CoreForm) (given db : List Event) → SameNear view f given db
-    → SameNear view (posed f) given db
-same_posed view (And f (Not (Exists x g))) given db same =
+pub same_narrowed : (view : View) (f : CoreForm) (given db : List Event) → SameNear view f given db
+    → SameNear view (narrowed f) given db
+same_narrowed view (And f (Not (Exists x g))) given db same =
     elim (cases_Bool (leads (first_conjunct f) x.number g)) [
       | inl on ↦
           subst (λ h. SameNear view (And f (Not (Exists x h))) given db)
@@ -205,11 +205,11 @@ same_posed view (And f (Not (Exists x g))) given db same =
           subst (λ h. SameNear view (And f (Not (Exists x h))) given db)
           (sym (cond-false (leads (first_conjunct f) x.number g) (led (first_conjunct f) g) g off)) same
     ]
-same_posed view f given db same = same
+same_narrowed view f given db same = same
 
-pub sound_posed : (f : CoreForm) → IsWellFormedIn f f → IsWellFormedIn f (posed f)
+pub sound_narrowed : (f : CoreForm) → IsWellFormedIn f f → IsWellFormedIn f (narrowed f)
 unfolding constants fault_in
-sound_posed (And f (Not (Exists x g))) sound =
+sound_narrowed (And f (Not (Exists x g))) sound =
     let whole : CoreForm = And f (Not (Exists x g)) in
     elim (cases_Bool (leads (first_conjunct f) x.number g)) [
       | inl on ↦
@@ -231,7 +231,7 @@ sound_posed (And f (Not (Exists x g))) sound =
           subst (λ h. IsWellFormedIn whole (And f (Not (Exists x h))))
           (sym (cond-false (leads (first_conjunct f) x.number g) (led (first_conjunct f) g) g off)) sound
     ]
-sound_posed f sound = sound
+sound_narrowed f sound = sound
 
 first_bound : (f : CoreForm) (y : ℕ) → is_atom (first_conjunct f) ≡ true
     → among y (fv (meaning (first_conjunct f))) ≡ true → among y (bound_by f) ≡ true
@@ -307,8 +307,8 @@ asked_accepted f x g on a =
           (asked_guarded names f x g asks.0 rest.1)),
     )
 
-pub posed_accepted : (f : CoreForm) → Accepted role.Whole f → Accepted role.Whole (posed f)
-posed_accepted (And f (Not (Exists x g))) a =
+pub narrowed_accepted : (f : CoreForm) → Accepted role.Whole f → Accepted role.Whole (narrowed f)
+narrowed_accepted (And f (Not (Exists x g))) a =
     elim (cases_Bool (leads (first_conjunct f) x.number g)) [
       | inl on ↦
           subst (λ h. Accepted role.Whole (And f (Not (Exists x h))))
@@ -318,4 +318,4 @@ posed_accepted (And f (Not (Exists x g))) a =
           subst (λ h. Accepted role.Whole (And f (Not (Exists x h))))
           (sym (cond-false (leads (first_conjunct f) x.number g) (led (first_conjunct f) g) g off)) a
     ]
-posed_accepted f a = a
+narrowed_accepted f a = a

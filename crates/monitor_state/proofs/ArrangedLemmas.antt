@@ -1,0 +1,143 @@
+-- An arranged core means what the core means.
+use Rattle.std.proofs.Common.{◌≡◌, ℕ, Bool, true, false, not, ◌&&◌, ◌||◌, cond, nat_eq, List, length}
+use Rattle.std.proofs.Common.{refl, sym, ap, ap₂, ◌∙◌, inl, inr}
+use Rattle.std.proofs.Math.Bool.{and_assoc, and_comm}
+use Rattle.std.proofs.lemmas.Bool.{and_parts, cases_Bool, cond-false, cond-true}
+use Rattle.std.proofs.lemmas.Slice.Eq.{bytes_eq-Decides}
+use Rattle.std.specs.Cmp.Lexicographic.{pointwise}
+use Rattle.std.specs.List.{list_any}
+use Rattle.mfotl_model.proofs.LogicLemmas.{funext}
+use Rattle.mfotl_model.proofs.VariableLemmas.{joined_assoc}
+use Rattle.mfotl_model.specs.FreeVariables.{fv, joined, without}
+use Rattle.mfotl_model.specs.Log.{times}
+use Rattle.mfotl_model.specs.Satisfaction.{Valuation, next, previous, sat, since, truths, until, with_value}
+use Rattle.mfotl_model.specs.Settled.{next_settled, previous_settled, settled, since_settled, until_settled}
+use Rattle.mfotl_model.specs.declared.event.TimePoint.{TimePoint}
+use Rattle.mfotl_model.specs.declared.value.Value.{Value}
+use Rattle.monitorable.specs.CoreForms.{CoreForm, meaning, And, Exists, Next, Not, Or, Previous, Since, Until}
+use Rattle.monitor_state.specs.Nodes.{arranged, before_windows, connects, goes_before, last_conjunct, windowed}
+use Rattle.monitor_state.specs.Nodes.{with_conjunct, with_conjuncts, without_windows}
+
+-- ---- a test that a conjunction meets by both sides, whatever their order
+
+module _ (op : Bool → Bool → Bool) (assoc : (a b c : Bool) → op (op a b) c ≡ op a (op b c))
+    (comm : (a b : Bool) → op a b ≡ op b a) (has : CoreForm → Bool)
+    (both : (f g : CoreForm) → has (And f g) ≡ op (has f) (has g)) where
+  swapped : (a b c : Bool) → op (op a c) b ≡ op (op a b) c
+  swapped a b c = assoc a c b ∙ ap (op a) (comm c b) ∙ sym (assoc a b c)
+
+  has_before : (f h : CoreForm) → has (before_windows f h) ≡ op (has f) (has h)
+  has_before (And f g) h = by (has_before f h) (windowed g)
+    where
+      by : has (before_windows f h) ≡ op (has f) (has h) → (b : Bool)
+          → has (cond b (And (before_windows f h) g) (And (And f g) h)) ≡ op (has (And f g)) (has h)
+      by moved true =
+          both (before_windows f h) g ∙ ap (λ b. op b (has g)) moved
+          ∙ swapped (has f) (has g) (has h)
+          ∙ ap (λ b. op b (has h)) (sym (both f g))
+      by moved false = both (And f g) h
+  has_before f h = by (windowed f)
+    where
+      by : (b : Bool) → has (cond b (And h f) (And f h)) ≡ op (has f) (has h)
+      by true = both h f ∙ comm (has h) (has f)
+      by false = both f h
+
+  has_conjunct : (f h : CoreForm) → has (with_conjunct f h) ≡ op (has f) (has h)
+  has_conjunct f h = by (goes_before f h)
+    where
+      by : (b : Bool) → has (cond b (before_windows f h) (And f h)) ≡ op (has f) (has h)
+      by true = has_before f h
+      by false = both f h
+
+  pub has_conjuncts : (f g : CoreForm) → has (with_conjuncts f g) ≡ op (has f) (has g)
+  has_conjuncts f (And g h) =
+      has_conjuncts (with_conjuncts f g) h ∙ ap (λ b. op b (has h)) (has_conjuncts f g)
+      ∙ assoc (has f) (has g) (has h)
+      ∙ ap (op (has f)) (sym (both g h))
+  has_conjuncts f g = has_conjunct f g
+
+-- ---- the columns keep their order
+
+same_order : (f h : CoreForm) → goes_before f h ≡ true
+    → fv (meaning (before_windows f h)) ≡ fv (meaning (And f h))
+same_order f h on =
+    let order = pointwise nat_eq (fv (meaning (before_windows f h))) (fv (meaning (And f h))) in
+    let none = and_parts (windowed (last_conjunct f))
+    (not (windowed h) && (connects (without_windows f) h && order)) on in
+    let near = and_parts (not (windowed h)) (connects (without_windows f) h && order) none.1 in
+    (bytes_eq-Decides (fv (meaning (before_windows f h))) (fv (meaning (And f h)))).0
+    (and_parts (connects (without_windows f) h) order near.1).1
+
+fv_conjunct : (f h : CoreForm) → fv (meaning (with_conjunct f h)) ≡ fv (meaning (And f h))
+fv_conjunct f h =
+    elim (cases_Bool (goes_before f h)) [
+      | inl on ↦
+          ap (λ k. fv (meaning k)) (cond-true (goes_before f h) (before_windows f h) (And f h) on)
+          ∙ same_order f h on
+      | inr off ↦ ap (λ k. fv (meaning k)) (cond-false (goes_before f h) (before_windows f h) (And f h) off)
+    ]
+
+fv_conjuncts : (f g : CoreForm) → fv (meaning (with_conjuncts f g)) ≡ joined (fv (meaning f)) (fv (meaning g))
+unfolding fv
+fv_conjuncts f (And g h) =
+    fv_conjuncts (with_conjuncts f g) h ∙ ap (λ xs. joined xs (fv (meaning h))) (fv_conjuncts f g)
+    ∙ joined_assoc (fv (meaning f)) (fv (meaning g)) (fv (meaning h))
+fv_conjuncts f g = fv_conjunct f g
+
+-- ---- the core
+
+pub fv_arranged : (f : CoreForm) → fv (meaning (arranged f)) ≡ fv (meaning f)
+unfolding fv
+fv_arranged (Not f) = fv_arranged f
+fv_arranged (And f g) = fv_conjuncts (arranged f) (arranged g) ∙ ap₂ joined (fv_arranged f) (fv_arranged g)
+fv_arranged (Or f g) = ap₂ joined (fv_arranged f) (fv_arranged g)
+fv_arranged (Exists x f) = ap (without x.number) (fv_arranged f)
+fv_arranged (Previous i f) = fv_arranged f
+fv_arranged (Next i f) = fv_arranged f
+fv_arranged (Since i f g) = ap₂ joined (fv_arranged f) (fv_arranged g)
+fv_arranged (Until i f g) = ap₂ joined (fv_arranged f) (fv_arranged g)
+fv_arranged f = refl
+
+pub sat_arranged : (log : List TimePoint) (dom : List Value) (v : Valuation) (i : ℕ) (f : CoreForm)
+    → sat log dom v i (meaning (arranged f)) ≡ sat log dom v i (meaning f)
+unfolding sat
+sat_arranged log dom v i (Not f) = ap not (sat_arranged log dom v i f)
+sat_arranged log dom v i (And f g) =
+    has_conjuncts (λ a b. a && b) and_assoc and_comm (λ k. sat log dom v i (meaning k)) (λ h k. refl) (arranged f)
+    (arranged g)
+    ∙ ap₂ (λ a b. a && b) (sat_arranged log dom v i f) (sat_arranged log dom v i g)
+sat_arranged log dom v i (Or f g) = ap₂ (λ a b. a || b) (sat_arranged log dom v i f) (sat_arranged log dom v i g)
+sat_arranged log dom v i (Exists x f) =
+    ap (λ q. list_any q dom) (funext _ _ (λ a. sat_arranged log dom (with_value v x.number a) i f))
+sat_arranged log dom v i (Previous interval f) =
+    ap (λ q. previous interval (times log) (truths (length log) q) i) (funext _ _ (λ j. sat_arranged log dom v j f))
+sat_arranged log dom v i (Next interval f) =
+    ap (λ q. next interval (times log) (truths (length log) q) i) (funext _ _ (λ j. sat_arranged log dom v j f))
+sat_arranged log dom v i (Since interval f g) =
+    ap₂ (λ q r. since interval (times log) (truths (length log) q) (truths (length log) r) i)
+    (funext _ _ (λ j. sat_arranged log dom v j f)) (funext _ _ (λ j. sat_arranged log dom v j g))
+sat_arranged log dom v i (Until interval f g) =
+    ap₂ (λ q r. until interval (times log) (truths (length log) q) (truths (length log) r) i)
+    (funext _ _ (λ j. sat_arranged log dom v j f)) (funext _ _ (λ j. sat_arranged log dom v j g))
+sat_arranged log dom v i f = refl
+
+pub settled_arranged : (t : List ℕ) (f : CoreForm) (i : ℕ)
+    → settled t (meaning (arranged f)) i ≡ settled t (meaning f) i
+unfolding settled
+settled_arranged t (Not f) i = settled_arranged t f i
+settled_arranged t (And f g) i =
+    has_conjuncts (λ a b. a && b) and_assoc and_comm (λ k. settled t (meaning k) i) (λ h k. refl) (arranged f)
+    (arranged g)
+    ∙ ap₂ (λ a b. a && b) (settled_arranged t f i) (settled_arranged t g i)
+settled_arranged t (Or f g) i = ap₂ (λ a b. a && b) (settled_arranged t f i) (settled_arranged t g i)
+settled_arranged t (Exists x f) i = settled_arranged t f i
+settled_arranged t (Previous interval f) i =
+    ap (λ r. previous_settled t r i) (funext _ _ (settled_arranged t f))
+settled_arranged t (Next interval f) i = ap (λ r. next_settled t r i) (funext _ _ (settled_arranged t f))
+settled_arranged t (Since interval f g) i =
+    ap₂ (λ q r. since_settled (λ j. q j && r j) i) (funext _ _ (settled_arranged t f))
+    (funext _ _ (settled_arranged t g))
+settled_arranged t (Until interval f g) i =
+    ap₂ (λ q r. until_settled interval.hi t (λ j. q j && r j) i) (funext _ _ (settled_arranged t f))
+    (funext _ _ (settled_arranged t g))
+settled_arranged t f i = refl

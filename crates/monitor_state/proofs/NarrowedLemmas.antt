@@ -1,0 +1,247 @@
+-- A core whose denied EXISTS is asked for fewer rows means what the core means.
+use Rattle.std.proofs.Common.{◌≡◌, ℕ, Bool, true, false, not, ◌&&◌, ◌||◌, cond, nat_eq, List, [], ◌∷◌, ◌++◌}
+use Rattle.std.proofs.Common.{filter, refl, sym, ap, ap₂, ◌∙◌, inl, inr}
+use Rattle.std.proofs.lemmas.Bool.{and_parts, cases_Bool, cond-false, cond-true, eqb-true, not-true}
+use Rattle.std.proofs.lemmas.Bool.{or_left, or_right}
+use Rattle.std.proofs.lemmas.List.Elements.{filter-append}
+use Rattle.std.proofs.Math.Bool.{or_assoc, and_assoc}
+use Rattle.std.specs.List.{list_any}
+use Rattle.mfotl_model.proofs.LogicLemmas.{among_joined, funext, same_number}
+use Rattle.mfotl_model.proofs.VariableLemmas.{filter-filter}
+use Rattle.mfotl_model.specs.FreeVariables.{among, fv, without}
+use Rattle.mfotl_model.specs.Satisfaction.{Valuation, sat, with_value}
+use Rattle.mfotl_model.specs.Settled.{settled}
+use Rattle.mfotl_model.specs.declared.event.TimePoint.{TimePoint}
+use Rattle.mfotl_model.specs.declared.formula.Bound.{Bound}
+use Rattle.mfotl_model.specs.declared.value.Value.{Value}
+use Rattle.monitorable.proofs.Coincidence.{coincidence}
+use Rattle.monitorable.specs.CoreForms.{CoreForm, meaning, And, Exists, Not}
+use Rattle.monitor_state.specs.Nodes.{first_conjunct, is_atom, leads, led, narrowed, shares_window}
+
+-- ---- a conjunction with one more conjunct before the others
+
+pub among_led : (a g : CoreForm) (y : ℕ) → among y (fv (meaning (led a g)))
+    ≡ (among y (fv (meaning a)) || among y (fv (meaning g)))
+unfolding fv
+among_led a (And g h) y =
+    among_joined y (fv (meaning (led a g))) (fv (meaning h))
+    ∙ ap (λ b. b || among y (fv (meaning h))) (among_led a g y)
+    ∙ or_assoc (among y (fv (meaning a))) (among y (fv (meaning g))) (among y (fv (meaning h)))
+    ∙ ap (λ b. among y (fv (meaning a)) || b) (sym (among_joined y (fv (meaning g)) (fv (meaning h))))
+among_led a g y = among_joined y (fv (meaning a)) (fv (meaning g))
+
+pub sat_led : (log : List TimePoint) (dom : List Value) (v : Valuation) (i : ℕ) (a g : CoreForm)
+    → sat log dom v i (meaning (led a g)) ≡ (sat log dom v i (meaning a) && sat log dom v i (meaning g))
+unfolding sat
+sat_led log dom v i a (And g h) =
+    ap (λ b. b && sat log dom v i (meaning h)) (sat_led log dom v i a g)
+    ∙ and_assoc (sat log dom v i (meaning a)) (sat log dom v i (meaning g)) (sat log dom v i (meaning h))
+sat_led log dom v i a g = refl
+
+pub settled_led : (t : List ℕ) (i : ℕ) (a g : CoreForm)
+    → settled t (meaning (led a g)) i ≡ (settled t (meaning a) i && settled t (meaning g) i)
+unfolding settled
+settled_led t i a (And g h) =
+    ap (λ b. b && settled t (meaning h) i) (settled_led t i a g)
+    ∙ and_assoc (settled t (meaning a) i) (settled t (meaning g) i) (settled t (meaning h) i)
+settled_led t i a g = refl
+
+-- ---- what holds of a conjunction holds of its first conjunct
+
+first_holds : (log : List TimePoint) (dom : List Value) (v : Valuation) (i : ℕ) (f : CoreForm)
+    → sat log dom v i (meaning f) ≡ true → sat log dom v i (meaning (first_conjunct f)) ≡ true
+unfolding sat
+first_holds log dom v i (And f g) h =
+    first_holds log dom v i f (and_parts (sat log dom v i (meaning f)) (sat log dom v i (meaning g)) h).0
+first_holds log dom v i f h = h
+
+first_settled : (t : List ℕ) (i : ℕ) (f : CoreForm) → settled t (meaning f) i ≡ true
+    → settled t (meaning (first_conjunct f)) i ≡ true
+unfolding settled
+first_settled t i (And f g) h =
+    first_settled t i f (and_parts (settled t (meaning f) i) (settled t (meaning g) i) h).0
+first_settled t i f h = h
+
+pub first_free : (f : CoreForm) (y : ℕ) → among y (fv (meaning (first_conjunct f))) ≡ true
+    → among y (fv (meaning f)) ≡ true
+unfolding fv
+first_free (And f g) y m =
+    among_joined y (fv (meaning f)) (fv (meaning g))
+    ∙ or_left (among y (fv (meaning f))) (among y (fv (meaning g))) (first_free f y m)
+first_free f y m = m
+
+-- ---- filters of variables
+
+filter_pair : (p r s : ℕ → Bool) (xs : List ℕ) → ((y : ℕ) → p y ≡ true → r y ≡ s y)
+    → filter p (filter r xs) ≡ filter p (filter s xs)
+filter_pair p r s [] same = refl
+filter_pair p r s (y ∷ ys) same = by (p y) refl (r y) (s y) (same y) (filter_pair p r s ys same)
+  where
+    by : (b : Bool) → p y ≡ b → (c d : Bool) → (p y ≡ true → c ≡ d)
+        → filter p (filter r ys) ≡ filter p (filter s ys)
+        → filter p (cond c (y ∷ filter r ys) (filter r ys)) ≡ filter p (cond d (y ∷ filter s ys) (filter s ys))
+    by true is true true alike rest = ap (λ zs. cond (p y) (y ∷ zs) zs) rest
+    by true is false false alike rest = rest
+    by true is true false alike rest = absurd (let clash : true ≡ false = alike is in cc)
+    by true is false true alike rest = absurd (let clash : false ≡ true = alike is in cc)
+    by false is true true alike rest = ap (λ zs. cond (p y) (y ∷ zs) zs) rest
+    by false is false false alike rest = rest
+    by false is true false alike rest =
+        ap (λ b. cond b (y ∷ filter p (filter r ys)) (filter p (filter r ys))) is ∙ rest
+    by false is false true alike rest =
+        rest ∙ sym (ap (λ b. cond b (y ∷ filter p (filter s ys)) (filter p (filter s ys))) is)
+
+all_stay : (xs : List ℕ) → filter (λ y. true) xs ≡ xs
+all_stay [] = refl
+all_stay (x ∷ xs) = ap (λ ys. x ∷ ys) (all_stay xs)
+
+none_stay : (p : ℕ → Bool) (xs : List ℕ) → ((y : ℕ) → among y xs ≡ true → p y ≡ false) → filter p xs ≡ []
+none_stay p [] none = refl
+none_stay p (x ∷ xs) none =
+    ap (λ b. cond b (x ∷ filter p xs) (filter p xs)) (none x (or_left (nat_eq x x) (among x xs) (same_number x)))
+    ∙ none_stay p xs (λ y m. none y (or_right (nat_eq y x) (among y xs) m))
+
+module _ (p : ℕ → Bool) (a : CoreForm) (none : (y : ℕ) → p y ≡ true → among y (fv (meaning a)) ≡ false) where
+  outside : (y : ℕ) → among y (fv (meaning a)) ≡ true → p y ≡ false
+  outside y m =
+      elim (cases_Bool (p y)) [
+        | inl holds ↦ absurd (let clash : true ≡ false = sym m ∙ none y holds in cc)
+        | inr fails ↦ fails
+      ]
+
+  led_filtered : (g : CoreForm) → filter p (fv (meaning (led a g))) ≡ filter p (fv (meaning g))
+  unfolding fv
+  led_filtered (And g h) =
+      filter-append p (fv (meaning (led a g))) (filter (λ y. not (among y (fv (meaning (led a g))))) (fv (meaning h)))
+      ∙ ap₂ (λ xs ys. xs ++ ys) (led_filtered g)
+      (filter_pair p (λ y. not (among y (fv (meaning (led a g))))) (λ y. not (among y (fv (meaning g))))
+      (fv (meaning h))
+      (λ y passes. ap not (among_led a g y ∙ ap (λ b. b || among y (fv (meaning g))) (none y passes))))
+      ∙ sym (filter-append p (fv (meaning g)) (filter (λ y. not (among y (fv (meaning g)))) (fv (meaning h))))
+  led_filtered g =
+      filter-append p (fv (meaning a)) (filter (λ y. not (among y (fv (meaning a)))) (fv (meaning g)))
+      ∙ ap₂ (λ xs ys. xs ++ ys) (none_stay p (fv (meaning a)) outside)
+      (filter_pair p (λ y. not (among y (fv (meaning a)))) (λ y. true) (fv (meaning g))
+      (λ y passes. ap not (none y passes))
+      ∙ ap (filter p) (all_stay (fv (meaning g))))
+
+-- ---- what is denied, with the first conjunct before it
+
+module _ (f : CoreForm) (x : Bound) (g : CoreForm) (on : leads (first_conjunct f) x.number g ≡ true) where
+  free : among x.number (fv (meaning (first_conjunct f))) ≡ false
+  free =
+      not-true (among x.number (fv (meaning (first_conjunct f))))
+      (and_parts (not (among x.number (fv (meaning (first_conjunct f))))) (shares_window (first_conjunct f) g)
+      (and_parts (is_atom (first_conjunct f))
+      (not (among x.number (fv (meaning (first_conjunct f)))) && shares_window (first_conjunct f) g) on).1).0
+
+  other : (v : Valuation) (a : Value) (y : ℕ) → among y (fv (meaning (first_conjunct f))) ≡ true
+      → with_value v x.number a y ≡ v y
+  other v a y m =
+      elim (cases_Bool (nat_eq y x.number)) [
+        | inl same ↦
+            absurd (let clash : true ≡ false =
+            sym m ∙ ap (λ z. among z (fv (meaning (first_conjunct f)))) (eqb-true y x.number same) ∙ free in cc)
+        | inr apart ↦ cond-false (nat_eq y x.number) a (v y) apart
+      ]
+
+  sat_asked : (log : List TimePoint) (dom : List Value) (v : Valuation) (i : ℕ)
+      → sat log dom v i (meaning (And f (Not (Exists x (led (first_conjunct f) g)))))
+      ≡ sat log dom v i (meaning (And f (Not (Exists x g))))
+  unfolding sat
+  sat_asked log dom v i = by (sat log dom v i (meaning f)) refl
+    where
+      by : (b : Bool) → sat log dom v i (meaning f) ≡ b
+          → (b
+          && not (list_any (λ a. sat log dom (with_value v x.number a) i (meaning (led (first_conjunct f) g))) dom))
+          ≡ (b && not (list_any (λ a. sat log dom (with_value v x.number a) i (meaning g)) dom))
+      by false is = refl
+      by true is =
+          ap (λ p. not (list_any p dom))
+          (funext (λ a. sat log dom (with_value v x.number a) i (meaning (led (first_conjunct f) g)))
+          (λ a. sat log dom (with_value v x.number a) i (meaning g))
+          (λ a.
+          sat_led log dom (with_value v x.number a) i (first_conjunct f) g
+          ∙ ap (λ b. b && sat log dom (with_value v x.number a) i (meaning g))
+          (coincidence log dom (meaning (first_conjunct f)) (with_value v x.number a) v i (other v a)
+          ∙ first_holds log dom v i f is)))
+
+  settled_asked : (t : List ℕ) (i : ℕ)
+      → settled t (meaning (And f (Not (Exists x (led (first_conjunct f) g))))) i
+      ≡ settled t (meaning (And f (Not (Exists x g)))) i
+  unfolding settled
+  settled_asked t i = by (settled t (meaning f) i) refl
+    where
+      by : (b : Bool) → settled t (meaning f) i ≡ b
+          → (b && settled t (meaning (led (first_conjunct f) g)) i) ≡ (b && settled t (meaning g) i)
+      by false is = refl
+      by true is =
+          settled_led t i (first_conjunct f) g ∙ ap (λ b. b && settled t (meaning g) i) (first_settled t i f is)
+
+  -- the variables that what is denied adds
+  added : (xs : List ℕ) → filter (λ y. not (among y (fv (meaning f)))) (without x.number xs)
+      ≡ filter (λ y. not (nat_eq y x.number) && not (among y (fv (meaning f)))) xs
+  added xs =
+      filter-filter (λ y. not (among y (fv (meaning f)))) (λ y. not (nat_eq y x.number))
+      (λ y. not (nat_eq y x.number) && not (among y (fv (meaning f)))) (λ y. refl) xs
+
+  fv_asked : fv (meaning (And f (Not (Exists x (led (first_conjunct f) g)))))
+      ≡ fv (meaning (And f (Not (Exists x g))))
+  unfolding fv
+  fv_asked =
+      ap (λ ys. fv (meaning f) ++ ys)
+      (added (fv (meaning (led (first_conjunct f) g)))
+      ∙ led_filtered (λ y. not (nat_eq y x.number) && not (among y (fv (meaning f)))) (first_conjunct f)
+      (λ y passes.
+      elim (cases_Bool (among y (fv (meaning (first_conjunct f))))) [
+        | inl m ↦
+            absurd (let clash : true ≡ false =
+            sym (first_free f y m)
+            ∙ not-true (among y (fv (meaning f)))
+            (and_parts (not (nat_eq y x.number)) (not (among y (fv (meaning f)))) passes).1 in cc)
+        | inr fails ↦ fails
+      ]) g
+      ∙ sym (added (fv (meaning g))))
+
+-- ---- the core
+
+pub sat_narrowed : (log : List TimePoint) (dom : List Value) (v : Valuation) (i : ℕ) (f : CoreForm)
+    → sat log dom v i (meaning (narrowed f)) ≡ sat log dom v i (meaning f)
+sat_narrowed log dom v i (And f (Not (Exists x g))) =
+    elim (cases_Bool (leads (first_conjunct f) x.number g)) [
+      | inl on ↦
+          ap (λ h. sat log dom v i (meaning (And f (Not (Exists x h)))))
+          (cond-true (leads (first_conjunct f) x.number g) (led (first_conjunct f) g) g on)
+          ∙ sat_asked f x g on log dom v i
+      | inr off ↦
+          ap (λ h. sat log dom v i (meaning (And f (Not (Exists x h)))))
+          (cond-false (leads (first_conjunct f) x.number g) (led (first_conjunct f) g) g off)
+    ]
+sat_narrowed log dom v i f = refl
+
+pub settled_narrowed : (t : List ℕ) (i : ℕ) (f : CoreForm)
+    → settled t (meaning (narrowed f)) i ≡ settled t (meaning f) i
+settled_narrowed t i (And f (Not (Exists x g))) =
+    elim (cases_Bool (leads (first_conjunct f) x.number g)) [
+      | inl on ↦
+          ap (λ h. settled t (meaning (And f (Not (Exists x h)))) i)
+          (cond-true (leads (first_conjunct f) x.number g) (led (first_conjunct f) g) g on)
+          ∙ settled_asked f x g on t i
+      | inr off ↦
+          ap (λ h. settled t (meaning (And f (Not (Exists x h)))) i)
+          (cond-false (leads (first_conjunct f) x.number g) (led (first_conjunct f) g) g off)
+    ]
+settled_narrowed t i f = refl
+
+pub fv_narrowed : (f : CoreForm) → fv (meaning (narrowed f)) ≡ fv (meaning f)
+fv_narrowed (And f (Not (Exists x g))) =
+    elim (cases_Bool (leads (first_conjunct f) x.number g)) [
+      | inl on ↦
+          ap (λ h. fv (meaning (And f (Not (Exists x h)))))
+          (cond-true (leads (first_conjunct f) x.number g) (led (first_conjunct f) g) g on)
+          ∙ fv_asked f x g on
+      | inr off ↦
+          ap (λ h. fv (meaning (And f (Not (Exists x h)))))
+          (cond-false (leads (first_conjunct f) x.number g) (led (first_conjunct f) g) g off)
+    ]
+fv_narrowed f = refl
