@@ -35,12 +35,6 @@ all_alike p [] (y ∷ ys) same = absurd same
 all_alike p (x ∷ xs) [] same = absurd same
 all_alike p (x ∷ xs) (y ∷ ys) same = λ i. p (same.0 i) && all_alike p xs ys same.2 i
 
-length_alike : (xs ys : List ChildOf) → Alike xs ys → length xs ≡ length ys
-length_alike [] [] same = refl
-length_alike [] (y ∷ ys) same = absurd same
-length_alike (x ∷ xs) [] same = absurd same
-length_alike (x ∷ xs) (y ∷ ys) same = ap suc (length_alike xs ys same.2)
-
 guarded_alike : (xs ys : List ChildOf) (tests : List TestOf) → Alike xs ys → is_guarded xs tests ≡ is_guarded ys tests
 guarded_alike xs ys tests same =
     ap (λ bound. all_children (λ columns. all_among columns bound) xs
@@ -52,7 +46,6 @@ pub join_alike : (columns : List ℕ) (tests : List TestOf) (p q : ℕ) (xs ys :
     → Alike xs ys → FewFrom q ys → IsJoin columns tests q ys
 join_alike columns tests p q xs ys is same few =
     record {
-      some = subst (λ n. 0 < n) (length_alike xs ys same) is.some;
       apart = is.apart;
       same = λ y. is.same y ∙ ap (among y) (bound_alike xs ys same);
       guarded = sym (guarded_alike xs ys tests same) ∙ is.guarded;
@@ -118,10 +111,10 @@ join_advances columns tests p xs ys is due e =
     (few_advanced p xs due is.few))
 
 -- where a position is due, fewer than 2^63 were pulled
-pub few_pulled : (p : ℕ) (xs : List ChildOf) → 0 < length xs → list_all (λ c. nat_lt 0 (length c.tables)) xs ≡ true
+pub few_pulled : (p : ℕ) (xs : List ChildOf) → (xs ≡ [] → p < 2 ^ 63) → list_all (λ c. nat_lt 0 (length c.tables)) xs ≡ true
     → FewFrom p xs → p < 2 ^ 63
-few_pulled p [] some due few = absurd (omega arith)
-few_pulled p (x ∷ xs) some due few =
+few_pulled p [] childless due few = childless refl
+few_pulled p (x ∷ xs) childless due few =
     let parts = and_parts (nat_lt 0 (length x.tables)) (list_all (λ c. nat_lt 0 (length c.tables)) xs) due in
     below x.tables parts.0 few.0
   where

@@ -75,15 +75,14 @@ few_begun [] = tt
 few_begun (Child columns negated ∷ cs) = (omega arith, few_begun cs)
 few_begun (Test c wanted ∷ cs) = few_begun cs
 
-begun : (cs : List ConjunctOf) → 0 < length (children_of cs) → all_children all_apart (children_of cs) ≡ true
+begun : (cs : List ConjunctOf) → all_children all_apart (children_of cs) ≡ true
     → is_guarded (children_of cs) (tests_of cs) ≡ true
     → IsJoin (conjunct_columns cs) (tests_of cs) 0 (children_of cs)
-begun cs some apart guarded =
+begun cs apart guarded =
     let bound = bound_columns (children_of cs) in
     let parts = and_parts (all_children (λ columns. all_among columns bound) (children_of cs))
     (list_all (λ t. all_among (compared_variables t.comparison) bound) (tests_of cs)) guarded in
     record {
-      some = some;
       apart = conjunct_apart cs apart;
       same = λ y. both_ways (among y (conjunct_columns cs)) (among y bound) (inside y bound cs parts.0 parts.1)
           (whole y cs);
@@ -92,13 +91,13 @@ begun cs some apart guarded =
     }
 
 pub begun_as : (cs : List ConjunctOf) (columns : List ℕ) (tests : List TestOf) (children : List ChildOf)
-    → 0 < length (children_of cs) → all_children all_apart (children_of cs) ≡ true
+    → all_children all_apart (children_of cs) ≡ true
     → is_guarded (children_of cs) (tests_of cs) ≡ true → columns ≡ conjunct_columns cs → tests ≡ tests_of cs
     → children ≡ children_of cs → IsJoin columns tests 0 children
-begun_as cs columns tests children some apart guarded e f g =
+begun_as cs columns tests children apart guarded e f g =
     subst (λ x. IsJoin x tests 0 children) (sym e)
     (subst (λ x. IsJoin (conjunct_columns cs) x 0 children) (sym f)
-    (subst (λ x. IsJoin (conjunct_columns cs) (tests_of cs) 0 x) (sym g) (begun cs some apart guarded)))
+    (subst (λ x. IsJoin (conjunct_columns cs) (tests_of cs) 0 x) (sym g) (begun cs apart guarded)))
 
 -- after one more conjunct
 pub columns_more : (columns after all : List ℕ) (conjuncts : List Conjunct) (i : ℕ) (c : Conjunct)

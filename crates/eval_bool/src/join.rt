@@ -49,7 +49,6 @@ impl JoinState {
     /// The state before the first position. Each column of a negated child and each variable of a test
     /// has to be a column of a child that isn't negated.
     pub fn new(alloc: Global, conjuncts: Vec<Conjunct>) -> Result<Self, AllocError>
-        requires some { 0 < length (children_of (map conjunct_of conjuncts.items)) }
         requires apart { IsTrue (all_children all_apart (children_of (map conjunct_of conjuncts.items))) }
         requires guarded { IsTrue (is_guarded (children_of (map conjunct_of conjuncts.items))
             (tests_of (map conjunct_of conjuncts.items))) }
@@ -71,7 +70,6 @@ impl JoinState {
         conjuncts: Vec<Conjunct>,
         kept: JoinData,
     ) -> Result<Self, AllocError>
-        requires some { 0 < length (children_of (map conjunct_of conjuncts.items)) }
         requires apart { IsTrue (all_children all_apart (children_of (map conjunct_of conjuncts.items))) }
         requires guarded { IsTrue (is_guarded (children_of (map conjunct_of conjuncts.items))
             (tests_of (map conjunct_of conjuncts.items))) }
@@ -160,6 +158,7 @@ impl JoinState {
     // takes the first table of each child
     fn advance(&mut self, alloc: Global) -> Result<Heads, AllocError>
         requires due { IsTrue (join_due self.old) }
+        requires few { self.old.children ≡ [] → self.old.pulled < 2 ^ 63 }
         ensures advanced { OnOk result (self.new ≡ join_advanced self.old) }
         ensures heads { IfOk result (λ heads.
             AreHeads self.old heads.plain.items heads.negated.items) }
@@ -170,8 +169,10 @@ impl JoinState {
     }
 
     /// The table of the next position, `None` while it is not due: the rows whose parts pass every
-    /// conjunct, over the columns of all conjuncts, each at its first occurrence.
+    /// conjunct, over the columns of all conjuncts, each at its first occurrence. Without a child each call
+    /// gives a table.
     pub fn pull(&mut self, alloc: Global) -> Result<Option<Table>, AllocError>
+        requires few { self.old.children ≡ [] → self.old.pulled < 2 ^ 63 }
         ensures due { IfOk result (λ answer. is_some answer ≡ join_due self.old) }
         ensures state { IfOk result (λ answer.
             MatchOption answer (self.new ≡ self.old) (λ _. self.new ≡ join_advanced self.old)) }

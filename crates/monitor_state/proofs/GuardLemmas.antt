@@ -107,10 +107,9 @@ join_apart (ChildPart f n ∷ ps) =
     (fv_apart (meaning f)) (join_apart ps)
 join_apart (TestPart c w ∷ ps) = join_apart ps
 
-pub some_child : (ps : List PartForm) → list_any is_child ps ≡ true
-    → (0 < length (children_of (map conjunct_as ps))) × (0 < length (children ps))
+pub some_child : (ps : List PartForm) → list_any is_child ps ≡ true → 0 < length (children ps)
 some_child [] h = absurd (let e : true ≡ false = sym h in cc)
-some_child (ChildPart f n ∷ ps) h = (omega arith, omega arith)
+some_child (ChildPart f n ∷ ps) h = omega arith
 some_child (TestPart c w ∷ ps) h = some_child ps h
 
 -- what is accepted of a core is so of its parts

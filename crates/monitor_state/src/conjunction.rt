@@ -69,7 +69,6 @@ fn has_child(parts: &[Part]) -> bool
 
 // The state before the first position.
 fn join_state(alloc: Global, parts: &[Part]) -> Result<JoinState, AllocError>
-    requires some { IsTrue (list_any is_child (map part_form parts.now)) }
     requires guarded { IsTrue (is_guarded (children_of (map conjunct_as (map part_form parts.now)))
         (tests_of (map conjunct_as (map part_form parts.now)))) }
     ensures { IfOk result (λ state. state ≡ join_begun (map conjunct_as (map part_form parts.now))) }

@@ -20,8 +20,6 @@ join_state-requires c =
     ap (map part_form) c.as_slice-parts.ensures.value ∙ c.in_ok-parts.ensures in
     let guarded = c.requires.guarded refl in
     record {
-      some = any_map is_child part_form c.as_slice-parts.result.now ∙ sym c.has_child.ensures
-          ∙ c.if-has_child.true;
       guarded = ap (λ ps. is_guarded (children_of (map conjunct_as ps)) (tests_of (map conjunct_as ps))) forms
           ∙ join_guarded guarded.0 (node_form c.args.core.now) guarded.1;
     }
@@ -37,7 +35,7 @@ returns-then-has_child c =
     (c.requires.whole refl)
     (record {
       begun = c.in_ok-state.ensures ∙ ap (λ ps. join_begun (map conjunct_as ps)) forms;
-      some = (some_child (conjuncts_of (node_form c.args.core.now)) has).1;
+      some = some_child (conjuncts_of (node_form c.args.core.now)) has;
     })
 
 pub tested-requires : goal.tested-requires

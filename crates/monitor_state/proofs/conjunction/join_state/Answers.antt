@@ -1,16 +1,11 @@
-use Rattle.std.proofs.Common.{◌≡◌, ◌<◌, length, map, sym, ap, subst, ◌∙◌}
+use Rattle.std.proofs.Common.{◌≡◌, map, ap, ◌∙◌}
 use Rattle.std.proofs.lemmas.Result.{IfOk-weaker}
 use Rattle.eval_bool.specs.JoinView.{JoinOf, all_children, children_of, conjunct_of, is_guarded, join_begun, tests_of}
 use Rattle.mfotl_model.specs.Tables.{all_apart}
 use Rattle.monitorable.specs.PartView.{part_form}
-use Rattle.monitor_state.proofs.GuardLemmas.{join_apart, some_child}
+use Rattle.monitor_state.proofs.GuardLemmas.{join_apart}
 use Rattle.monitor_state.specs.Stands.{conjunct_as}
 use Rattle.monitor_state.proofs.conjunction.join_state.Goals as goal
-
-pub new-requires-clause-some : goal.new-requires-clause-some
-new-requires-clause-some c =
-    subst (λ cs. 0 < length (children_of cs)) (sym c.in_ok-own.ensures)
-    (some_child (map part_form c.args.parts.now) c.requires.some).0
 
 pub new-requires-clause-apart : goal.new-requires-clause-apart
 new-requires-clause-apart c =

@@ -1,4 +1,4 @@
-use Rattle.std.proofs.Common.{subst, sym}
+use Rattle.std.proofs.Common.{◌≡◌, ap, arith, length, subst, sym}
 use Rattle.monitor_state.proofs.JoinLemmas.{join_fewer, join_pulled_more, join_pulled_none}
 use Rattle.monitor_state.specs.JoinFeeding.{JoinPulled}
 use Rattle.monitor_state.proofs.join.pulled.Goals as goal
@@ -8,6 +8,13 @@ loop-tables-init c = record {
   some = c.requires;
   pulled = subst (JoinPulled c.args.state.now c.args.state.now) (sym c.new-tables.ensures)
       (join_pulled_none c.args.state.now);
+}
+
+pub pull-requires : goal.pull-requires
+pull-requires c = record {
+  few = λ none. let size : length c.loop-tables.state.children ≡ 0 = ap length none in
+      let some = c.loop-tables.invariant.some in
+      absurd (omega arith);
 }
 
 pub loop-tables-smaller : goal.loop-tables-smaller

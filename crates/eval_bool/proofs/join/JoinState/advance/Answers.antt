@@ -20,8 +20,8 @@ invariant_of-self c =
 pub overflow_add-self : goal.overflow_add-self
 overflow_add-self c =
     let s = c.self.inside in
-    let few = few_pulled s.pulled s.children.items c.self.invariant.some (rw (← c.self.view_is) at c.requires.due)
-    c.self.invariant.few in
+    let few = few_pulled s.pulled s.children.items (rw (← c.self.view_is) at c.requires.few)
+    (rw (← c.self.view_is) at c.requires.due) c.self.invariant.few in
     omega arith
 
 pub invariant_of-self-2 : goal.invariant_of-self-2

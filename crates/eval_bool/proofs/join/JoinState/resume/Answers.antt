@@ -14,7 +14,7 @@ invariant_of-result c =
     (children_of conjuncts) (with_tables (children_of conjuncts) (kept_tables c.args.kept))
     (rw c.in_ok-tests.ensures.children at (begun_as conjuncts c.in_ok-columns.columns.items
     c.in_ok-tests.field-0.tests.items c.in_ok-tests.field-0.children.items
-    c.requires.some c.requires.apart c.requires.guarded
+    c.requires.apart c.requires.guarded
     (c.in_ok-columns.ensures ∙ ap (λ cs. conjunct_columns (map conjunct_of cs)) c.as_slice.ensures.value)
     c.in_ok-tests.ensures.tests c.in_ok-tests.ensures.children))
     (alike_with (children_of conjuncts) (kept_tables c.args.kept))
