@@ -1,7 +1,7 @@
 pub mod PreviousLemmas
 pub mod SinceLemmas
 pub mod TimesLemmas
-pub mod IntLemmas
+pub mod RowKeyLemmas
 pub mod GroupLemmas
 pub mod OneRowLemmas
 pub mod FilledLemmas

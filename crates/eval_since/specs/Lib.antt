@@ -4,8 +4,8 @@ pub mod SinceBefore
 pub mod SinceLaws
 pub mod Times
 pub mod HeldTimes
+pub mod RowKeys
 pub mod HashedTimes
-pub mod IntRows
 pub mod Groups
 pub mod PackedRows
 pub mod Windows

@@ -332,7 +332,7 @@ impl Group {
     {
         match &self.held {
             Held::Zero => Ok(()),
-            Held::One(row, times) => out.pour_row(alloc, row, times),
+            Held::One(row, times) => out.pour_row(alloc, row.copy(alloc)?, times),
             Held::Many(rows) => rows.pour(alloc, out),
         }
     }

@@ -5,16 +5,17 @@ ghost use Rattle.mfotl_model.specs.Values.{row_cmp};
 ghost use Rattle.mfotl_model.specs.declared.value.Value.{Value};
 ghost use Rattle.eval_since.specs.Groups.{HaveTimes, times_in};
 ghost use Rattle.eval_since.specs.HashedTimes.{stored_times};
+ghost use Rattle.eval_since.specs.RowKeys.{by_rows, itself, one_int};
 ghost use Rattle.mfotl_model.specs.Tables.{has_row, part};
 ghost use Rattle.eval_since.specs.Times.{ArePast, added, reaches, recent};
 ghost use Rattle.std.specs.Option.{option_or};
 ghost use Rattle.mfotl_model.specs.declared.interval.Interval.{Interval};
 ghost use Rattle.relations.specs.KeptRows.{filled, kept_for};
 
-use crate::ints::{IntRows, int_of};
+use crate::keyed::{KeyedRows, widened};
 use crate::ordered::OrderedGroup;
+use crate::row_key::int_of;
 use crate::times::Times;
-use crate::wide::WideRows;
 use mfotl_model::{Interval, Row};
 use relations::Table;
 use std::alloc::{AllocError, Global};
@@ -25,8 +26,8 @@ use std::mem;
 // brings all into rows.
 #[derive(Drop)]
 enum Stored {
-    Ints(IntRows),
-    Wide(WideRows),
+    Ints(KeyedRows<i64>),
+    Wide(KeyedRows<Row>),
 }
 
 #[derive(Drop)]
@@ -44,13 +45,13 @@ impl Model for Hashed {
     ghost view = { λ g. stored_times g.stored };
 }
 
-fn wide(alloc: Global, stored: Stored) -> Result<WideRows, AllocError>
+fn wide(alloc: Global, stored: Stored) -> Result<KeyedRows<Row>, AllocError>
     ensures times { IfOk result (λ rows. (v : List Value) →
-        times_in rows v ≡ times_in (stored_times stored) v) }
-    ensures some { IfOk result (λ rows. HaveTimes (stored_times stored) → HaveTimes rows) }
+        times_in (by_rows itself rows) v ≡ times_in (stored_times stored) v) }
+    ensures some { IfOk result (λ rows. HaveTimes (stored_times stored) → HaveTimes (by_rows itself rows)) }
 {
     match stored {
-        Stored::Ints(rows) => rows.widened(alloc),
+        Stored::Ints(rows) => widened(alloc, rows),
         Stored::Wide(rows) => Ok(rows),
     }
 }
@@ -85,12 +86,25 @@ fn wide_put(alloc: Global, stored: Stored, row: Row, times: Times) -> Result<Sto
     Ok(Stored::Wide(rows))
 }
 
+// A row of other values has no times here.
+fn forget_int(rows: &mut KeyedRows<i64>, row: &Row, hi: u64, now: u64)
+    ensures times { (v : List Value) → times_in (by_rows one_int rows.new) v
+        ≡ cond (is_at (row_cmp row.now) v)
+        (recent hi now (times_in (by_rows one_int rows.old) v)) (times_in (by_rows one_int rows.old) v) }
+    ensures some { HaveTimes (by_rows one_int rows.old) → HaveTimes (by_rows one_int rows.new) }
+{
+    match int_of(row) {
+        Some(number) => rows.forget(number, hi, now),
+        None => {}
+    }
+}
+
 impl Hashed {
     pub fn new(alloc: Global) -> Self
         ensures { result ≡ [] }
     {
         Hashed {
-            stored: Stored::Ints(IntRows::new(alloc)),
+            stored: Stored::Ints(KeyedRows::new(alloc)),
         }
     }
 
@@ -123,7 +137,7 @@ impl Hashed {
                 }
             }
         }
-        let stored = mem::replace(&mut self.stored, Stored::Ints(IntRows::new(alloc)));
+        let stored = mem::replace(&mut self.stored, Stored::Ints(KeyedRows::new(alloc)));
         self.stored = wide_time(alloc, stored, row, x, bounded)?;
         Ok(())
     }
@@ -137,7 +151,7 @@ impl Hashed {
     {
         match &mut self.stored {
             Stored::Wide(rows) => rows.forget(row, hi, now),
-            Stored::Ints(rows) => rows.forget(&row, hi, now),
+            Stored::Ints(rows) => forget_int(rows, &row, hi, now),
         }
     }
 
@@ -147,7 +161,10 @@ impl Hashed {
     {
         match &self.stored {
             Stored::Wide(rows) => rows.reaches(row, interval, x),
-            Stored::Ints(rows) => rows.reaches(row, interval, x),
+            Stored::Ints(rows) => match int_of(row) {
+                Some(number) => rows.reaches(&number, interval, x),
+                None => false,
+            },
         }
     }
 
@@ -206,7 +223,7 @@ impl Hashed {
                 }
             }
         }
-        let stored = mem::replace(&mut self.stored, Stored::Ints(IntRows::new(alloc)));
+        let stored = mem::replace(&mut self.stored, Stored::Ints(KeyedRows::new(alloc)));
         self.stored = wide_put(alloc, stored, row, times)?;
         Ok(())
     }

@@ -37,18 +37,18 @@ impl OrderedGroup {
         }
     }
 
-    /// Copies a row with its times, where it has some and isn't there yet.
-    pub fn pour_row(&mut self, alloc: Global, row: &Row, times: &Times) -> Result<(), AllocError>
+    /// Takes a row and a copy of its times, where it has some and isn't there yet.
+    pub fn pour_row(&mut self, alloc: Global, row: Row, times: &Times) -> Result<(), AllocError>
         ensures { OnOk result ((u : List Value) → kept_for self.new u
-            ≡ option_or (kept_for self.old u) (cond (is_at (row_cmp u) row.now) (filled times.now) None)) }
+            ≡ option_or (kept_for self.old u) (cond (is_at (row_cmp u) row) (filled times.now) None)) }
     {
         if times.is_empty() {
             return Ok(());
         }
-        if self.rows.contains_key(row) {
+        if self.rows.contains_key(&row) {
             return Ok(());
         }
-        self.rows.insert(row.copy(alloc)?, times.copy(alloc)?)?;
+        self.rows.insert(row, times.copy(alloc)?)?;
         Ok(())
     }
 

@@ -14,8 +14,7 @@ use Rattle.mfotl_model.specs.contracts.term.Comparison as Comparison
 use Rattle.mfotl_model.specs.contracts.term.Term as Term
 use Rattle.mfotl_model.specs.contracts.value.Value as Value
 use Rattle.relations.specs.contracts.table.Table as Table
-use Rattle.eval_since.specs.contracts.ints.IntRows as IntRows
-use Rattle.eval_since.specs.contracts.wide.WideRows as WideRows
+use Rattle.eval_since.specs.contracts.times.Times as Times
 use Rattle.eval_since.specs.contracts.hashed.Hashed as Hashed
 use Rattle.eval_since.specs.contracts.group.Group as Group
 use Rattle.eval_since.specs.contracts.groups.Groups as Groups
@@ -91,14 +90,11 @@ pub strategy_send : IsSend (Strategy.the_field).row
 strategy_send = search base depth 30
 
 -- ---- what operators keep
-pub integers_send : IsSend (IntRows.the_field).row
-integers_send = search base depth 40
-
-pub wide_send : IsSend (WideRows.the_field).row
-wide_send = search (row_send, base) depth 40
+pub times_send : IsSend (Times.the_field).row
+times_send = search base depth 40
 
 pub hashed_send : IsSend (Hashed.the_field).row
-hashed_send = search (integers_send, wide_send, base) depth 40
+hashed_send = search (row_send, times_send, base) depth 40
 
 pub group_send : IsSend (Group.the_field).row
 group_send = search (row_send, hashed_send, base) depth 40

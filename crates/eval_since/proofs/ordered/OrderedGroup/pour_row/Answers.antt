@@ -7,18 +7,18 @@ use Rattle.eval_since.proofs.ordered.OrderedGroup.pour_row.Goals as goal
 
 pub returns-then-is_empty : goal.returns-then-is_empty
 returns-then-is_empty c = λ u.
-    none_more (kept_for c.args.self.now u) (filled c.args.times.now) (is_at (row_cmp u) c.args.row.now)
+    none_more (kept_for c.args.self.now u) (filled c.args.times.now) (is_at (row_cmp u) c.args.row)
     (filled_none c.args.times.now (sym c.is_empty.ensures ∙ c.if-is_empty.true))
 
 pub returns-then-contains_key : goal.returns-then-contains_key
 returns-then-contains_key c = rw (← c.self.view_is) (λ u.
-    there_already c.args.row.now u c.self.inside.rows.entries (filled c.args.times.now)
+    there_already c.args.row u c.self.inside.rows.entries (filled c.args.times.now)
     (sym c.contains_key.ensures ∙ c.if-contains_key.true))
 
 pub returns : goal.returns
 returns c = rw (← c.self.view_is) (λ u.
-    one_poured c.args.row.now u c.self.inside.rows.entries c.insert-2.new.self.entries c.args.times.now
+    one_poured c.args.row u c.self.inside.rows.entries c.insert.new.self.entries c.args.times.now
     (filled c.args.times.now)
     (sym c.contains_key.ensures ∙ c.if-contains_key.false)
     (filled_some c.args.times.now (sym c.is_empty.ensures ∙ c.if-is_empty.false))
-    (rw (c.in_ok-copy.ensures, c.in_ok-copy-2.ensures) at (c.in_ok-insert.ensures.updates.0 u)))
+    (rw (c.row.view_is, c.in_ok-copy.ensures) at (c.in_ok-insert.ensures.updates.0 u)))

@@ -1,0 +1,144 @@
+-- What is kept for a key is kept for the row that it stands for.
+use Rattle.std.proofs.Common.{◌≡◌, ℕ, ℤ, ◌<◌, Bool, true, false, cond, List, [], ◌∷◌, length, Option, Some, None}
+use Rattle.std.proofs.Common.{refl, sym, subst, ap, ap₂, ◌∙◌}
+use Rattle.std.specs.BTreeMap.{is_at}
+use Rattle.std.specs.List.{AllByRecursion, IsDistinct}
+use Rattle.std.specs.Map.{keys_of, lookup}
+use Rattle.std.specs.Option.{IfSome, unwrap_or}
+use Rattle.std.specs.Ordering.{int_cmp, is_eq, ordering_then}
+use Rattle.std.specs.declared.cmp.Ordering.{Ordering}
+use Rattle.std.specs.declared.cmp.Ordering.TheVariants.{Less, Equal, Greater}
+use Rattle.mfotl_model.specs.Values.{row_cmp}
+use Rattle.mfotl_model.specs.declared.value.Value.{Value}
+use Rattle.mfotl_model.specs.declared.value.Value.TheVariants.{Int, Text}
+use Rattle.relations.proofs.MapLemmas.{changed, same_row}
+use Rattle.relations.specs.KeptRows.{RowsDiffer, kept_for}
+use Rattle.eval_since.specs.Groups.{HaveTimes, times_in}
+use Rattle.eval_since.specs.RowKeys.{by_rows, is_int, itself, one_int}
+use Rattle.eval_since.proofs.FilledLemmas.{each_after}
+
+-- where a row isn't found there is nothing to change
+pub none_changed : (h : List ℕ → List ℕ) (row v : List Value) (es : List (List Value × List ℕ)) → h [] ≡ []
+    → kept_for es row ≡ None
+    → times_in es v ≡ cond (is_at (row_cmp row) v) (h (times_in es v)) (times_in es v)
+none_changed h row v es none absent = by (is_at (row_cmp row) v) refl
+  where
+    nothing : is_at (row_cmp row) v ≡ true → times_in es v ≡ []
+    nothing e = ap (times_in es) (sym (same_row row v e)) ∙ ap (λ o. unwrap_or o []) absent
+
+    by : (b : Bool) → is_at (row_cmp row) v ≡ b → times_in es v ≡ cond b (h (times_in es v)) (times_in es v)
+    by true e = nothing e ∙ sym none ∙ ap h (sym (nothing e))
+    by false e = refl
+
+module _ {K X : Type 0} (eq : K → K → Bool) (row_of : K → List Value)
+    (same : (k l : K) → is_at (row_cmp (row_of k)) (row_of l) ≡ eq k l) where
+  -- what is found for the row of a key
+  pub key_found : (k : K) (es : List (K × X))
+      → lookup (is_at (row_cmp (row_of k))) (by_rows row_of es) ≡ lookup (eq k) es
+  key_found k [] = refl
+  key_found k (e ∷ es) = ap₂ (λ b o. cond b (Some e.1) o) (same k e.0) (key_found k es)
+
+  -- a row that is found is one that a key stands for
+  either : (P : Type 0) (v : List Value) (es : List (K × X))
+      → ((q : K) → row_of q ≡ v → P) → (lookup (is_at (row_cmp v)) (by_rows row_of es) ≡ None → P) → P
+  either P v [] found none = none refl
+  either P v (e ∷ es) found none = by (is_at (row_cmp v) (row_of e.0)) refl none (either P v es found)
+    where
+      by : (b : Bool) → is_at (row_cmp v) (row_of e.0) ≡ b
+          → (cond b (Some e.1) (lookup (is_at (row_cmp v)) (by_rows row_of es)) ≡ None → P)
+          → ((lookup (is_at (row_cmp v)) (by_rows row_of es) ≡ None → P) → P) → P
+      by true at missing rest = found e.0 (sym (same_row v (row_of e.0) at))
+      by false at missing rest = rest missing
+
+  -- a change at one key is one at its row
+  pub key_changed : (k : K) (m n : List (K × X)) (w : Option X)
+      → ((q : K) → lookup (eq q) n ≡ cond (eq k q) w (lookup (eq q) m))
+      → (v : List Value) → lookup (is_at (row_cmp v)) (by_rows row_of n)
+      ≡ cond (is_at (row_cmp (row_of k)) v) w (lookup (is_at (row_cmp v)) (by_rows row_of m))
+  key_changed k m n w step v =
+      either (Changes v) v n at_key (λ none. either (Changes v) v m at_key
+      (neither (is_at (row_cmp (row_of k)) v) refl none))
+    where
+      Changes : List Value → Type 0
+      Changes r = lookup (is_at (row_cmp r)) (by_rows row_of n)
+          ≡ cond (is_at (row_cmp (row_of k)) r) w (lookup (is_at (row_cmp r)) (by_rows row_of m))
+
+      at_key : (q : K) → row_of q ≡ v → Changes v
+      at_key q is = subst Changes is (key_found q n ∙ step q
+          ∙ sym (ap₂ (λ b o. cond b w o) (same k q) (key_found q m)))
+
+      neither : (b : Bool) → is_at (row_cmp (row_of k)) v ≡ b
+          → lookup (is_at (row_cmp v)) (by_rows row_of n) ≡ None
+          → lookup (is_at (row_cmp v)) (by_rows row_of m) ≡ None → Changes v
+      neither true at none_new none_old = at_key k (same_row (row_of k) v at)
+      neither false at none_new none_old = none_new
+          ∙ sym (ap₂ (λ b o. cond b w o) at none_old)
+
+  -- keys that differ stand for rows that differ
+  pub keys_differ : (es : List (K × X)) → IsDistinct eq (keys_of es) → RowsDiffer (by_rows row_of es)
+  unfolding IsDistinct
+  keys_differ [] apart = tt
+  keys_differ (e ∷ es) apart = (each es apart.0, keys_differ es apart.1)
+    where
+      each : (fs : List (K × X)) → AllByRecursion (λ y. eq e.0 y ≡ false) (keys_of fs)
+          → AllByRecursion (λ y. is_at (row_cmp (row_of e.0)) y ≡ false) (keys_of (by_rows row_of fs))
+      each [] all = tt
+      each (f ∷ fs) all = (same e.0 f.0 ∙ all.0, each fs all.1)
+
+module _ {K : Type 0} (eq : K → K → Bool) (row_of : K → List Value)
+    (same : (k l : K) → is_at (row_cmp (row_of k)) (row_of l) ≡ eq k l) where
+  -- a change of the times at one key, and what it leaves at each row
+  pub times_changed : (h : List ℕ → List ℕ) (k : K) (m n : List (K × List ℕ)) (w : Option (List ℕ))
+      → ((q : K) → lookup (eq q) n ≡ cond (eq k q) w (lookup (eq q) m))
+      → unwrap_or w [] ≡ h (unwrap_or (lookup (eq k) m) [])
+      → (v : List Value) → times_in (by_rows row_of n) v
+      ≡ cond (is_at (row_cmp (row_of k)) v) (h (times_in (by_rows row_of m) v)) (times_in (by_rows row_of m) v)
+  times_changed h k m n w step is v =
+      changed [] h (row_of k) v (by_rows row_of m) (by_rows row_of n) w (key_changed eq row_of same k m n w step v)
+      (is ∙ ap (λ o. h (unwrap_or o [])) (sym (key_found eq row_of same k m)))
+
+  -- each row still has a time after it
+  pub times_stay : (k : K) (m n : List (K × List ℕ)) (w : Option (List ℕ))
+      → ((q : K) → lookup (eq q) n ≡ cond (eq k q) w (lookup (eq q) m))
+      → IfSome w (λ times. 0 < length times) → HaveTimes (by_rows row_of m) → HaveTimes (by_rows row_of n)
+  times_stay k m n w step =
+      each_after (λ times. 0 < length times) (row_of k) (by_rows row_of m) (by_rows row_of n) w
+      (key_changed eq row_of same k m n w step)
+
+-- rows stand for themselves
+pub by_themselves : {X : Type 0} (es : List (List Value × X)) → by_rows itself es ≡ es
+by_themselves [] = refl
+by_themselves (e ∷ es) = ap (λ fs. e ∷ fs) (by_themselves es)
+
+then_less : (o : Ordering) → is_eq (ordering_then o Less) ≡ false
+then_less Less = refl
+then_less Equal = refl
+then_less Greater = refl
+
+then_greater : (o : Ordering) → is_eq (ordering_then o Greater) ≡ false
+then_greater Less = refl
+then_greater Equal = refl
+then_greater Greater = refl
+
+-- a row of other values isn't equal to one of one integer
+not_from : (v : List Value) (m : ℤ) → is_int v ≡ false → is_at (row_cmp v) (one_int m) ≡ false
+not_from [] m e = refl
+not_from (Int n ∷ []) m e = absurd (let w : true ≡ false = e in cc)
+not_from (Int n ∷ w ∷ ws) m e = then_greater (int_cmp n m)
+not_from (Text t ∷ ws) m e = refl
+
+-- among rows of one integer nothing is found for another row
+others_none : (v : List Value) (es : List (ℤ × List ℕ)) → is_int v ≡ false
+    → lookup (is_at (row_cmp v)) (by_rows one_int es) ≡ None
+others_none v [] other = refl
+others_none v (e ∷ es) other =
+    ap₂ (λ b o. cond b (Some e.1) o) (not_from v e.0 other) (others_none v es other)
+
+pub no_times : (v : List Value) (es : List (ℤ × List ℕ)) → is_int v ≡ false → times_in (by_rows one_int es) v ≡ []
+no_times v es other = ap (λ o. unwrap_or o []) (others_none v es other)
+
+-- and there is nothing to forget
+pub others_stay : (h : List ℕ → List ℕ) (row v : List Value) (es : List (ℤ × List ℕ)) → h [] ≡ []
+    → is_int row ≡ false → times_in (by_rows one_int es) v
+    ≡ cond (is_at (row_cmp row) v) (h (times_in (by_rows one_int es) v)) (times_in (by_rows one_int es) v)
+others_stay h row v es none other = none_changed h row v (by_rows one_int es) none (others_none row es other)

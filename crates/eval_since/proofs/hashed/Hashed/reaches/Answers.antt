@@ -1,0 +1,18 @@
+use Rattle.std.proofs.Common.{sym, ap, ◌∙◌, rules, SFits, to_z-of_z, w64}
+use Rattle.eval_since.specs.Groups.{times_in}
+use Rattle.eval_since.specs.RowKeys.{by_rows, one_int}
+use Rattle.eval_since.specs.Times.{reaches}
+use Rattle.eval_since.proofs.RowKeyLemmas.{no_times}
+use Rattle.eval_since.proofs.hashed.Hashed.reaches.Goals as goal
+
+pub returns-in-Some : goal.returns-in-Some
+returns-in-Some c =
+    let fits : SFits w64 c.in-Some.number = search rules in
+    rw (← c.self.view_is, c.in-Ints.is) (c.reaches-in-Some.ensures
+    ∙ ap (λ r. reaches c.args.interval.now (times_in (by_rows one_int c.in-Ints.rows) r) c.args.x)
+    (ap one_int (to_z-of_z fits) ∙ sym c.in-Some.ensures))
+
+pub returns-in-None : goal.returns-in-None
+returns-in-None c = rw (← c.self.view_is, c.in-Ints.is) (sym
+    (ap (λ ts. reaches c.args.interval.now ts c.args.x)
+    (no_times c.args.row.now c.in-Ints.rows c.in-None.ensures)))

@@ -1,9 +1,0 @@
-use Rattle.eval_since.specs.Times.{recent}
-use Rattle.eval_since.proofs.GroupLemmas.{recent_none}
-use Rattle.eval_since.proofs.IntLemmas.{others_stay}
-use Rattle.eval_since.proofs.ints.IntRows.forget.Goals as goal
-
-pub returns-in-None-clause-times : goal.returns-in-None-clause-times
-returns-in-None-clause-times c = rw (← c.self.view_is) (λ v.
-    others_stay (recent c.args.hi c.args.now) c.args.row.now v c.self.inside.rows.entries
-    (recent_none c.args.hi c.args.now) c.in-None.ensures)
