@@ -6,3 +6,4 @@ pub mod EmitLemmas
 pub mod OrderLemmas
 pub mod SlotLemmas
 pub mod PutLemmas
+pub mod BegunLemmas

@@ -20,10 +20,13 @@ pub struct Gather {
 
 impl Model for Gather {
     ghost use Rattle.verdict_merge.specs.Gathers.{GatherOf};
+    ghost use Rattle.verdict_merge.specs.Generations.{AreBegun};
 
     ghost Value = { GatherOf };
 
     ghost view = { λ g. record { begun = g.begun.items; next = g.waiting.next; added = g.waiting.added } };
+
+    ghost invariant = { λ g. AreBegun g.begun.items };
 }
 
 impl Gather {
@@ -90,11 +93,14 @@ impl Gather {
         self.complete_ts().is_some()
     }
 
-    // The generation of this number, if it is begun.
+    // The generation of this number, if it is begun. Mostly it is the last one, so the search goes from there.
     fn generation(&self, number: u64) -> Option<&Begun>
         ensures { option_copied result ≡ find (is_generation number) self.now.begun }
     {
-        self.begun.iter().find(|begun| begun.generation == number)
+        self.begun
+            .iter()
+            .rev()
+            .find(|begun| begun.generation == number)
     }
 
     // How many workers a generation has, 0 where it isn't begun.
