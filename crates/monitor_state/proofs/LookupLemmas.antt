@@ -1,9 +1,10 @@
 -- A window that is asked by the values that a table has of some of its columns.
-use Rattle.std.proofs.Common.{◌≡◌, ℕ, ◌+◌, ◌-◌, ◌<◌, Bool, true, false, ◌&&◌, List, refl, ap, ap₂, ◌∙◌}
+use Rattle.std.proofs.Common.{◌≡◌, ℕ, ◌+◌, ◌-◌, ◌<◌, Bool, true, false, ◌&&◌, List, [], refl, sym, ap, ap₂, ◌∙◌}
 use Rattle.std.proofs.Common.{arith}
 use Rattle.mfotl_model.specs.FreeVariables.{joined}
 use Rattle.mfotl_model.specs.Satisfaction.{Valuation, since, until}
-use Rattle.mfotl_model.specs.Tables.{TableOf, all_among, has}
+use Rattle.std.specs.Prelude.{map}
+use Rattle.mfotl_model.specs.Tables.{TableOf, all_among, has, has_row}
 use Rattle.mfotl_model.specs.Times.{NeverFalls}
 use Rattle.mfotl_model.proofs.LogicLemmas.{with_true}
 use Rattle.eval_since.specs.SinceView.{Advances, Follows, SinceOf}
@@ -40,15 +41,34 @@ until_finds s found over rows keys =
       rows = λ v key t a b f never. rows t a b v f never;
     }
 
-pub found_joins : (w : Window) (order table keys found both kept : TableOf)
-    → ((v : Valuation) → has table v ≡ true → has keys v ≡ true) → Finds w keys found
+-- what is found for keys is found for a table each of whose rows has its part among them
+pub wider_finds : (w : Window) (table keys found : TableOf)
+    → ((v : Valuation) → has table v ≡ true → has keys v ≡ true) → Finds w keys found → Finds w table found
+wider_finds w table keys found asked finds =
+    record {
+      over = finds.over;
+      rows = λ v there. finds.rows v (asked v there);
+    }
+
+-- a table without rows is joined with nothing
+pub none_join : (w : Window) (order table kept : TableOf) → table.rows ≡ [] → kept.columns ≡ order.columns
+    → ((v : Valuation) → has kept v ≡ false) → Joins w order table kept
+unfolding has
+none_join w order table kept empty over none =
+    record {
+      over = over;
+      rows = λ inside outside v holds answers.
+          none v ∙ ap (λ rows. has_row rows (map v table.columns) && holds) (sym empty);
+    }
+
+pub found_joins : (w : Window) (order table found both kept : TableOf) → Finds w table found
     → both.columns ≡ joined table.columns found.columns
     → ((v : Valuation) → has both v ≡ (has table v && has found v))
     → kept.columns ≡ order.columns
     → (all_among order.columns both.columns ≡ true → all_among both.columns order.columns ≡ true
     → (v : Valuation) → has kept v ≡ has both v)
     → Joins w order table kept
-found_joins w order table keys found both kept asked finds over rows ordered same =
+found_joins w order table found both kept finds over rows ordered same =
     let columns : both.columns ≡ joined table.columns (window_columns w) =
     over ∙ ap (joined table.columns) finds.over in
     record {
@@ -63,5 +83,5 @@ found_joins w order table keys found both kept asked finds over rows ordered sam
     by : (b : Bool) (v : Valuation) → has table v ≡ b → (holds : Bool)
         → ((answer : Bool) → WindowHolds w v answer → answer ≡ holds)
         → (b && has found v) ≡ (b && holds)
-    by true v there holds answers = answers (has found v) (finds.rows v (asked v there))
+    by true v there holds answers = answers (has found v) (finds.rows v there)
     by false v there holds answers = refl

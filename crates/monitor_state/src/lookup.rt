@@ -1,13 +1,12 @@
 //! A window is asked by the values that a table has of some of its columns.
 ghost use Rattle.std.specs.Prelude.{◌≡◌, IfOk, IsTrue, OnOk};
 ghost use Rattle.mfotl_model.specs.Satisfaction.{Valuation};
-ghost use Rattle.mfotl_model.specs.Tables.{all_among, has};
 ghost use Rattle.relations.specs.Operations.{common};
-ghost use Rattle.monitor_state.specs.FilterFeeding.{Joins, WindowGoes};
+ghost use Rattle.monitor_state.specs.FilterFeeding.{Finds, Joins, WindowGoes};
 ghost use Rattle.monitor_state.specs.WindowNode.{window_due, window_took_all};
 
 use crate::ordering::in_order;
-use crate::window::{Window, columns, pulled_of};
+use crate::window::{Window, columns, go_on, pulled_of};
 use mfotl_model::is_among;
 use relations::{Columns, Table};
 use std::alloc::{AllocError, Global};
@@ -25,21 +24,31 @@ pub fn joined(
     ensures goes { OnOk result (WindowGoes window.old window.new) }
     ensures gives { IfOk result (Joins window.old order.now table) }
 {
-    let keys = keys_of(alloc, &table, columns(window))?;
-    let found = pulled_of(alloc, window, &keys)?;
+    if table.rows().is_empty() {
+        go_on(alloc, window)?;
+        let columns = Columns::from_slice(alloc, order.columns())?;
+        return Ok(Table::empty(alloc, columns));
+    }
+    let found = found_for(alloc, window, &table)?;
     let both = table.join(alloc, &found)?;
     let kept = in_order(alloc, both, order)?;
     Ok(kept)
 }
 
-// The parts of a table's rows at those of its columns that are among these.
-fn keys_of(alloc: Global, table: &Table, columns: &[u32]) -> Result<Table, AllocError>
-    ensures inside { IfOk result (λ keys. IsTrue (all_among keys.columns columns.now)) }
-    ensures has { IfOk result (λ keys. (v : Valuation) → IsTrue (has table.now v) → IsTrue (has keys v)) }
+// Goes on by one position. Of the rows of which the window holds there it gives at least those that agree with a row
+// of the table.
+fn found_for(alloc: Global, window: &mut Window, table: &Table) -> Result<Table, AllocError>
+    requires due { IsTrue (window_due window.old) }
+    requires all { IsTrue (window_took_all window.old) }
+    ensures goes { OnOk result (WindowGoes window.old window.new) }
+    ensures finds { IfOk result (Finds window.old table.now) }
 {
-    let shared = common(alloc, columns, table.columns())?;
+    let shared = common(alloc, columns(window), table.columns())?;
+    if shared.as_slice() == table.columns() {
+        return pulled_of(alloc, window, table);
+    }
     let keys = table.project(alloc, shared)?;
-    Ok(keys)
+    pulled_of(alloc, window, &keys)
 }
 
 /// The columns of the second that the first has.
