@@ -197,6 +197,17 @@ reaches_feeds [] w k a = refl
 reaches_feeds (i ∷ items) w k a =
     (world_after w (Feed k i), (i, a.0, refl), reaches_feeds items (world_after w (Feed k i)) k a.1)
 
+-- where no item was ready, the world is the same
+pub moves_idle : (d e : Driver) (k : ℕ) (items : List Item) → items ≡ [] → lines_of e ≡ lines_of d
+    → ((w : World) → IsRouterOf d.router w
+    → AreAllowed w (feeds k items) × IsRouterOf e.router (run_steps w (feeds k items)))
+    → (w : World) → IsDriverOf d w → IsDriverOf e w
+moves_idle d e k items none m moves w is = record {
+  router = subst (λ (is : List Item). IsRouterOf e.router (run_steps w (feeds k is))) none (moves w is.router).1;
+  lines = λ q l at. is.lines q l (ap (λ z. get_elem? z q) (sym m) ∙ at);
+  beyond = λ q high. is.beyond q (subst (λ (z : List CellLine). length z ≤ q) m high);
+}
+
 module _ (d : Driver) (router : Router) (k : ℕ) (items : List Item) (turn : HasTurn (lines_of d) k)
     (moves : (w : World) → IsRouterOf d.router w
     → AreAllowed w (feeds k items) × IsRouterOf router (run_steps w (feeds k items))) where

@@ -148,7 +148,7 @@ impl Driver {
         }
     }
 
-    // Hands over all that are ready, and says how many these are.
+    // Hands over all that are ready, and says how many these are. Where none is, the cell stays as it is.
     fn hand_over(
         &mut self,
         alloc: Global,
@@ -162,6 +162,9 @@ impl Driver {
         ensures main { IfOk result (λ _. IsMainOf hub.now self.new.main) }
     {
         let items = self.router.take_ready(alloc, worker, u64::MAX)?;
+        if items.is_empty() {
+            return Ok(0);
+        }
         let handed = items.len() as u64;
         match hub.swap(&mut self.main, worker, items) {
             Swap::Back(_, _) => Ok(handed),
