@@ -60,58 +60,81 @@ fn read_chunk<I: Inputs, O: Sink>(
     }
 }
 
-/// Monitors the open file as a log, chunk after chunk, and answers what was counted of its lines. What was
-/// written is handed on before each read.
-pub(crate) fn follow<R: Wait, I: Inputs, O: Sink, G: Gate>(
-    context: &LoopContext<'_, R, G>,
-    own: &mut Vec<WorkerHand>,
-    driver: &mut Driver,
-    schedule: &mut Schedule,
-    inputs: &mut I,
-    buffer: &mut [u8],
-    reader: &mut LogReader<'_>,
-    out: &mut O,
-) -> Result<Tally, Stop>
-    requires room { 0 < length buffer.old }
-    requires opened { IsTrue (I.is_open inputs.old) }
-    requires fresh { progress reader.old [] ≡ nothing_fed reader.old.sig standard }
-    requires reads { Reads reader.old [] }
-    requires begins { (core : CoreForm) × HasReadNothing core driver.old }
-    requires suits { Suits driver.old schedule.old }
-    requires seated { HaveCells context.now.cells schedule.old }
-    requires unread { schedule.old.routed ≡ 0 }
-    requires main { IsMainOf context.now.hub.now driver.old.main }
-    requires cells { context.now.cells ≤ cell_count context.now.hub.now }
-    requires hands { AreHandsOf context.now.hub.now own.old.items }
-    ensures hands { AreHandsOf context.now.hub.now own.new.items }
-    ensures files { I.files inputs.new ≡ I.files inputs.old }
-    ensures stays_open { I.is_open inputs.new ≡ I.is_open inputs.old }
-    ensures asks_nothing { I.asked inputs.new ≡ I.asked inputs.old }
-    ensures later { I.faults inputs.old ≤ I.faults inputs.new }
-    ensures later_out { O.faults out.old ≤ O.faults out.new }
-    ensures follows { (core : CoreForm) → HasReadNothing core driver.old → ForEachPolicy core (λ policy.
-        FollowsLog reader.old.sig policy (effect I.Inputs O.Sink inputs.old inputs.new out.old out.new)
-        (run_end result)) }
-    ensures planned { OnOk result (ReadsPlan reader.old.sig schedule.old.changes.items (I.rest inputs.old)
-        (I.rest inputs.new) driver.new) }
-{
-    let mut writer = LineWriter::new(context.alloc);
-    'chunks: for _ in context.rt.forever() {
-        match route_complete(context, own, driver, schedule, &mut writer, reader, out) {
-            Ok(()) => {}
-            Err(stop) => return Err(stop),
+/// What main's loop has and is lent.
+#[derive(Drop)]
+pub(crate) struct MainLoop<'o, 's, R, G, I, O> {
+    pub(crate) context: &'o LoopContext<'o, R, G>,
+    pub(crate) driver: &'o mut Driver,
+    pub(crate) schedule: &'o mut Schedule,
+    pub(crate) buffer: &'o mut [u8],
+    pub(crate) log: &'o mut LogReader<'s>,
+    pub(crate) inputs: &'o mut I,
+    pub(crate) out: &'o mut O,
+}
+
+impl<R: Wait, G: Gate, I: Inputs, O: Sink> MainLoop<'_, '_, R, G, I, O> {
+    /// Monitors the open file as a log, chunk after chunk, and answers what was counted of its lines. What was
+    /// written is handed on before each read.
+    pub(crate) fn follow(&mut self, own: &mut Vec<WorkerHand>) -> Result<Tally, Stop>
+        requires room { 0 < length self.old.buffer.now }
+        requires opened { IsTrue (I.is_open self.old.inputs.now) }
+        requires fresh { progress self.old.log.now [] ≡ nothing_fed self.old.log.now.sig standard }
+        requires reads { Reads self.old.log.now [] }
+        requires begins { (core : CoreForm) × HasReadNothing core self.old.driver.now }
+        requires suits { Suits self.old.driver.now self.old.schedule.now }
+        requires seated { HaveCells self.old.context.now.cells self.old.schedule.now }
+        requires unread { self.old.schedule.now.routed ≡ 0 }
+        requires main { IsMainOf self.old.context.now.hub.now self.old.driver.now.main }
+        requires cells { self.old.context.now.cells ≤ cell_count self.old.context.now.hub.now }
+        requires hands { AreHandsOf self.old.context.now.hub.now own.old.items }
+        ensures hands { AreHandsOf self.old.context.now.hub.now own.new.items }
+        ensures same_log { self.new.log.ghost_name ≡ self.old.log.ghost_name }
+        ensures same_inputs { self.new.inputs.ghost_name ≡ self.old.inputs.ghost_name }
+        ensures same_out { self.new.out.ghost_name ≡ self.old.out.ghost_name }
+        ensures same_driver { self.new.driver.ghost_name ≡ self.old.driver.ghost_name }
+        ensures files { I.files self.new.inputs.now ≡ I.files self.old.inputs.now }
+        ensures stays_open { I.is_open self.new.inputs.now ≡ I.is_open self.old.inputs.now }
+        ensures asks_nothing { I.asked self.new.inputs.now ≡ I.asked self.old.inputs.now }
+        ensures later { I.faults self.old.inputs.now ≤ I.faults self.new.inputs.now }
+        ensures later_out { O.faults self.old.out.now ≤ O.faults self.new.out.now }
+        ensures follows { (core : CoreForm) → HasReadNothing core self.old.driver.now → ForEachPolicy core (λ policy.
+            FollowsLog self.old.log.now.sig policy (effect I.Inputs O.Sink self.old.inputs.now self.new.inputs.now
+            self.old.out.now self.new.out.now) (run_end result)) }
+        ensures planned { OnOk result (ReadsPlan self.old.log.now.sig self.old.schedule.now.changes.items
+            (I.rest self.old.inputs.now) (I.rest self.new.inputs.now) self.new.driver.now) }
+    {
+        let mut writer = LineWriter::new(self.context.alloc);
+        'chunks: for _ in self.context.rt.forever() {
+            match route_complete(
+                self.context,
+                own,
+                &mut *self.driver,
+                &mut *self.schedule,
+                &mut writer,
+                &mut *self.log,
+                &mut *self.out,
+            ) {
+                Ok(()) => {}
+                Err(stop) => return Err(stop),
+            }
+            if self.log.is_finished() {
+                return Ok(writer.tally);
+            }
+            match self.out.flush() {
+                Ok(()) => {}
+                Err(Failed) => return Err(Stop::Sink),
+            }
+            match read_chunk(
+                self.context.alloc,
+                &mut *self.inputs,
+                &mut *self.buffer,
+                &mut *self.log,
+                &*self.out,
+            ) {
+                Ok(()) => {}
+                Err(stop) => return Err(stop),
+            }
         }
-        if reader.is_finished() {
-            return Ok(writer.tally);
-        }
-        match out.flush() {
-            Ok(()) => {}
-            Err(Failed) => return Err(Stop::Sink),
-        }
-        match read_chunk(context.alloc, inputs, buffer, reader, out) {
-            Ok(()) => {}
-            Err(stop) => return Err(stop),
-        }
+        unreachable!()
     }
-    unreachable!()
 }

@@ -13,7 +13,7 @@ ghost use Rattle.worker_pool.specs.Hands.{AreGroupsOf, AreHandsOf};
 ghost use Rattle.worker_pool.specs.Policies.{ForEachPolicy};
 ghost use Rattle.worker_pool.specs.Writing.{HasReadNothing};
 
-use crate::following::follow;
+use crate::following::MainLoop;
 use crate::hands::WorkerHand;
 use crate::loop_context::LoopContext;
 use crate::main_task::MainTask;
@@ -27,18 +27,6 @@ use rescale_core::Driver;
 use std::alloc::AllocError;
 use std::sync::Wait;
 use std::thread::Threads;
-
-// What main's loop has and is lent.
-#[derive(Drop)]
-struct MainLoop<'o, 's, R, G, I, O> {
-    context: &'o LoopContext<'o, R, G>,
-    driver: &'o mut Driver,
-    schedule: &'o mut Schedule,
-    buffer: &'o mut Vec<u8>,
-    log: &'o mut LogReader<'s>,
-    inputs: &'o mut I,
-    out: &'o mut O,
-}
 
 impl<'o, 's, R: Wait, G: Gate, I: Inputs, O: Sink> MainTask for MainLoop<'o, 's, R, G, I, O> {
     ghost use Rattle.std.specs.Prelude.{◌≡◌, ◌≤◌, ◌<◌, [], IsTrue, OnOk, length};
@@ -57,7 +45,7 @@ impl<'o, 's, R: Wait, G: Gate, I: Inputs, O: Sink> MainTask for MainLoop<'o, 's,
 
     type Answer = Result<Tally, Stop>;
 
-    ghost can = { λ d own. (0 < length d.buffer.now.items)
+    ghost can = { λ d own. (0 < length d.buffer.now)
         × IsTrue (I.is_open d.inputs.now)
         × (progress d.log.now [] ≡ nothing_fed d.log.now.sig standard)
         × Reads d.log.now []
@@ -90,16 +78,7 @@ impl<'o, 's, R: Wait, G: Gate, I: Inputs, O: Sink> MainTask for MainLoop<'o, 's,
         own: &mut Vec<WorkerHand>,
     ) -> Result<Tally, Stop> {
         ready?;
-        follow(
-            self.context,
-            own,
-            &mut *self.driver,
-            &mut *self.schedule,
-            &mut *self.inputs,
-            self.buffer.as_mut_slice(),
-            &mut *self.log,
-            &mut *self.out,
-        )
+        self.follow(own)
     }
 }
 
@@ -141,19 +120,10 @@ pub(crate) fn follow_beside<'o, 's, R: Threads + Wait + Sync, I: Inputs, O: Sink
         context,
         driver,
         schedule,
-        buffer,
+        buffer: buffer.as_mut_slice(),
         log,
         inputs,
         out,
     };
-    beside(
-        context.rt,
-        context.alloc,
-        context.hub,
-        context.gate,
-        context.bells,
-        groups,
-        own,
-        &mut main_loop,
-    )
+    beside(context, groups, own, &mut main_loop)
 }

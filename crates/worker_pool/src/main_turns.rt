@@ -1,9 +1,12 @@
 //! Main's turns: what is ready is handed over, collected and written.
-ghost use Rattle.std.specs.Prelude.{◌≡◌, ◌≤◌, IfErr, OnOk, OnErr, true};
+ghost use Rattle.std.specs.Prelude.{◌≡◌, ◌≤◌, ℕ, IfErr, List, OnOk, OnErr, Option, true};
+ghost use Rattle.rescale_core.specs.Moving.{IsDriverOf};
+ghost use Rattle.rescale_core.specs.Worlds.{World};
 ghost use Rattle.turn_hub.specs.Ends.{IsMainOf, cell_count};
 ghost use Rattle.worker_pool.specs.Hands.{AreHandsOf};
 ghost use Rattle.worker_pool.specs.Steps.{MakesRoom, main_state};
 ghost use Rattle.worker_pool.specs.Writing.{FallsShort, IsOutputStop, AllEmitted, WritesOnly, Runs};
+ghost use Rattle.worker_pool.specs.declared.tally.Tally.{Tally};
 
 use crate::hands::WorkerHand;
 use crate::line_writer::LineWriter;
@@ -42,18 +45,13 @@ fn write_ready<R: Wait, O: Sink>(
 }
 
 // Collects from each worker what it gave, and hands over what is ready for it. Answers whether there was any of it.
-fn turn_all<R, G, O: Sink>(
-    context: &LoopContext<'_, R, G>,
-    driver: &mut Driver,
-    writer: &LineWriter,
-    out: &O,
-) -> Result<bool, AllocError>
-    requires runs { Runs driver.old (O.written out.now) writer.now.tally }
+fn turn_all<R, G>(context: &LoopContext<'_, R, G>, driver: &mut Driver) -> Result<bool, AllocError>
+    requires stands { (w : World) × IsDriverOf driver.old w }
     requires main { IsMainOf context.now.hub.now driver.old.main }
     requires cells { context.now.cells ≤ cell_count context.now.hub.now }
     ensures main { OnOk result (IsMainOf context.now.hub.now driver.new.main) }
-    ensures ok { OnOk result (WritesOnly driver.old (O.written out.now) writer.now.tally
-        driver.new (O.written out.now) writer.now.tally) }
+    ensures ok { OnOk result ((written : Option (List ℕ)) (tally : Tally)
+        → WritesOnly driver.old written tally driver.new written tally) }
 {
     let mut busy = false;
     for k in 0..context.cells {
@@ -93,7 +91,7 @@ fn round<R: Wait, O: Sink, G: Gate>(
     ensures stop { IfErr result (λ stop. IsOutputStop (O.faults out.old) (O.faults out.new) stop) }
     ensures later { O.faults out.old ≤ O.faults out.new }
 {
-    let turned = turn_all(context, driver, writer, out)?;
+    let turned = turn_all(context, driver)?;
     let served = serve_each(context.alloc, context.hub, own, context.gate);
     write_ready(context.rt, context.alloc, driver, writer, out)?;
     Ok(turned || served)

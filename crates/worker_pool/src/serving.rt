@@ -12,6 +12,17 @@ use turn_hub::{Hand, Hub, Served, Work};
 /// A thread that was started. It gives back the hands that it was given.
 pub(crate) type Thread<W> = JoinHandle<Vec<Hand<W>>>;
 
+/// What a thread that serves hands is lent. `bell` is its own, `main` is that of main.
+#[derive(Drop)]
+pub(crate) struct Serving<'s, R, W: Work, G> {
+    pub(crate) rt: &'s R,
+    pub(crate) alloc: Global,
+    pub(crate) hub: &'s Hub<W>,
+    pub(crate) bell: &'s Bell,
+    pub(crate) main: &'s Bell,
+    pub(crate) gate: &'s G,
+}
+
 /// Serves each of the hands once, and says whether one of them had something to do.
 #[tactic(auto, unfolding(crate::specs::Hands::AreHandsOf))]
 pub(crate) fn serve_each<W: Work, G: Gate>(
@@ -35,29 +46,24 @@ pub(crate) fn serve_each<W: Work, G: Gate>(
 
 // Serves the hands in turn until the bell says to stop, and gives them back.
 fn serve_until<R: Wait, W: Work, G: Gate>(
-    rt: &R,
-    alloc: Global,
-    hub: &Hub<W>,
+    serving: Serving<'_, R, W, G>,
     mut hands: Vec<Hand<W>>,
-    bell: &Bell,
-    main: &Bell,
-    gate: &G,
 ) -> Vec<Hand<W>>
-    requires { AreHandsOf hub.now hands.items }
-    ensures { Serve hub.now (cells_of hands.items) result.items }
+    requires { AreHandsOf serving.hub.now hands.items }
+    ensures { Serve serving.entry.hub.now (cells_of hands.items) result.items }
 {
     let mut idle = 0u64;
-    for _ in rt.forever() {
-        if bell.is_stopped() {
+    for _ in serving.rt.forever() {
+        if serving.bell.is_stopped() {
             return hands;
         }
-        let heard = bell.rings();
-        if serve_each(alloc, hub, &mut hands, gate) {
+        let heard = serving.bell.rings();
+        if serve_each(serving.alloc, serving.hub, &mut hands, serving.gate) {
             idle = 0;
-            main.ring();
+            serving.main.ring();
         } else {
             idle = idle.saturating_add(1);
-            bell.rest(rt, heard, idle);
+            serving.bell.rest(serving.rt, heard, idle);
         }
     }
     unreachable!()
@@ -65,26 +71,23 @@ fn serve_until<R: Wait, W: Work, G: Gate>(
 
 /// Starts a thread for these hands. If that is refused, the hands come back, for main to serve.
 pub(crate) fn start<'s, E, R: Wait + Sync, W: Work + Send, G: Gate + Sync>(
-    rt: &'s R,
-    alloc: Global,
+    serving: Serving<'s, R, W, G>,
     scope: &Scope<'s, E>,
-    hub: &'s Hub<W>,
     hands: Vec<Hand<W>>,
-    bell: &'s Bell,
-    main: &'s Bell,
-    gate: &'s G,
     threads: &mut Vec<Thread<W>>,
 ) -> Vec<Hand<W>>
 where
     W::Item: Send,
     W::Out: Send,
-    requires hands { AreHandsOf hub.now hands.items }
+    requires hands { AreHandsOf serving.hub.now hands.items }
     requires room { vec_len threads.old < vec_capacity threads.old }
-    ensures hands { AreHandsOf hub.now result.items }
+    ensures hands { AreHandsOf serving.entry.hub.now result.items }
     ensures room { (vec_len threads.new ≤ vec_len threads.old + 1)
         × (vec_capacity threads.new ≡ vec_capacity threads.old) }
 {
-    match scope.spawn(move || { serve_until(rt, alloc, hub, hands, bell, main, gate) }) {
+    let alloc = serving.alloc;
+    let bell = serving.bell;
+    match scope.spawn(move || { serve_until(serving, hands) }) {
         Ok(thread) => {
             threads.push_reserved(thread);
             Vec::new(alloc)

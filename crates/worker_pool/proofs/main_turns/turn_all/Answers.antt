@@ -1,12 +1,18 @@
-use Rattle.worker_pool.proofs.WritingLemmas.{keeps_on, runs_on, turn_written, world_of}
+use Rattle.rescale_core.proofs.Keeping.{turn_moves}
+use Rattle.worker_pool.proofs.WritingLemmas.{keeps_on, turn_written}
 use Rattle.worker_pool.proofs.main_turns.turn_all.Goals as goal
 
 pub turn-requires-clause-stands : goal.turn-requires-clause-stands
-turn-requires-clause-stands g c = world_of (runs_on c.loop-k.invariant.keeps c.requires.runs)
+turn-requires-clause-stands g c = c.loop-k.invariant.stands
 
 pub loop-k-preserved : goal.loop-k-preserved
-loop-k-preserved g c = record {
-  keeps = keeps_on c.loop-k.invariant.keeps (turn_written c.loop-k.driver c.turn.new.self
-      (g.O.Sink.written c.args.out.now) c.args.writer.now.tally c.loop-k.k c.in_ok-turn.turn c.in_ok-turn.ensures.did);
-  main = c.in_ok-turn.ensures.main;
-}
+loop-k-preserved g c =
+    let did = c.in_ok-turn.ensures.did in
+    let before = c.loop-k.invariant.stands in
+    let moves = turn_moves c.loop-k.driver c.turn.new.self c.loop-k.k c.in_ok-turn.turn before.0 did before.1 in
+    record {
+      stands = (moves.2, moves.4);
+      keeps = λ written tally. keeps_on (c.loop-k.invariant.keeps written tally)
+          (turn_written c.loop-k.driver c.turn.new.self written tally c.loop-k.k c.in_ok-turn.turn did);
+      main = c.in_ok-turn.ensures.main;
+    }

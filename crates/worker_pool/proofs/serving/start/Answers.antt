@@ -6,4 +6,4 @@ use Rattle.worker_pool.proofs.serving.start.Goals as goal
 -- a thread has the hands, and none come back
 pub returns-in-Ok-clause-hands : goal.returns-in-Ok-clause-hands
 returns-in-Ok-clause-hands g c =
-    subst (λ hands. AreHandsOf c.args.hub.now hands) (sym c.new.ensures.items) (no_hands c.args.hub.now)
+    subst (λ hands. AreHandsOf c.args.serving.hub.now hands) (sym c.new.ensures.items) (no_hands c.args.serving.hub.now)

@@ -9,19 +9,22 @@ use Rattle.worker_pool.proofs.threads.start_all.Goals as goal
 -- the next group's hands are the hub's
 pub start-refused-requires-clause-hands : goal.start-refused-requires-clause-hands
 start-refused-requires-clause-hands g c κs within =
-    All-head (λ h. AreHandsOf c.args.hub.now h.items) _ _
-    (subst (All (λ h. AreHandsOf c.args.hub.now h.items)) c.in-Some.ensures.items c.loop-t.invariant.groups)
+    let hub = c.args.context.now.hub.now in
+    All-head (λ h. AreHandsOf hub h.items) _ _
+    (subst (All (λ h. AreHandsOf hub h.items)) c.in-Some.ensures.items c.loop-t.invariant.groups)
 
 -- the groups after it are, and so are the hands that came back
 pub loop-t-preserved : goal.loop-t-preserved
-loop-t-preserved g c = record {
-  groups = All-tail (λ h. AreHandsOf c.args.hub.now h.items) _ _
-      (subst (All (λ h. AreHandsOf c.args.hub.now h.items)) c.in-Some.ensures.items c.loop-t.invariant.groups);
-  own = subst (λ hands. AreHandsOf c.args.hub.now hands) (sym c.in_ok-append.ensures.items)
-      (more_hands c.args.hub.now c.loop-t.own.items c.start-refused.result.items c.loop-t.invariant.own
-      c.start-refused.ensures.hands);
-  room = search rules;
-}
+loop-t-preserved g c =
+    let hub = c.args.context.now.hub.now in
+    record {
+      groups = All-tail (λ h. AreHandsOf hub h.items) _ _
+          (subst (All (λ h. AreHandsOf hub h.items)) c.in-Some.ensures.items c.loop-t.invariant.groups);
+      own = subst (λ hands. AreHandsOf hub hands) (sym c.in_ok-append.ensures.items)
+          (more_hands hub c.loop-t.own.items c.start-refused.result.items c.loop-t.invariant.own
+          c.start-refused.ensures.hands);
+      room = search rules;
+    }
 
 -- workers, and what they are handed and give, may cross over to a thread
 pub start-refused-requires-send-W : goal.start-refused-requires-send-W

@@ -1,4 +1,4 @@
-use Rattle.std.proofs.Common.{◌≡◌, ◌∙◌, ◌-◌, ◌^◌, ap, arith, sym, refl}
+use Rattle.std.proofs.Common.{rules, ◌≡◌, ◌∙◌, ◌-◌, ◌^◌, ap, arith, sym, refl}
 use Rattle.log_reader.specs.Progress.{Progress}
 use Rattle.log_reader.specs.Readers.{Reader}
 use Rattle.log_reader.specs.declared.limits.Limits.{Limits}
@@ -6,10 +6,16 @@ use Rattle.worker_pool.specs.Effects.{effect}
 use Rattle.worker_pool.proofs.ChunkLemmas.{chunk_failed, course_begins, finished, lines_stop, one_more_chunk}
 use Rattle.worker_pool.proofs.ChunkLemmas.{output_failed, plan_read, settles}
 use Rattle.worker_pool.proofs.PointLemmas.{rose_later}
-use Rattle.worker_pool.proofs.following.follow.Goals as goal
+use Rattle.worker_pool.proofs.following.MainLoop.follow.Goals as goal
 
 pub chunks-init : goal.chunks-init
 chunks-init g c = record {
+  same_context = refl;
+  same_log = refl;
+  same_inputs = refl;
+  same_out = refl;
+  same_driver = refl;
+  room = c.requires.room;
   works = ap (λ (p : Progress). p.is_broken) c.requires.fresh;
   main = c.requires.main;
   hands = c.requires.hands;
@@ -21,8 +27,9 @@ chunks-init g c = record {
   asks_nothing = refl;
   later = omega arith;
   later_out = omega arith;
-  course = λ core begins. course_begins c.args.schedule.now.changes.items (g.I.Inputs.rest c.args.inputs.now)
-      (g.O.Sink.written c.args.out.now) c.requires.fresh c.requires.reads begins c.new-writer.ensures;
+  course = λ core begins. course_begins c.args.self.now.schedule.now.changes.items
+      (g.I.Inputs.rest c.args.self.now.inputs.now) (g.O.Sink.written c.args.self.now.out.now) c.requires.fresh
+      c.requires.reads begins c.new-writer.ensures;
   can = tt;
   finite = tt;
 }
@@ -31,7 +38,7 @@ pub route_complete-requires-clause-few : goal.route_complete-requires-clause-few
 route_complete-requires-clause-few g c =
     let begins = c.requires.begins in
     let course = c.chunks.invariant.course begins.0 begins.1 in
-    let most : c.chunks.reader.limits.points ≡ 2 ^ 32 - 1 = ap (λ (l : Limits). l.points) course.limits_is in
+    let most : c.chunks.self.log.now.limits.points ≡ 2 ^ 32 - 1 = ap (λ (l : Limits). l.points) course.limits_is in
     omega (arith, most)
 
 pub route_complete-requires-clause-under_way : goal.route_complete-requires-clause-under_way
@@ -40,9 +47,9 @@ route_complete-requires-clause-under_way g c =
     let course = c.chunks.invariant.course begins.0 begins.1 in
     record {
       core = begins.0;
-      plan = c.args.schedule.now.changes.items;
+      plan = c.args.self.now.schedule.now.changes.items;
       bytes = course.bytes;
-      start = g.O.Sink.written c.args.out.now;
+      start = g.O.Sink.written c.args.self.now.out.now;
       reads = course.reads;
       so_far = course.so_far;
     }
@@ -50,12 +57,13 @@ route_complete-requires-clause-under_way g c =
 pub returns-in-Err-clause-follows : goal.returns-in-Err-clause-follows
 returns-in-Err-clause-follows g c core begins policy is =
     let inv = c.chunks.invariant in
-    let plan = c.args.schedule.now.changes.items in
-    let start = g.O.Sink.written c.args.out.now in
+    let plan = c.args.self.now.schedule.now.changes.items in
+    let start = g.O.Sink.written c.args.self.now.out.now in
     let course = inv.course core begins in
     lines_stop policy is
-    (effect g.I.Inputs g.O.Sink c.args.inputs.now c.chunks.inputs c.args.out.now c.route_complete.new.out)
-    course c.in-Err.stop (g.O.Sink.faults c.chunks.out) inv.later_out
+    (effect g.I.Inputs g.O.Sink c.args.self.now.inputs.now c.chunks.self.inputs.now c.args.self.now.out.now
+    c.route_complete.new.out)
+    course c.in-Err.stop (g.O.Sink.faults c.chunks.self.out.now) inv.later_out
     (c.in-Err.ensures.stops core plan course.bytes start course.reads course.so_far policy is)
     (c.in-Err.ensures.front core plan course.bytes start course.reads course.so_far policy is)
 
@@ -63,17 +71,20 @@ pub returns-then-is_finished-clause-follows : goal.returns-then-is_finished-clau
 returns-then-is_finished-clause-follows g c core begins policy is =
     let course = c.chunks.invariant.course core begins in
     finished policy is
-    (effect g.I.Inputs g.O.Sink c.args.inputs.now c.chunks.inputs c.args.out.now c.route_complete.new.out)
-    (settles course c.in-Ok.ensures.reader (c.in-Ok.ensures.ok core c.args.schedule.now.changes.items course.bytes
-    (g.O.Sink.written c.args.out.now) course.reads course.so_far))
+    (effect g.I.Inputs g.O.Sink c.args.self.now.inputs.now c.chunks.self.inputs.now c.args.self.now.out.now
+    c.route_complete.new.out)
+    (settles course c.in-Ok.ensures.reader (c.in-Ok.ensures.ok core
+    c.args.self.now.schedule.now.changes.items course.bytes (g.O.Sink.written c.args.self.now.out.now)
+    course.reads course.so_far))
     (sym c.is_finished.ensures ∙ c.if-is_finished.true)
 
 pub returns-then-is_finished-clause-planned : goal.returns-then-is_finished-clause-planned
 returns-then-is_finished-clause-planned g c =
     let begins = c.requires.begins in
     let course = c.chunks.invariant.course begins.0 begins.1 in
-    plan_read (settles course c.in-Ok.ensures.reader (c.in-Ok.ensures.ok begins.0 c.args.schedule.now.changes.items
-    course.bytes (g.O.Sink.written c.args.out.now) course.reads course.so_far))
+    plan_read (settles course c.in-Ok.ensures.reader (c.in-Ok.ensures.ok begins.0
+    c.args.self.now.schedule.now.changes.items course.bytes (g.O.Sink.written c.args.self.now.out.now)
+    course.reads course.so_far))
     (sym c.is_finished.ensures ∙ c.if-is_finished.true)
 
 pub returns-in-Err-flush-clause-follows : goal.returns-in-Err-flush-clause-follows
@@ -81,11 +92,13 @@ returns-in-Err-flush-clause-follows g c core begins policy is =
     let inv = c.chunks.invariant in
     let course = inv.course core begins in
     output_failed policy is
-    (effect g.I.Inputs g.O.Sink c.args.inputs.now c.chunks.inputs c.args.out.now c.flush.new.self)
+    (effect g.I.Inputs g.O.Sink c.args.self.now.inputs.now c.chunks.self.inputs.now c.args.self.now.out.now
+    c.flush.new.self)
     c.flush.ensures.kept
-    (settles course c.in-Ok.ensures.reader (c.in-Ok.ensures.ok core c.args.schedule.now.changes.items course.bytes
-    (g.O.Sink.written c.args.out.now) course.reads course.so_far))
-    (rose_later (g.O.Sink.faults c.args.out.now) (g.O.Sink.faults c.route_complete.new.out)
+    (settles course c.in-Ok.ensures.reader (c.in-Ok.ensures.ok core
+    c.args.self.now.schedule.now.changes.items course.bytes (g.O.Sink.written c.args.self.now.out.now)
+    course.reads course.so_far))
+    (rose_later (g.O.Sink.faults c.args.self.now.out.now) (g.O.Sink.faults c.route_complete.new.out)
     (g.O.Sink.faults c.flush.new.self) (omega (arith, inv.later_out, c.route_complete.ensures.later))
     c.in-Err-flush.ensures.cause.failed)
 
@@ -94,11 +107,13 @@ returns-in-Err-read_chunk-clause-follows g c core begins policy is =
     let inv = c.chunks.invariant in
     let course = inv.course core begins in
     chunk_failed policy is
-    (effect g.I.Inputs g.O.Sink c.args.inputs.now c.read_chunk.new.inputs c.args.out.now c.flush.new.self)
+    (effect g.I.Inputs g.O.Sink c.args.self.now.inputs.now c.read_chunk.new.inputs c.args.self.now.out.now
+    c.flush.new.self)
     c.flush.ensures.kept
-    (settles course c.in-Ok.ensures.reader (c.in-Ok.ensures.ok core c.args.schedule.now.changes.items course.bytes
-    (g.O.Sink.written c.args.out.now) course.reads course.so_far))
-    (sym c.is_finished.ensures ∙ c.if-is_finished.false) (g.I.Inputs.faults c.chunks.inputs)
+    (settles course c.in-Ok.ensures.reader (c.in-Ok.ensures.ok core
+    c.args.self.now.schedule.now.changes.items course.bytes (g.O.Sink.written c.args.self.now.out.now)
+    course.reads course.so_far))
+    (sym c.is_finished.ensures ∙ c.if-is_finished.false) (g.I.Inputs.faults c.chunks.self.inputs.now)
     c.in-Err-read_chunk.stop inv.later c.in-Err-read_chunk.ensures.reads
 
 pub chunks-preserved : goal.chunks-preserved
@@ -106,6 +121,12 @@ chunks-preserved g c =
     let inv = c.chunks.invariant in
     let chunk = c.in-Ok-read_chunk.ensures.reads in
     record {
+      same_context = inv.same_context;
+      same_log = inv.same_log;
+      same_inputs = inv.same_inputs;
+      same_out = inv.same_out;
+      same_driver = inv.same_driver;
+      room = search rules;
       works = ap (λ (r : Reader). r.is_broken) chunk.ok.same
           ∙ ap (λ (r : Reader). r.is_broken) c.in-Ok.ensures.reader ∙ inv.works;
       main = c.in-Ok.ensures.main;
@@ -121,8 +142,9 @@ chunks-preserved g c =
       course = λ core begins.
           let course = inv.course core begins in
           rw c.flush.ensures.kept (one_more_chunk
-          (settles course c.in-Ok.ensures.reader (c.in-Ok.ensures.ok core c.args.schedule.now.changes.items
-          course.bytes (g.O.Sink.written c.args.out.now) course.reads course.so_far))
+          (settles course c.in-Ok.ensures.reader (c.in-Ok.ensures.ok core
+          c.args.self.now.schedule.now.changes.items course.bytes (g.O.Sink.written c.args.self.now.out.now)
+          course.reads course.so_far))
           (sym c.is_finished.ensures ∙ c.if-is_finished.false) chunk.chunk chunk.taken chunk.ok);
       can = tt;
       finite = tt;
