@@ -305,11 +305,12 @@ above_is negated right pulled taken starts rows queue kept is = λ w. by w (kept
 
 -- the rows of which an entry meets have as many values as columns
 pub sized_met : (interval : Interval) (i x n : ℕ) (rows : List (List Value × List Entry)) (out : List (List Value))
-    → Sized n rows → ((u : List Value) → has_row out u ≡ met_by interval i x (entries_for rows u))
+    → Sized n rows
+    → ((u : List Value) → has_row out u ≡ true → met_by interval i x (entries_for rows u) ≡ true)
     → all_sized n out ≡ true
 sized_met interval i x n rows out sized met =
     all_rows (λ row. nat_eq (length row) n) out
-    (λ row there. by row (nat_eq (length row) n) refl (sym (met row) ∙ there))
+    (λ row there. by row (nat_eq (length row) n) refl (met row there))
   where
     by : (row : List Value) (b : Bool) → nat_eq (length row) n ≡ b → met_by interval i x (entries_for rows row) ≡ true
         → nat_eq (length row) n ≡ true

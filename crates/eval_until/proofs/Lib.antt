@@ -10,3 +10,5 @@ pub mod FollowsLemmas
 pub mod TakingLemmas
 pub mod ResumeLemmas
 pub mod StartLemmas
+pub mod SetLemmas
+pub mod ByKeyLemmas

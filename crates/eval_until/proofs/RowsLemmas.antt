@@ -238,3 +238,10 @@ some_left (x ∷ xs) e = omega arith
 pub empty_list : (es : List Entry) → nat_eq (length es) 0 ≡ true → [] ≡ es
 empty_list [] e = refl
 empty_list (x ∷ xs) e = absurd (let w : length (x ∷ xs) ≡ 0 = eqb-true (length (x ∷ xs)) 0 e in omega arith)
+
+-- where a row was taken out, nothing is left of it
+pub none_after : (row gone : List Value) (m n : List (List Value × List Entry)) → is_at (row_cmp row) gone ≡ true
+    → lookup (is_at (row_cmp gone)) n ≡ cond (is_at (row_cmp row) gone) None (lookup (is_at (row_cmp gone)) m)
+    → entries_for n gone ≡ []
+none_after row gone m n at step =
+    ap (λ o. unwrap_or o []) (step ∙ ap (λ b. cond b None (lookup (is_at (row_cmp gone)) m)) at)

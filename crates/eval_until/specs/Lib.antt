@@ -7,6 +7,8 @@ pub mod InOrder
 pub mod AheadView
 pub mod Rules
 pub mod Keeping
+pub mod HeldRows
+pub mod ByKey
 pub mod UntilView
 pub mod NextData
 pub mod Recalled

@@ -14,6 +14,7 @@ ghost use Rattle.eval_until.specs.AheadView.{AheadOf, met, run_start};
 ghost use Rattle.eval_until.specs.Keeping.{Sized};
 ghost use Rattle.eval_until.specs.Rules.{Ascending, NoneEmpty, StartsAbove, StartsBelow, Waiting};
 
+use crate::by_key::{RowsByKey, rows_by_key};
 use crate::contents::{Contents, take_position};
 use crate::entries::Entries;
 use crate::expiry::expire;
@@ -41,6 +42,7 @@ pub struct Ahead {
 
 impl Model for Ahead {
     ghost use Rattle.eval_until.specs.AheadView.{AheadOf};
+    ghost use Rattle.eval_until.specs.ByKey.{Listed};
     ghost use Rattle.eval_until.specs.InOrder.{in_order};
     ghost use Rattle.eval_until.specs.Keeping.{Keeps};
 
@@ -57,8 +59,11 @@ impl Model for Ahead {
       rows = in_order k.contents.rows.entries;
     } };
 
-    ghost invariant = { λ k. Keeps k.negated k.right.items k.pulled k.taken k.contents.starts
-        k.contents.rows.entries k.contents.queue.items };
+    ghost invariant = { λ k. record {
+      keeps : Keeps k.negated k.right.items k.pulled k.taken k.contents.starts k.contents.rows.entries
+          k.contents.queue.items;
+      listed : Listed k.right.items k.contents.by_key k.contents.rows.entries;
+    } };
 }
 
 impl Ahead {
@@ -126,6 +131,7 @@ impl Ahead {
         let queue = queue_of(alloc, negated, &starts, &rows)?;
         let starts = hashed_starts(alloc, starts)?;
         let rows = hashed_rows(alloc, rows)?;
+        let by_key = RowsByKey::new(alloc, Vec::new(alloc));
         Ok(Ahead {
             interval,
             left,
@@ -136,9 +142,24 @@ impl Ahead {
             contents: Contents {
                 starts,
                 rows,
+                by_key,
                 queue,
             },
         })
+    }
+
+    /// Finds rows by their values in these columns at once from now on.
+    pub fn find_by(&mut self, alloc: Global, keys: Vec<u32>) -> Result<(), AllocError>
+        ensures { self.new ≡ self.old }
+    {
+        let right = self.right.as_slice();
+        self.contents.by_key = rows_by_key(alloc, right, keys, &self.contents.rows)?;
+        Ok(())
+    }
+
+    /// The columns by whose values rows are found at once.
+    pub fn keys(&self) -> &[u32] {
+        self.contents.by_key.columns()
     }
 
     /// The rows with their starts, in order.
@@ -227,7 +248,7 @@ impl Ahead {
     }
 
     /// Goes on to the next position, and forgets what stands before it.
-    pub fn advance(&mut self)
+    pub fn advance(&mut self, alloc: Global)
         requires { self.old.pulled < 2 ^ 63 }
         ensures met { (i x : ℕ) (u : List Value) → self.old.pulled + 1 ≤ i →
             met self.new i x u ≡ met self.old i x u }
@@ -241,12 +262,23 @@ impl Ahead {
         ensures negated { self.new.negated ≡ self.old.negated }
     {
         let next = self.pulled + 1;
+        let right = self.right.as_slice();
         let Contents {
             starts,
             rows,
+            by_key,
             queue,
         } = &mut self.contents;
-        expire(rows, starts, queue, self.negated, next);
+        expire(
+            alloc,
+            right,
+            rows,
+            by_key,
+            starts,
+            queue,
+            self.negated,
+            next,
+        );
         self.pulled = next;
     }
 
@@ -267,6 +299,23 @@ impl Ahead {
         push_met(alloc, &self.contents.rows, &mut rows, &self.interval, i, x)?;
         let columns = Columns::from_slice(alloc, self.right.as_slice())?;
         Ok(Table::from_rows(columns, rows))
+    }
+
+    /// Those of these rows whose part at the columns of `keys` is one of its rows, and maybe more of them.
+    pub fn table_of(&self, alloc: Global, i: u64, x: u64, keys: &Table) -> Result<Table, AllocError>
+        ensures columns { IfOk result (λ table. table.columns ≡ self.now.right) }
+        ensures rows { IfOk result (λ table. (u : List Value) →
+            IsTrue (has_row keys.now.rows (part self.now.right keys.now.columns u)) →
+            has_row table.rows u ≡ met self.now i x u) }
+    {
+        let Contents { rows, by_key, .. } = &self.contents;
+        if !by_key.finds_by(keys.columns()) {
+            return self.table(alloc, i, x);
+        }
+        let mut found = Vec::new(alloc);
+        by_key.push_found(alloc, rows, &mut found, keys.rows(), &self.interval, i, x)?;
+        let columns = Columns::from_slice(alloc, self.right.as_slice())?;
+        Ok(Table::from_rows(columns, found))
     }
 
     pub fn taken(&self) -> u64

@@ -2,10 +2,12 @@
 ghost use Rattle.std.specs.Prelude.{◌≡◌, ◌+◌, ◌∷◌, ◌++◌, ◌≤◌, ◌<◌, ◌^◌, [], true, List, OnOk, cond};
 ghost use Rattle.mfotl_model.specs.Tables.{has_row, part};
 ghost use Rattle.mfotl_model.specs.declared.value.Value.{Value};
+ghost use Rattle.eval_until.specs.ByKey.{Listed};
 ghost use Rattle.eval_until.specs.Entries.{entries_for};
 ghost use Rattle.eval_until.specs.Keeping.{Keeps, Queues};
 ghost use Rattle.eval_until.specs.Starts.{kept_start, start_of, start_taken};
 
+use crate::by_key::{RowsByKey, list_rows};
 use crate::entries::Entries;
 use crate::row_entries::add_rows;
 use crate::start_map::StartMap;
@@ -24,17 +26,18 @@ pub struct Taken {
     pub breaks: Vec<Row>,
 }
 
-/// What is kept of the positions that were taken: where runs begin, the entries of rows, and by position the rows that
-/// came with it, so that those of a pulled position are found.
+/// What is kept of the positions that were taken: where runs begin, the entries of rows, the rows that have some by
+/// their part at some columns, and by position the rows that came with it, so that those of a pulled position are found.
 #[derive(Drop)]
 pub struct Contents {
     pub starts: StartMap,
     pub rows: HashMap<Row, Entries>,
+    pub by_key: RowsByKey,
     pub queue: VecDeque<Taken>,
 }
 
 impl Contents {
-    /// Of no position.
+    /// Of no position, and by no columns.
     pub fn new(alloc: Global) -> Self
         ensures starts { result.starts ≡ [] }
         ensures rows { result.rows.entries ≡ [] }
@@ -43,6 +46,7 @@ impl Contents {
         Contents {
             starts: StartMap::new(alloc),
             rows: HashMap::new(alloc),
+            by_key: RowsByKey::new(alloc, Vec::new(alloc)),
             queue: VecDeque::new(alloc),
         }
     }
@@ -85,6 +89,7 @@ pub fn take_position(
 ) -> Result<(), AllocError>
     requires kept { Keeps negated right.now pulled place
         contents.old.starts contents.old.rows.entries contents.old.queue.items }
+    requires listed { Listed right.now contents.old.by_key contents.old.rows.entries }
     requires columns { rights.columns ≡ right.now }
     requires low { pulled ≤ place }
     requires few { place < 2 ^ 63 }
@@ -100,12 +105,15 @@ pub fn take_position(
     ensures kept { OnOk result (
         Keeps negated right.now pulled (place + 1)
         contents.new.starts contents.new.rows.entries contents.new.queue.items) }
+    ensures listed { OnOk result (Listed right.now contents.new.by_key contents.new.rows.entries) }
 {
     let Contents {
         starts,
         rows,
+        by_key,
         queue,
     } = contents;
+    list_rows(alloc, by_key, rows, right, rights.rows())?;
     add_rows(
         alloc,
         rows,

@@ -2,17 +2,20 @@
 ghost use Rattle.std.specs.Prelude.{◌≡◌, ◌&&◌, ℕ, true, List, cond};
 ghost use Rattle.mfotl_model.specs.Tables.{has_row};
 ghost use Rattle.mfotl_model.specs.declared.value.Value.{Value};
+ghost use Rattle.eval_until.specs.ByKey.{Listed};
 ghost use Rattle.eval_until.specs.Entries.{entries_for};
 ghost use Rattle.eval_until.specs.Keeping.{Covered, CoveredStarts, Fresh, IsLater, IsThinned, NotAfter, Rising};
 ghost use Rattle.eval_until.specs.Rules.{NoneEmpty};
 ghost use Rattle.eval_until.specs.Starts.{kept_start, later_start};
 
+use crate::by_key::RowsByKey;
 use crate::contents::Taken;
 use crate::entries::Entries;
 use crate::row_entries::forget_rows;
 use crate::start_map::StartMap;
 use crate::starts::forget_starts;
 use mfotl_model::Row;
+use std::alloc::Global;
 use std::collections::{HashMap, VecDeque};
 
 // a run that began with the position `next` or before tells nothing more; only those of a negated
@@ -29,7 +32,10 @@ fn forget_breaks(starts: &mut StartMap, negated: bool, table: &[Row], next: u64)
 
 /// Forgets what stands before the position `next`, by the rows that it came with.
 pub fn expire(
+    alloc: Global,
+    right: &[u32],
     rows: &mut HashMap<Row, Entries>,
+    by_key: &mut RowsByKey,
     starts: &mut StartMap,
     queue: &mut VecDeque<Taken>,
     negated: bool,
@@ -40,6 +46,7 @@ pub fn expire(
     ensures rows { (u : List Value) →
         IsThinned next (entries_for rows.old.entries u) (entries_for rows.new.entries u) }
     ensures some { NoneEmpty rows.old.entries → NoneEmpty rows.new.entries }
+    ensures listed { Listed right.now by_key.old rows.old.entries → Listed right.now by_key.new rows.new.entries }
     ensures starts { (w : List Value) →
         IsLater negated next (kept_start starts.old w) (kept_start starts.new w) }
     ensures covered { Covered queue.new.items rows.new.entries }
@@ -57,7 +64,7 @@ pub fn expire(
             return;
         };
         let Taken { rights, breaks, .. } = old;
-        forget_rows(rows, rights, next);
+        forget_rows(alloc, rows, by_key, right, rights, next);
         forget_breaks(starts, negated, breaks.as_slice(), next);
     }
 }

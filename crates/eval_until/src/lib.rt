@@ -2,6 +2,7 @@
 #![tactic(auto)]
 
 mod ahead;
+mod by_key;
 mod contents;
 mod entries;
 pub mod examples;
@@ -13,6 +14,7 @@ mod ordered;
 mod rebuild;
 mod recalled;
 mod row_entries;
+mod row_set;
 mod start_map;
 mod starts;
 mod until;

@@ -1,5 +1,5 @@
 //! The entries of each row.
-ghost use Rattle.std.specs.Prelude.{◌≡◌, ◌||◌, ◌&&◌, ◌∷◌, ◌++◌, [], List, ℕ, IsTrue, OnOk, cond};
+ghost use Rattle.std.specs.Prelude.{◌≡◌, ◌||◌, ◌&&◌, ◌∷◌, ◌++◌, [], List, ℕ, IfSome, IsTrue, OnOk, cond};
 ghost use Rattle.std.specs.BTreeMap.{is_at};
 ghost use Rattle.std.specs.List.{list_any};
 ghost use Rattle.std.specs.List.Sorted.{IsStrictlySortedBy};
@@ -8,10 +8,13 @@ ghost use Rattle.mfotl_model.specs.Tables.{has_row, part};
 ghost use Rattle.mfotl_model.specs.Values.{row_cmp};
 ghost use Rattle.mfotl_model.specs.declared.value.Value.{Value};
 ghost use Rattle.relations.specs.KeptRows.{RowsDiffer};
+ghost use Rattle.eval_until.specs.ByKey.{Listed};
+ghost use Rattle.eval_until.specs.declared.entries.Entry.{Entry};
 ghost use Rattle.eval_until.specs.Entries.{entries_for, from_place, met_by};
 ghost use Rattle.eval_until.specs.Rules.{NoneEmpty, all_before};
 ghost use Rattle.eval_until.specs.Starts.{start_of};
 
+use crate::by_key::RowsByKey;
 use crate::entries::{Entries, Entry};
 use crate::start_map::StartMap;
 use crate::starts::start_at;
@@ -71,38 +74,64 @@ pub fn add_rows(
     Ok(())
 }
 
-// forgets what stands before the position `next`, of one row
-fn forget_row(rows: &mut HashMap<Row, Entries>, row: Row, next: u64)
+// forgets what stands before the position `next`, of one row, which is given where nothing is left of it
+fn forget_row(rows: &mut HashMap<Row, Entries>, row: Row, next: u64) -> Option<Row>
     ensures entries { (u : List Value) → entries_for rows.new.entries u
         ≡ cond (is_at (row_cmp row) u) (from_place next (entries_for rows.old.entries u))
         (entries_for rows.old.entries u) }
     ensures some { NoneEmpty rows.old.entries → NoneEmpty rows.new.entries }
+    ensures gone { IfSome result (λ gone. entries_for rows.new.entries gone ≡ []) }
 {
     let slot = match rows.entry(row) {
         Ok(slot) => slot,
-        Err(_absent) => return,
+        Err(_absent) => return None,
     };
     match slot {
         Slot::Occupied(mut kept) => {
             let entries = kept.get_mut();
             entries.forget(next);
             if entries.is_empty() {
-                kept.remove();
+                let (gone, _) = kept.remove_entry();
+                Some(gone)
+            } else {
+                None
             }
         }
-        Slot::Vacant(vacant) => drop(vacant.into_key()),
+        Slot::Vacant(vacant) => {
+            drop(vacant.into_key());
+            None
+        }
     }
 }
 
-/// Forgets what stands before the position `next`, of these rows.
-pub fn forget_rows(rows: &mut HashMap<Row, Entries>, table: Vec<Row>, next: u64)
+// A row of which nothing is left needn't be listed any more. Without memory it stays.
+fn unlist(alloc: Global, by_key: &mut RowsByKey, right: &[u32], gone: Option<Row>)
+    ensures { (rows : List (List Value × List Entry)) → IfSome gone (λ row. entries_for rows row ≡ []) →
+        Listed right.now by_key.old rows → Listed right.now by_key.new rows }
+{
+    if let Some(row) = gone {
+        let _ = by_key.remove(alloc, right, &row);
+    }
+}
+
+/// Forgets what stands before the position `next`, of these rows, and those of which nothing is left.
+pub fn forget_rows(
+    alloc: Global,
+    rows: &mut HashMap<Row, Entries>,
+    by_key: &mut RowsByKey,
+    right: &[u32],
+    table: Vec<Row>,
+    next: u64,
+)
     ensures entries { (u : List Value) → entries_for rows.new.entries u
         ≡ cond (has_row table.items u) (from_place next (entries_for rows.old.entries u))
         (entries_for rows.old.entries u) }
     ensures some { NoneEmpty rows.old.entries → NoneEmpty rows.new.entries }
+    ensures listed { Listed right.now by_key.old rows.old.entries → Listed right.now by_key.new rows.new.entries }
 {
     for row in table {
-        forget_row(rows, row, next);
+        let gone = forget_row(rows, row, next);
+        unlist(alloc, by_key, right, gone);
     }
 }
 

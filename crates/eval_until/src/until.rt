@@ -96,6 +96,50 @@ impl UntilState {
         })
     }
 
+    /// The same, which finds rows by their values in the columns of `keys` at once.
+    pub fn keyed(
+        alloc: Global,
+        interval: &Interval,
+        left: &[u32],
+        right: &[u32],
+        negated: bool,
+        keys: &[u32],
+    ) -> Result<Self, AllocError>
+        requires apart { IsTrue (all_apart right.now) }
+        requires inside { IsTrue (all_among left.now right.now) }
+        ensures state { IfOk result (λ state. state ≡ record {
+          ahead = record {
+            interval = interval.now;
+            left = left.now;
+            right = right.now;
+            negated = negated;
+            pulled = 0;
+            taken = 0;
+            starts = [];
+            rows = [];
+          };
+          times = [];
+          lefts = [];
+          rights = [];
+        }) }
+        ensures left { IfOk result (λ state.
+            (a : List Bool) (v : Valuation) → FollowsLeft state a v) }
+        ensures follows { IfOk result (λ state.
+            (t : List ℕ) (a b : List Bool) (v : Valuation) → Follows state t a b v) }
+    {
+        let state = UntilState::new(alloc, interval, left, right, negated)?;
+        state.finding_by(alloc, keys)
+    }
+
+    // the same, which finds rows by their values in these columns at once
+    fn finding_by(mut self, alloc: Global, keys: &[u32]) -> Result<Self, AllocError>
+        ensures { IfOk result (λ state. state ≡ self) }
+    {
+        let keys = Vec::from_slice(alloc, keys)?;
+        self.ahead.find_by(alloc, keys)?;
+        Ok(self)
+    }
+
     /// Whether the table is over the left operand's columns, as `push_left` asks.
     pub fn takes_left(&self, table: &Table) -> bool
         ensures { IsTrue result ↔ (table.now.columns ≡ self.now.ahead.left) }
@@ -192,8 +236,8 @@ impl UntilState {
         })
     }
 
-    /// The state of the same operands and interval of which `kept` is the data, where `times` are those from
-    /// the next position on.
+    /// The state of the same operands, interval and keys of which `kept` is the data, where `times` are those
+    /// from the next position on.
     pub fn resumed(self, alloc: Global, times: &[u64], kept: UntilData) -> Result<Self, AllocError>
         requires rule { UntilRule (until_of (setting_of self) times.now kept) }
         ensures setting { IfOk result (λ state. setting_of state ≡ setting_of self) }
@@ -217,7 +261,8 @@ impl UntilState {
             times,
             kept,
         )?;
-        Ok(state)
+        let keyed = state.finding_by(alloc, self.ahead.keys())?;
+        Ok(keyed)
     }
 
     /// The left operand's columns, those of the rows that starts are kept for.

@@ -2,7 +2,7 @@
 ghost use Rattle.std.specs.Prelude.{◌≡◌, ◌+◌, ◌-◌, ◌<◌, ◌^◌, ◌∷◌, ◌++◌, [], ℕ, Bool, List};
 ghost use Rattle.std.specs.Prelude.{IfOk, IfSome, IsTrue, MatchOption, OnOk, is_some, length, min, not};
 ghost use Rattle.mfotl_model.specs.Satisfaction.{Valuation, time_at, truth_at, until};
-ghost use Rattle.mfotl_model.specs.Tables.{has, valuation};
+ghost use Rattle.mfotl_model.specs.Tables.{all_among, has, valuation};
 ghost use Rattle.mfotl_model.specs.Times.{NeverFalls};
 ghost use Rattle.relations.specs.Pushed.{left_holds};
 ghost use Rattle.eval_until.specs.UntilView.{Advances, Follows, FollowsLeft, Takes};
@@ -164,7 +164,23 @@ impl UntilState {
         Ok(table)
     }
 
-    fn go_on(&mut self)
+    /// Of the table of the next position at least the rows whose part at the columns of `keys` is one of its
+    /// rows. By the columns that the state is made with these are found at once.
+    pub fn table_of(&self, alloc: Global, keys: &Table) -> Result<Table, AllocError>
+        requires due { IsTrue (due self.now) }
+        requires all { IsTrue (took_all self.now) }
+        requires inside { IsTrue (all_among keys.now.columns self.now.ahead.right) }
+        ensures columns { IfOk result (λ table. table.columns ≡ self.now.ahead.right) }
+        ensures rows { IfOk result (λ table. (t : List ℕ) (a b : List Bool) (v : Valuation) →
+            Follows self.now t a b v → NeverFalls t → IsTrue (has keys.now v) →
+            has table v ≡ until self.now.ahead.interval t a b self.now.ahead.pulled) }
+    {
+        let now = first_pushed(&self.times);
+        let table = self.ahead.table_of(alloc, self.ahead.pulled(), *now, keys)?;
+        Ok(table)
+    }
+
+    fn go_on(&mut self, alloc: Global)
         requires due { IsTrue (due self.old) }
         requires all { IsTrue (took_all self.old) }
         ensures advances { Advances 0 self.old self.new }
@@ -176,7 +192,7 @@ impl UntilState {
         let Some(_now) = self.times.pop_front() else {
             unreachable!();
         };
-        self.ahead.advance();
+        self.ahead.advance(alloc);
     }
 
     /// Pulls one position, without its table.
@@ -189,7 +205,7 @@ impl UntilState {
             Follows self.old t a b v → Follows self.new t a b v) }
     {
         self.take_all(alloc)?;
-        self.go_on();
+        self.go_on(alloc);
         Ok(())
     }
 
@@ -216,7 +232,7 @@ impl UntilState {
             return Ok(None);
         }
         let table = self.table(alloc)?;
-        self.go_on();
+        self.go_on(alloc);
         Ok(Some(table))
     }
 }

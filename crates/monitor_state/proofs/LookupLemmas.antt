@@ -31,14 +31,14 @@ since_finds old new keys found moves follows over rows =
           ∙ ap₂ (λ i p. since i t a b p) moves.interval last;
     }
 
-pub until_finds : (s : UntilOf) (found : TableOf) → found.columns ≡ s.ahead.right
-    → ((t : List ℕ) (a b : List Bool) (v : Valuation) → FollowsUntil s t a b v → NeverFalls t
+pub until_finds : (s : UntilOf) (keys found : TableOf) → found.columns ≡ s.ahead.right
+    → ((t : List ℕ) (a b : List Bool) (v : Valuation) → FollowsUntil s t a b v → NeverFalls t → has keys v ≡ true
     → has found v ≡ until s.ahead.interval t a b s.ahead.pulled)
-    → (keys : TableOf) → Finds (window.Until s) keys found
-until_finds s found over rows keys =
+    → Finds (window.Until s) keys found
+until_finds s keys found over rows =
     record {
       over = over;
-      rows = λ v key t a b f never. rows t a b v f never;
+      rows = λ v key t a b f never. rows t a b v f never key;
     }
 
 -- what is found for keys is found for a table each of whose rows has its part among them

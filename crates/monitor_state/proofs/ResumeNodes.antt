@@ -301,6 +301,13 @@ until_resumed_node k s new order d res (Until i f g) is keeps = (
 )
 until_resumed_node k s new order d res f is keeps = absurd is
 
+-- the data of an UNTIL's node can be gone on from
+pub until_node_fits : (k : KeptTimes) (s : UntilOf) (order : TableOf) (d : UntilKept) (f : CoreForm)
+    → IsNodeFor f (node.Until s order) → NodeKeeps k f (kept.Window (data_of.Until d))
+    → UntilRule (until_of (until_setting_of s) (times_from k d.kept.pulled) d.kept)
+until_node_fits k s order d (Until i f g) is keeps = until_fits k i f g s d is.state keeps
+until_node_fits k s order d f is keeps = absurd is
+
 -- ---- conjunctions whose right side is asked for the left one's rows
 
 pub filter_fits : (k : KeptTimes) (s : FilterState) (tables : Vec TableOf) (w : WindowData) (f : CoreForm)

@@ -170,7 +170,7 @@ fn begun_window(alloc: Global, core: &Core, keys: &[u32]) -> Result<Window, Allo
 {
     match core {
         Core::Since(interval, left, right) => begun_since(alloc, interval, left, right, keys),
-        Core::Until(interval, left, right) => begun_until(alloc, interval, left, right),
+        Core::Until(interval, left, right) => begun_until(alloc, interval, left, right, keys),
         _ => Err(AllocError),
     }
 }
@@ -194,10 +194,11 @@ fn begun_until(
     interval: &Interval,
     left: &Core,
     right: &Core,
+    keys: &[u32],
 ) -> Result<Window, AllocError>
     requires { IsTrue (all_among (fv (meaning (node_form left.now))) (fv (meaning (node_form right.now)))) }
     ensures { IfOk result (WindowBegun (Until interval.now (node_form left.now) (node_form right.now))) }
 {
-    let state = until_state(alloc, interval, left, right)?;
+    let state = until_state(alloc, interval, left, right, keys)?;
     Ok(Window::Until(state))
 }

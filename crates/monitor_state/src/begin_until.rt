@@ -27,7 +27,7 @@ pub fn add_until(
     ensures { OnOk result (node_form whole.now ≡ Until interval.now (node_form left.now) (node_form right.now)
         → Adds (node_form whole.now ∷ []) nodes.old.items nodes.new.items) }
 {
-    let state = until_state(alloc, interval, left, right)?;
+    let state = until_state(alloc, interval, left, right, &[])?;
     let columns = whole.free_vars(alloc)?;
     add(
         Node::Until(state, Table::empty(alloc, Columns::from_vec(columns))),
@@ -35,22 +35,25 @@ pub fn add_until(
     )
 }
 
+/// The state of an UNTIL of these operands, which finds rows by the columns of `keys` at once.
 pub fn until_state(
     alloc: Global,
     interval: &Interval,
     left: &Core,
     right: &Core,
+    keys: &[u32],
 ) -> Result<UntilState, AllocError>
     requires { IsTrue (all_among (fv (meaning (node_form left.now))) (fv (meaning (node_form right.now)))) }
     ensures { IfOk result (UntilBegun interval.now (node_form left.now) (node_form right.now)) }
 {
     let left_columns = left.free_vars(alloc)?;
     let right_columns = right.free_vars(alloc)?;
-    UntilState::new(
+    UntilState::keyed(
         alloc,
         interval,
         left_columns.as_slice(),
         right_columns.as_slice(),
         is_negated(left),
+        keys,
     )
 }

@@ -1,6 +1,6 @@
 //! Windows, which are asked row by row, or by some values of rows.
 ghost use Rattle.std.specs.Prelude.{◌≡◌, IfOk, IsTrue, OnOk};
-ghost use Rattle.mfotl_model.specs.Tables.{TableOf, all_among, valuation};
+ghost use Rattle.mfotl_model.specs.Tables.{all_among, valuation};
 ghost use Rattle.monitor_state.specs.FilterFeeding.{Finds, WindowFeeds, WindowGoes, WindowSettles};
 ghost use Rattle.monitor_state.specs.WindowNode.{WindowHolds, window_columns, window_due, window_took_all};
 
@@ -89,7 +89,7 @@ pub fn pulled_of(alloc: Global, window: &mut Window, keys: &Table) -> Result<Tab
 {
     match window {
         Window::Since(state) => since_of(alloc, state, keys),
-        Window::Until(state) => until_whole(alloc, state),
+        Window::Until(state) => until_of(alloc, state, keys),
     }
 }
 
@@ -104,14 +104,14 @@ fn since_of(alloc: Global, state: &mut SinceState, keys: &Table) -> Result<Table
     Ok(found)
 }
 
-// An UNTIL gives its whole table, in which the wanted rows are.
-fn until_whole(alloc: Global, state: &mut UntilState) -> Result<Table, AllocError>
+fn until_of(alloc: Global, state: &mut UntilState, keys: &Table) -> Result<Table, AllocError>
     requires due { IsTrue (window_due (Window.Until state.old)) }
     requires all { IsTrue (window_took_all (Window.Until state.old)) }
+    requires inside { IsTrue (all_among keys.now.columns state.old.ahead.right) }
     ensures goes { OnOk result (WindowGoes (Window.Until state.old) (Window.Until state.new)) }
-    ensures finds { IfOk result (λ found. (keys : TableOf) → Finds (Window.Until state.old) keys found) }
+    ensures finds { IfOk result (Finds (Window.Until state.old) keys.now) }
 {
-    let found = state.table(alloc)?;
+    let found = state.table_of(alloc, keys)?;
     state.advance(alloc)?;
     Ok(found)
 }

@@ -23,6 +23,8 @@ use Rattle.eval_since.specs.contracts.since.SinceState as SinceState
 use Rattle.eval_since.specs.contracts.recalled.SinceData as SinceData
 use Rattle.eval_until.specs.contracts.entries.Entries as Entries
 use Rattle.eval_until.specs.contracts.start_map.StartMap as StartMap
+use Rattle.eval_until.specs.contracts.row_set.RowSet as RowSet
+use Rattle.eval_until.specs.contracts.by_key.RowsByKey as RowsByKey
 use Rattle.eval_until.specs.contracts.contents.Contents as Contents
 use Rattle.eval_until.specs.contracts.ahead.Ahead as Ahead
 use Rattle.eval_until.specs.contracts.until.UntilState as UntilState
@@ -114,8 +116,14 @@ entries_send = search base depth 30
 pub starts_send : IsSend (StartMap.the_field).row
 starts_send = search (row_send, base) depth 30
 
+pub row_set_send : IsSend (RowSet.the_field).row
+row_set_send = search (row_send, base) depth 40
+
+pub by_key_send : IsSend (RowsByKey.the_field).row
+by_key_send = search (row_send, row_set_send, base) depth 30
+
 pub contents_send : IsSend (Contents.the_field).row
-contents_send = search (row_send, starts_send, entries_send, base) depth 30
+contents_send = search (row_send, starts_send, entries_send, by_key_send, base) depth 30
 
 pub ahead_send : IsSend (Ahead.the_field).row
 ahead_send = search (contents_send, interval_send, base) depth 30

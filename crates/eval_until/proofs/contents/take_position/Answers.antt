@@ -1,6 +1,8 @@
 use Rattle.std.proofs.Common.{◌+◌, ℕ, List, length, sym, ap, ◌∙◌}
-use Rattle.mfotl_model.specs.Tables.{all_sized}
+use Rattle.mfotl_model.specs.Tables.{all_sized, part}
 use Rattle.eval_until.specs.declared.contents.Taken.{Taken}
+use Rattle.eval_until.specs.Starts.{start_of}
+use Rattle.eval_until.proofs.ByKeyLemmas.{listed_taken}
 use Rattle.eval_until.proofs.KeepingLemmas.{all_before_taken, kept_queued, kept_taken}
 use Rattle.eval_until.proofs.contents.take_position.Goals as goal
 
@@ -27,7 +29,19 @@ returns-clause-kept c =
           ∙ c.into_rows-rights.ensures.is_table.sized;
       kept = c.requires.kept;
       breaks = c.breaks_of-breaks.ensures;
-      entries = rw (c.rows.ensures.rows, ← c.into_rows-rights.ensures.rows) at c.in_ok-add_rows.ensures.entries;
+      entries = rw (c.rows-2.ensures.rows, ← c.into_rows-rights.ensures.rows) at c.in_ok-add_rows.ensures.entries;
       some = c.in_ok-add_rows.ensures.some;
-      runs = rw c.rows-2.ensures.rows at c.in_ok-apply_left.ensures;
+      runs = rw c.rows-3.ensures.rows at c.in_ok-apply_left.ensures;
     }))
+
+pub returns-clause-listed : goal.returns-clause-listed
+returns-clause-listed c =
+    listed_taken c.args.right.now c.args.contents.now.by_key c.list_rows.new.by_key c.args.rights.rows
+    (λ u. record {
+      place = c.args.place;
+      start = start_of c.args.negated c.args.place c.args.contents.now.starts (part c.args.right.now c.args.left.now u);
+      ts = c.args.ts;
+    })
+    c.args.contents.now.rows.entries c.add_rows.new.rows.entries
+    (rw c.rows.ensures.rows at c.in_ok-list_rows.ensures) (rw c.rows-2.ensures.rows at c.in_ok-add_rows.ensures.entries)
+    c.requires.listed

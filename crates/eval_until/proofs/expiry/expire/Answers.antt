@@ -30,6 +30,7 @@ loop-front-preserved c =
           (entries_for c.loop-front.rows.entries u) (entries_for c.forget_rows.new.rows.entries u)
           (has_row q.rights.items u) (c.loop-front.invariant.rows u) (rows u);
       some = λ before. c.forget_rows.ensures.some (c.loop-front.invariant.some before);
+      listed = λ before. c.forget_rows.ensures.listed (c.loop-front.invariant.listed before);
       starts = λ w. later_more c.args.negated c.args.next (kept_start c.args.starts.now w)
           (kept_start c.loop-front.starts w) (kept_start c.forget_breaks.new.starts w)
           (has_row q.breaks.items w) (c.loop-front.invariant.starts w) (starts w);

@@ -1,5 +1,6 @@
 use Rattle.std.proofs.Common.{◌≡◌, ℕ, List, true, length}
 use Rattle.mfotl_model.specs.declared.value.Value.{Value}
+use Rattle.eval_until.specs.ByKey.{Listed}
 use Rattle.eval_until.specs.Entries.{entries_for}
 use Rattle.eval_until.specs.Keeping.{Covered, CoveredStarts, IsLater, IsThinned, NotAfter, Rising}
 use Rattle.eval_until.specs.Rules.{NoneEmpty}
@@ -10,6 +11,7 @@ abbrev pub invariant-loop-front : goal.invariant-loop-front
 invariant-loop-front l = record {
   rows : (u : List Value) → IsThinned l.next (entries_for l.fn.rows.entries u) (entries_for l.rows.entries u);
   some : NoneEmpty l.fn.rows.entries → NoneEmpty l.rows.entries;
+  listed : Listed l.right l.fn.by_key l.fn.rows.entries → Listed l.right l.by_key l.rows.entries;
   starts : (w : List Value) → IsLater l.negated l.next (kept_start l.fn.starts w)
       (kept_start l.starts w);
   covered : Covered l.queue.items l.rows.entries;

@@ -1,5 +1,5 @@
 use Rattle.std.proofs.lemmas.Grind.{common_steps}
-use Rattle.std.proofs.Common.{◌≡◌, [], Some, None, arith, sym, ap, ◌∙◌}
+use Rattle.std.proofs.Common.{◌≡◌, [], Some, None, true, arith, sym, ap, ◌∙◌}
 use Rattle.std.specs.Map.{lookup}
 use Rattle.std.specs.BTreeMap.{is_at}
 use Rattle.std.specs.Option.{unwrap_or}
@@ -7,7 +7,7 @@ use Rattle.mfotl_model.specs.Values.{row_cmp}
 use Rattle.relations.proofs.MapLemmas.{changed, nothing_there}
 use Rattle.eval_until.specs.Entries.{from_place}
 use Rattle.eval_until.proofs.EntriesLemmas.{from_none}
-use Rattle.eval_until.proofs.RowsLemmas.{empty_list, some_changed, some_left}
+use Rattle.eval_until.proofs.RowsLemmas.{empty_list, none_after, some_changed, some_left}
 use Rattle.eval_until.proofs.row_entries.forget_row.Goals as goal
 
 pub returns-in-Err-clause-entries : goal.returns-in-Err-clause-entries
@@ -27,7 +27,7 @@ returns-then-is_empty-clause-entries c = λ u.
       common_steps,
       c.in-Ok.ensures.removal.0.0 u,
       c.get_mut-entries.ensures.written c.forget.new.self,
-      c.remove.ensures.removed,
+      c.remove_entry-gone.ensures.removed,
     ))
     (empty_list c.forget.new.self (sym c.is_empty.ensures ∙ c.if-is_empty.true) ∙ c.forget.ensures
     ∙ ap (λ o. from_place c.args.next (unwrap_or o [])) is)
@@ -40,7 +40,7 @@ returns-then-is_empty-clause-some c = λ some u.
       common_steps,
       c.in-Ok.ensures.removal.0.0 u,
       c.get_mut-entries.ensures.written c.forget.new.self,
-      c.remove.ensures.removed,
+      c.remove_entry-gone.ensures.removed,
     ))
     tt (some u)
 
@@ -76,3 +76,17 @@ returns-in-Vacant-clause-entries c = λ u.
     (nothing_there c.args.row u c.args.rows.now.entries _
     (grind (arith, common_steps, c.into_key.ensures.unchanged, c.in-Ok.ensures.unchanged, c.in-Vacant.is)) none)
     (sym (from_none c.args.next) ∙ ap (λ o. from_place c.args.next (unwrap_or o [])) none)
+
+pub returns-then-is_empty-clause-gone : goal.returns-then-is_empty-clause-gone
+returns-then-is_empty-clause-gone c =
+    let gone = c.remove_entry-gone.result.0 in
+    let at : is_at (row_cmp c.args.row) gone ≡ true =
+    grind (arith, common_steps, c.in-Ok.ensures.same_key, c.remove_entry-gone.ensures.key, c.in-Occupied.is) in
+    none_after c.args.row gone c.args.rows.now.entries _ at
+    (grind (
+      arith,
+      common_steps,
+      c.in-Ok.ensures.removal.0.0 gone,
+      c.get_mut-entries.ensures.written c.forget.new.self,
+      c.remove_entry-gone.ensures.removed,
+    ))

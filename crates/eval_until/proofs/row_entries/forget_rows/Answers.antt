@@ -1,6 +1,9 @@
 use Rattle.std.proofs.Common.{rules, ◌≡◌, ◌∷◌, cond, sym, ap, ◌∙◌}
 use Rattle.mfotl_model.specs.Tables.{has_row}
 use Rattle.eval_until.specs.Entries.{entries_for, from_place}
+use Rattle.std.specs.BTreeMap.{is_at}
+use Rattle.mfotl_model.specs.Values.{row_cmp}
+use Rattle.eval_until.proofs.ByKeyLemmas.{listed_thinned}
 use Rattle.eval_until.proofs.EntriesLemmas.{from_twice}
 use Rattle.eval_until.proofs.RowsLemmas.{changed_rest}
 use Rattle.eval_until.proofs.row_entries.forget_rows.Goals as goal
@@ -12,8 +15,12 @@ loop-row-preserved c =
       entries = λ u.
           let old = entries_for c.loop-row.rows.entries u in
           changed_rest (from_place c.args.next) (from_twice c.args.next) c.in-Some.row c.next.new.self.rest.items u old
-          (entries_for c.forget_row.new.rows.entries u) (c.forget_row.ensures.entries u)
+          (entries_for c.forget_row-gone.new.rows.entries u) (c.forget_row-gone.ensures.entries u)
           ∙ ap (λ rows. cond (has_row rows u) (from_place c.args.next old) old) (sym here)
           ∙ c.loop-row.invariant.entries u;
-      some = λ old. c.forget_row.ensures.some (c.loop-row.invariant.some old);
+      some = λ old. c.forget_row-gone.ensures.some (c.loop-row.invariant.some old);
+      listed = λ old. c.unlist.ensures c.forget_row-gone.new.rows.entries c.forget_row-gone.ensures.gone
+          (listed_thinned c.args.right.now c.loop-row.by_key c.args.next (is_at (row_cmp c.in-Some.row))
+          c.loop-row.rows.entries c.forget_row-gone.new.rows.entries c.forget_row-gone.ensures.entries
+          (c.loop-row.invariant.listed old));
     }

@@ -1,6 +1,7 @@
 use Rattle.std.proofs.Common.{◌≡◌, List, cond}
 use Rattle.mfotl_model.specs.Tables.{has_row}
 use Rattle.mfotl_model.specs.declared.value.Value.{Value}
+use Rattle.eval_until.specs.ByKey.{Listed}
 use Rattle.eval_until.specs.Entries.{entries_for, from_place}
 use Rattle.eval_until.specs.Rules.{NoneEmpty}
 use Rattle.eval_until.proofs.row_entries.forget_rows.Given as goal
@@ -12,4 +13,5 @@ invariant-loop-row l = record {
       ≡ cond (has_row l.fn.table.items u) (from_place l.next (entries_for l.fn.rows.entries u))
       (entries_for l.fn.rows.entries u);
   some : NoneEmpty l.fn.rows.entries → NoneEmpty l.rows.entries;
+  listed : Listed l.right l.fn.by_key l.fn.rows.entries → Listed l.right l.by_key l.rows.entries;
 }

@@ -1,10 +1,17 @@
 use Rattle.std.proofs.Common.{subst, sym, ap, ◌∙◌}
-use Rattle.monitor_state.proofs.ResumeNodes.{until_resumed_node}
-use Rattle.monitor_state.specs.Resuming.{NodeResumed}
+use Rattle.monitor_state.proofs.ResumeNodes.{until_node_fits, until_resumed_node}
+use Rattle.monitor_state.specs.Resuming.{Matches, NodeResumed}
 use Rattle.monitor_state.specs.StateTimes.{KeptTimes}
 use Rattle.monitor_state.specs.declared.node.Node.TheVariants as node
 use Rattle.monitor_state.specs.declared.state.NodeData.TheVariants as kept
 use Rattle.monitor_state.proofs.resume_nodes.resumed_until.Goals as goal
+
+pub until_resumed-requires : goal.until_resumed-requires
+until_resumed-requires c =
+    let k : KeptTimes = record { first = c.args.first; stamps = c.args.times.now } in
+    let fits =
+    subst (Matches k (node.Until c.args.state c.args.order)) (c.in-Window.is ∙ ap kept.Window c.in-Until.is) c.requires in
+    record { rule = until_node_fits k c.args.state c.args.order c.in-Until.data fits.0 fits.1 fits.2 }
 
 pub returns : goal.returns
 returns c =

@@ -10,11 +10,14 @@ use Rattle.eval_until.proofs.ahead.Ahead.advance.Goals as goal
 pub invariant_of-self : goal.invariant_of-self
 invariant_of-self c =
     let k = c.self.inside in
-    kept_pulled k.negated k.right.items k.pulled k.taken (k.pulled + 1) k.contents.starts
-    c.expire.new.starts k.contents.rows.entries c.expire.new.rows.entries k.contents.queue.items
-    c.expire.new.queue.items c.self.invariant
-    c.expire.ensures.rows c.expire.ensures.some c.expire.ensures.starts c.expire.ensures.covered c.expire.ensures.breaks
-    c.expire.ensures.rising c.expire.ensures.fresh c.expire.ensures.after
+    record {
+      keeps = kept_pulled k.negated k.right.items k.pulled k.taken (k.pulled + 1) k.contents.starts
+          c.expire.new.starts k.contents.rows.entries c.expire.new.rows.entries k.contents.queue.items
+          c.expire.new.queue.items c.self.invariant.keeps c.expire.ensures.rows c.expire.ensures.some
+          c.expire.ensures.starts c.expire.ensures.covered c.expire.ensures.breaks c.expire.ensures.rising
+          c.expire.ensures.fresh c.expire.ensures.after;
+      listed = (rw c.as_slice-right.ensures.value at c.expire.ensures.listed) c.self.invariant.listed;
+    }
 
 pub returns-clause-met : goal.returns-clause-met
 returns-clause-met c = rw (← c.self.view_is) (

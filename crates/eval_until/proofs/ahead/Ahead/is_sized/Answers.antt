@@ -8,4 +8,4 @@ pub returns : goal.returns
 returns c = rw (← c.self.view_is) (
     let k = c.self.inside in
     sized_as (length k.right.items) k.contents.rows.entries (in_order k.contents.rows.entries)
-    (kept_in_order k.contents.rows.entries) c.self.invariant.sized)
+    (kept_in_order k.contents.rows.entries) c.self.invariant.keeps.sized)

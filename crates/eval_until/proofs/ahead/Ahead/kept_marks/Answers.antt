@@ -14,7 +14,7 @@ pub returns-clause-some : goal.returns-clause-some
 returns-clause-some c = rw (← c.self.view_is) (
     let rows = c.self.inside.contents.rows.entries in
     each_some (in_order rows) (in_order_ascends rows)
-    (some_as rows (in_order rows) (kept_in_order rows) c.self.invariant.some))
+    (some_as rows (in_order rows) (kept_in_order rows) c.self.invariant.keeps.some))
 
 pub returns-clause-ascend : goal.returns-clause-ascend
 returns-clause-ascend c = rw (← c.self.view_is) (in_order_ascends c.self.inside.contents.rows.entries)

@@ -12,7 +12,7 @@ use Rattle.eval_until.proofs.ahead.Ahead.table.Goals as goal
 
 pub from_rows-requires-clause-apart : goal.from_rows-requires-clause-apart
 from_rows-requires-clause-apart c = ap all_apart (c.in_ok-columns.ensures.ok ∙ c.as_slice.ensures.value)
-    ∙ c.self.invariant.apart
+    ∙ c.self.invariant.keeps.apart
 
 pub from_rows-requires-clause-sized : goal.from_rows-requires-clause-sized
 from_rows-requires-clause-sized c =
@@ -20,12 +20,12 @@ from_rows-requires-clause-sized c =
     ap (λ (columns : List ℕ). all_sized (length columns) c.push_met.new.out.items)
     (c.in_ok-columns.ensures.ok ∙ c.as_slice.ensures.value)
     ∙ sized_met k.interval c.args.i c.args.x (length k.right.items) k.contents.rows.entries c.push_met.new.out.items
-    c.self.invariant.sized
-    (λ u. c.in_ok-push_met.ensures.rows u
+    c.self.invariant.keeps.sized
+    (λ u there. sym (c.in_ok-push_met.ensures.rows u
     ∙ ap (λ rows. has_row rows u
     || list_any (λ e. eq_by_cmp row_cmp u e.0 && met_by k.interval c.args.i c.args.x e.1) k.contents.rows.entries)
     c.new-rows.ensures.items
-    ∙ hit_is k.interval c.args.i c.args.x u k.contents.rows.entries c.push_met.ensures.differ)
+    ∙ hit_is k.interval c.args.i c.args.x u k.contents.rows.entries c.push_met.ensures.differ) ∙ there)
 
 pub returns-clause-rows : goal.returns-clause-rows
 returns-clause-rows c = rw (← c.self.view_is) (

@@ -1,0 +1,287 @@
+-- Rows that are listed by a part of them.
+use Rattle.std.proofs.Common.{◌≡◌, ℕ, ◌+◌, ◌<◌, Bool, true, false, cond, nat_eq, ◌&&◌, ◌||◌, List, [], ◌∷◌, ◌++◌, length}
+use Rattle.std.proofs.Common.{get_or, take, Option, Some, None, refl, sym, ap, ◌∙◌, arith}
+use Rattle.std.proofs.lemmas.Bool.{and_from, and_parts, eqb-true, or_left, or_right}
+use Rattle.std.proofs.Math.Bool.{and-false, or_assoc, or-false}
+use Rattle.std.specs.BTreeMap.{is_at}
+use Rattle.std.specs.Cmp.{eq_by_cmp_equiv}
+use Rattle.std.specs.List.{list_all, list_any}
+use Rattle.std.specs.Map.{lookup}
+use Rattle.std.specs.Option.{IfSome, is_some, unwrap_or}
+use Rattle.std.specs.Ordering.{eq_by_cmp}
+use Rattle.mfotl_model.proofs.RowLemmas.{any_and_last}
+use Rattle.mfotl_model.specs.Tables.{has_row, part}
+use Rattle.mfotl_model.specs.Values.{row_cmp, row_total}
+use Rattle.mfotl_model.specs.declared.interval.Interval.{Interval}
+use Rattle.mfotl_model.specs.declared.value.Value.{Value}
+use Rattle.relations.proofs.MapLemmas.{same_row}
+use Rattle.relations.proofs.TableRows.{has_more}
+use Rattle.eval_until.specs.ByKey.{KeyedRows, Listed, is_listed, rows_at}
+use Rattle.eval_until.specs.declared.entries.Entry.{Entry}
+use Rattle.eval_until.specs.Entries.{entries_for, from_place, met_by}
+use Rattle.eval_until.specs.Rules.{NoneEmpty}
+use Rattle.eval_until.proofs.EntriesLemmas.{all_from_place}
+
+-- a change at one row of one set
+pub changed_set : (h : Bool → Bool) (key row q u : List Value) (old new : List (List Value × List (List Value)))
+    (g e : List (List Value)) (w : Option (List (List Value)))
+    → lookup (is_at (row_cmp q)) new ≡ cond (is_at (row_cmp key) q) w (lookup (is_at (row_cmp q)) old)
+    → unwrap_or w [] ≡ g
+    → e ≡ rows_at old key
+    → has_row g u ≡ cond (is_at (row_cmp row) u) (h (has_row e u)) (has_row e u)
+    → has_row (rows_at new q) u ≡ cond (is_at (row_cmp key) q && is_at (row_cmp row) u)
+    (h (has_row (rows_at old q) u)) (has_row (rows_at old q) u)
+changed_set h key row q u old new g e w outer is was inner =
+    ap (λ o. has_row (unwrap_or o []) u) outer ∙ by (is_at (row_cmp key) q) refl
+  where
+    by : (b : Bool) → is_at (row_cmp key) q ≡ b
+        → has_row (unwrap_or (cond b w (lookup (is_at (row_cmp q)) old)) []) u
+        ≡ cond (b && is_at (row_cmp row) u) (h (has_row (rows_at old q) u)) (has_row (rows_at old q) u)
+    by true at =
+        ap (λ rows. has_row rows u) is ∙ inner
+        ∙ ap (λ rows. cond (is_at (row_cmp row) u) (h (has_row rows u)) (has_row rows u))
+        (was ∙ ap (rows_at old) (same_row key q at))
+    by false at = refl
+
+-- an empty set has no row to lose
+pub none_out : (b : Bool) → false ≡ cond b false false
+none_out true = refl
+none_out false = refl
+
+pub or_cond : (a b : Bool) → (a || b) ≡ cond b true a
+or_cond true true = refl
+or_cond true false = refl
+or_cond false true = refl
+or_cond false false = refl
+
+pub no_rows : (rows : List (List Value)) → nat_eq (length rows) 0 ≡ true → [] ≡ rows
+no_rows [] e = refl
+no_rows (x ∷ xs) e = absurd (let w : length (x ∷ xs) ≡ 0 = eqb-true (length (x ∷ xs)) 0 e in omega arith)
+
+-- where a row was put into the set of its part, it is listed, and each other as before
+pub listed_more : (right columns : List ℕ) (row u : List Value) (old new : List (List Value × List (List Value)))
+    → ((q v : List Value) → has_row (rows_at new q) v
+    ≡ cond (is_at (row_cmp (part right columns row)) q && is_at (row_cmp row) v) true (has_row (rows_at old q) v))
+    → is_listed right (record { columns = columns; sets = new }) u
+    ≡ (is_listed right (record { columns = columns; sets = old }) u || is_at (row_cmp row) u)
+listed_more right columns row u old new step =
+    ap (λ b. nat_eq (length columns) 0 || b) (step (part right columns u) u)
+    ∙ by (is_at (row_cmp row) u) refl
+  where
+    there : (n a : Bool) → (n || true) ≡ ((n || a) || true)
+    there true a = refl
+    there false true = refl
+    there false false = refl
+
+    apart : (n a b : Bool) → (n || cond (b && false) true a) ≡ ((n || a) || false)
+    apart n a true = sym (or-false (n || a))
+    apart n a false = sym (or-false (n || a))
+
+    by : (b : Bool) → is_at (row_cmp row) u ≡ b → (nat_eq (length columns) 0
+        || cond (is_at (row_cmp (part right columns row)) (part right columns u) && b) true
+        (has_row (rows_at old (part right columns u)) u))
+        ≡ ((nat_eq (length columns) 0 || has_row (rows_at old (part right columns u)) u) || b)
+    by true at =
+        ap (λ c. nat_eq (length columns) 0 || cond (c && true) true (has_row (rows_at old (part right columns u)) u))
+        (ap (λ r. is_at (row_cmp (part right columns row)) (part right columns r)) (sym (same_row row u at))
+        ∙ (eq_by_cmp_equiv row_total).refl (part right columns row))
+        ∙ there (nat_eq (length columns) 0) (has_row (rows_at old (part right columns u)) u)
+    by false at =
+        apart (nat_eq (length columns) 0) (has_row (rows_at old (part right columns u)) u)
+        (is_at (row_cmp (part right columns row)) (part right columns u))
+
+-- where it was taken out of that set, it isn't
+pub listed_gone : (right columns : List ℕ) (row : List Value) (old new : List (List Value × List (List Value)))
+    → ((q v : List Value) → has_row (rows_at new q) v
+    ≡ cond (is_at (row_cmp (part right columns row)) q && is_at (row_cmp row) v) false (has_row (rows_at old q) v))
+    → is_listed right (record { columns = columns; sets = new }) row ≡ nat_eq (length columns) 0
+listed_gone right columns row old new step =
+    let k = part right columns row in
+    ap (λ b. nat_eq (length columns) 0 || b) (step k row
+    ∙ ap (λ b. cond (b && is_at (row_cmp row) row) false (has_row (rows_at old k) row))
+    ((eq_by_cmp_equiv row_total).refl k)
+    ∙ ap (λ b. cond b false (has_row (rows_at old k) row)) ((eq_by_cmp_equiv row_total).refl row))
+    ∙ or-false (nat_eq (length columns) 0)
+
+-- and each other is as before
+pub listed_others : (right columns : List ℕ) (row u : List Value) (old new : List (List Value × List (List Value)))
+    → ((q v : List Value) → has_row (rows_at new q) v
+    ≡ cond (is_at (row_cmp (part right columns row)) q && is_at (row_cmp row) v) false (has_row (rows_at old q) v))
+    → is_at (row_cmp row) u ≡ false
+    → is_listed right (record { columns = columns; sets = new }) u
+    ≡ is_listed right (record { columns = columns; sets = old }) u
+listed_others right columns row u old new step apart =
+    ap (λ b. nat_eq (length columns) 0 || b) (step (part right columns u) u
+    ∙ ap (λ b. cond (is_at (row_cmp (part right columns row)) (part right columns u) && b) false
+    (has_row (rows_at old (part right columns u)) u)) apart
+    ∙ by (is_at (row_cmp (part right columns row)) (part right columns u)))
+  where
+    by : (b : Bool) → cond (b && false) false (has_row (rows_at old (part right columns u)) u)
+        ≡ has_row (rows_at old (part right columns u)) u
+    by true = refl
+    by false = refl
+
+-- one row of a table more
+pub list_more : (table : List (List Value)) (i : ℕ) (x u : List Value) (old cur new : Bool) → i < length table
+    → x ≡ get_or table i x
+    → cur ≡ (old || has_row (take i table) u) → new ≡ (cur || is_at (row_cmp x) u)
+    → new ≡ (old || has_row (take (i + 1) table) u)
+list_more table i x u old cur new low e before step =
+    step ∙ ap (λ b. b || is_at (row_cmp x) u) before
+    ∙ or_assoc old (has_row (take i table) u) (is_at (row_cmp x) u)
+    ∙ ap (λ b. old || b) (sym (has_more table i x u low e))
+
+-- a row that is listed already is left out
+pub list_same : (is : List Value → Bool) (x u : List Value) → is x ≡ true → is u ≡ (is u || is_at (row_cmp x) u)
+list_same is x u there = by (is_at (row_cmp x) u) refl
+  where
+    or_true : (b : Bool) → (b || true) ≡ true
+    or_true true = refl
+    or_true false = refl
+
+    by : (b : Bool) → is_at (row_cmp x) u ≡ b → is u ≡ (is u || b)
+    by true at = ap is (sym (same_row x u at)) ∙ there ∙ sym (or_true (is u))
+    by false at = sym (or-false (is u))
+
+-- a row that has entries is listed
+pub kept_listed : (right : List ℕ) (keyed : KeyedRows) (rows : List (List Value × List Entry)) (row : List Value)
+    → NoneEmpty rows → Listed right keyed rows → is_some (lookup (is_at (row_cmp row)) rows) ≡ true
+    → is_listed right keyed row ≡ true
+kept_listed right keyed rows row some listed there =
+    by (lookup (is_at (row_cmp row)) rows) (some row) (listed row) there
+  where
+    by : (o : Option (List Entry)) → IfSome o (λ es. 0 < length es)
+        → list_all (λ e. is_listed right keyed row) (unwrap_or o []) ≡ true → is_some o ≡ true
+        → is_listed right keyed row ≡ true
+    by None l all is = absurd (let w : false ≡ true = is in cc)
+    by (Some []) l all is = absurd (omega (arith, l))
+    by (Some (e ∷ es)) l all is =
+        (and_parts (is_listed right keyed row) (list_all (λ f. is_listed right keyed row) es) all).0
+
+pub each_of : (b : Bool) (es : List Entry) → b ≡ true → list_all (λ e. b) es ≡ true
+each_of b [] is = refl
+each_of b (e ∷ es) is = and_from b (list_all (λ f. b) es) is (each_of b es is)
+
+-- after a table was taken, whose rows were listed
+pub listed_taken : (right : List ℕ) (old new : KeyedRows) (table : List (List Value)) (entry : List Value → Entry)
+    (rows more : List (List Value × List Entry))
+    → ((u : List Value) → is_listed right new u ≡ (is_listed right old u || has_row table u))
+    → ((u : List Value) → entries_for more u
+    ≡ cond (has_row table u) (entries_for rows u ++ entry u ∷ []) (entries_for rows u))
+    → Listed right old rows → Listed right new more
+listed_taken right old new table entry rows more lists takes listed u =
+    ap (list_all (λ e. is_listed right new u)) (takes u) ∙ by (has_row table u) (lists u)
+  where
+    by : (b : Bool) → is_listed right new u ≡ (is_listed right old u || b)
+        → list_all (λ e. is_listed right new u) (cond b (entries_for rows u ++ entry u ∷ []) (entries_for rows u)) ≡ true
+    by true is =
+        each_of (is_listed right new u) (entries_for rows u ++ entry u ∷ [])
+        (is ∙ or_right (is_listed right old u) true refl)
+    by false is =
+        ap (λ b. list_all (λ e. b) (entries_for rows u)) (is ∙ or-false (is_listed right old u)) ∙ listed u
+
+-- what is left of the entries of some rows, from a position on
+pub listed_thinned : (right : List ℕ) (keyed : KeyedRows) (next : ℕ) (at : List Value → Bool)
+    (old new : List (List Value × List Entry))
+    → ((u : List Value) → entries_for new u ≡ cond (at u) (from_place next (entries_for old u)) (entries_for old u))
+    → Listed right keyed old → Listed right keyed new
+listed_thinned right keyed next at old new step listed u = ap (list_all (λ e. is_listed right keyed u)) (step u)
+    ∙ by (at u)
+  where
+    by : (b : Bool) → list_all (λ e. is_listed right keyed u)
+        (cond b (from_place next (entries_for old u)) (entries_for old u)) ≡ true
+    by true = all_from_place (λ e. is_listed right keyed u) next (entries_for old u) (listed u)
+    by false = listed u
+
+-- after a row of which nothing is kept was taken out
+pub listed_without : (right : List ℕ) (old new : KeyedRows) (rows : List (List Value × List Entry)) (row : List Value)
+    → entries_for rows row ≡ []
+    → ((u : List Value) → is_at (row_cmp row) u ≡ false → is_listed right new u ≡ is_listed right old u)
+    → Listed right old rows → Listed right new rows
+listed_without right old new rows row none others listed u = by (is_at (row_cmp row) u) refl
+  where
+    by : (b : Bool) → is_at (row_cmp row) u ≡ b → list_all (λ e. is_listed right new u) (entries_for rows u) ≡ true
+    by true at =
+        ap (list_all (λ e. is_listed right new u)) (ap (entries_for rows) (sym (same_row row u at)) ∙ none)
+    by false at = ap (λ b. list_all (λ e. b) (entries_for rows u)) (others u at) ∙ listed u
+
+-- a row of which nothing is kept needn't be listed
+pub listed_if_kept : (rows : List (List Value × List Entry)) (u : List Value) (b : Bool)
+    → (list_any (λ e. eq_by_cmp row_cmp u e.0) rows ≡ true → b ≡ true)
+    → list_all (λ e. b) (entries_for rows u) ≡ true
+listed_if_kept [] u b if_kept = refl
+listed_if_kept (e ∷ es) u b if_kept = by (is_at (row_cmp u) e.0) refl (listed_if_kept es u b)
+  where
+    by : (c : Bool) → is_at (row_cmp u) e.0 ≡ c
+        → ((list_any (λ f. eq_by_cmp row_cmp u f.0) es ≡ true → b ≡ true)
+        → list_all (λ f. b) (entries_for es u) ≡ true)
+        → list_all (λ f. b) (unwrap_or (cond c (Some e.1) (lookup (is_at (row_cmp u)) es)) []) ≡ true
+    by true at rest =
+        each_of b e.1 (if_kept (or_left (eq_by_cmp row_cmp u e.0) (list_any (λ f. eq_by_cmp row_cmp u f.0) es) at))
+    by false at rest =
+        rest (λ there. if_kept
+        (ap (λ c. c || list_any (λ f. eq_by_cmp row_cmp u f.0) es) at ∙ there))
+
+-- one of the rows that are kept was listed
+pub list_next : (row u : List Value) (cur new rest : Bool) → new ≡ (cur || is_at (row_cmp row) u)
+    → (cur || (eq_by_cmp row_cmp u row || rest)) ≡ true → (new || rest) ≡ true
+list_next row u cur new rest step before =
+    ap (λ b. b || rest) step ∙ or_assoc cur (is_at (row_cmp row) u) rest
+    ∙ ap (λ b. cur || (b || rest)) (sym ((eq_by_cmp_equiv row_total).symm u row)) ∙ before
+
+-- by no columns none need be listed
+pub none_listed : (right : List ℕ) (keyed : KeyedRows) (rows : List (List Value × List Entry)) → keyed.columns ≡ []
+    → Listed right keyed rows
+none_listed right keyed rows none u =
+    each_of (is_listed right keyed u) (entries_for rows u)
+    (or_left (nat_eq (length keyed.columns) 0) (has_row (rows_at keyed.sets (part right keyed.columns u)) u)
+    (ap (λ (columns : List ℕ). nat_eq (length columns) 0) none))
+
+-- what holds of one of the keys holds of some
+any_at : (p : List Value → Bool) (k : List Value) (keys : List (List Value)) → has_row keys k ≡ true → p k ≡ true
+    → list_any p keys ≡ true
+any_at p k [] asked passes = absurd (let w : false ≡ true = asked in cc)
+any_at p k (q ∷ keys) asked passes = by (is_at (row_cmp k) q) refl asked (λ there. any_at p k keys there passes)
+  where
+    by : (b : Bool) → is_at (row_cmp k) q ≡ b → (b || has_row keys k) ≡ true
+        → (has_row keys k ≡ true → list_any p keys ≡ true) → (p q || list_any p keys) ≡ true
+    by true at there rest = or_left (p q) (list_any p keys) (ap p (sym (same_row k q at)) ∙ passes)
+    by false at there rest = or_right (p q) (list_any p keys) (rest there)
+
+-- a row that meets UNTIL is listed
+met_listed : (interval : Interval) (i x : ℕ) (b : Bool) (es : List Entry) → met_by interval i x es ≡ true
+    → list_all (λ e. b) es ≡ true → b ≡ true
+met_listed interval i x b [] met all = absurd (let w : false ≡ true = met in cc)
+met_listed interval i x b (e ∷ es) met all = (and_parts b (list_all (λ f. b) es) all).0
+
+-- of a row whose part is asked for, what is looked up by all keys is what the row's own entries give
+pub found_met : (interval : Interval) (i x : ℕ) (right columns : List ℕ) (keyed : KeyedRows)
+    (rows : List (List Value × List Entry)) (keys : List (List Value)) (u : List Value) → Listed right keyed rows
+    → nat_eq (length keyed.columns) 0 ≡ false → columns ≡ keyed.columns → has_row keys (part right columns u) ≡ true
+    → list_any (λ k. has_row (rows_at keyed.sets k) u && met_by interval i x (entries_for rows u)) keys
+    ≡ met_by interval i x (entries_for rows u)
+found_met interval i x right columns keyed rows keys u listed some same asked =
+    any_and_last (met_by interval i x (entries_for rows u)) (λ k. has_row (rows_at keyed.sets k) u) keys
+    ∙ by (met_by interval i x (entries_for rows u)) refl
+  where
+    own : met_by interval i x (entries_for rows u) ≡ true
+        → has_row (rows_at keyed.sets (part right keyed.columns u)) u ≡ true
+    own met =
+        sym (ap (λ b. b || has_row (rows_at keyed.sets (part right keyed.columns u)) u) some)
+        ∙ met_listed interval i x (is_listed right keyed u) (entries_for rows u) met (listed u)
+
+    by : (b : Bool) → met_by interval i x (entries_for rows u) ≡ b
+        → (list_any (λ k. has_row (rows_at keyed.sets k) u) keys && b) ≡ b
+    by true met =
+        ap (λ c. c && true) (any_at (λ k. has_row (rows_at keyed.sets k) u) (part right keyed.columns u) keys
+        (ap (λ cs. has_row keys (part right cs u)) (sym same) ∙ asked) (own met))
+    by false met = and-false (list_any (λ k. has_row (rows_at keyed.sets k) u) keys)
+
+-- what is found meets UNTIL
+pub found_meets : (interval : Interval) (i x : ℕ) (sets : List (List Value × List (List Value)))
+    (rows : List (List Value × List Entry)) (keys : List (List Value)) (u : List Value)
+    → list_any (λ k. has_row (rows_at sets k) u && met_by interval i x (entries_for rows u)) keys ≡ true
+    → met_by interval i x (entries_for rows u) ≡ true
+found_meets interval i x sets rows keys u found =
+    (and_parts (list_any (λ k. has_row (rows_at sets k) u) keys) (met_by interval i x (entries_for rows u))
+    (sym (any_and_last (met_by interval i x (entries_for rows u)) (λ k. has_row (rows_at sets k) u) keys) ∙ found)).1
