@@ -19,7 +19,7 @@ use Rattle.mfotl_model.specs.Exact.{Exact}
 use Rattle.mfotl_model.specs.FreeVariables.{fv}
 use Rattle.mfotl_model.specs.Regions.{near_of}
 use Rattle.mfotl_model.specs.Strategies.{Strategy, owner_of, workers_of}
-use Rattle.mfotl_model.specs.Tables.{TableOf, has, has_row, valuation}
+use Rattle.mfotl_model.specs.Tables.{TableOf, all_sized, has, has_row, valuation}
 use Rattle.mfotl_model.specs.Values.{row_cmp, row_total}
 use Rattle.mfotl_model.specs.Violations.{all_rows}
 use Rattle.mfotl_model.specs.declared.event.TimePoint.{TimePoint}
@@ -168,6 +168,18 @@ pub owned_same : (c : CoreForm) (s : Strategy) (k : ℕ) (log : List TimePoint) 
     → owned_by s k table.rows ≡ owned_by s k (violations_at c log i)
 unfolding violations_at
 owned_same c s k log i table is exact table_is = same_owned c s k log i table is exact table_is
+
+-- ---- one size
+
+-- among rows of one size the test of the size changes nothing
+pub owned_sized : (s : Strategy) (k n : ℕ) (rows : List (List Value)) → all_sized n rows ≡ true
+    → filter (λ row. nat_eq (length row) n && nat_eq (owner s row) k) rows ≡ owned_by s k rows
+owned_sized s k n [] h = refl
+owned_sized s k n (row ∷ rows) h =
+    let both = and_parts (nat_eq (length row) n) (all_sized n rows) h in
+    let sized : List Value → Bool = (λ r. nat_eq (length r) n && nat_eq (owner s r) k) in
+    ap (λ b. cond (b && nat_eq (owner s row) k) (row ∷ filter sized rows) (filter sized rows)) both.0
+    ∙ ap (λ ys. cond (nat_eq (owner s row) k) (row ∷ ys) ys) (owned_sized s k n rows both.1)
 
 -- ---- one worker
 

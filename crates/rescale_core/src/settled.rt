@@ -12,7 +12,7 @@ use mfotl_model::{Row, RowList};
 use monitor_state::{Monitor, Tables};
 use relations::Table;
 use slice_strategy::{Slicer, Strategy};
-use std::alloc::{AllocError, Global};
+use std::alloc::AllocError;
 use verdict_merge::Rows;
 
 /// The table of a settled position, with its number and its timestamp.
@@ -25,7 +25,6 @@ pub(crate) struct Settled {
 
 /// Says of the positions from the first on, whose tables these are one after the other, what the worker owns.
 pub(crate) fn give_tables(
-    alloc: Global,
     monitor: &Monitor,
     strategy: &Strategy,
     worker: u32,
@@ -46,7 +45,7 @@ pub(crate) fn give_tables(
     while let Some(table) = next_table(&mut tables) {
         let ts = monitor.time_at(point);
         let settled = Settled { point, ts, table };
-        give_rows(alloc, strategy, worker, generation, settled, outs)?;
+        give_rows(strategy, worker, generation, settled, outs)?;
         point += 1;
     }
     Ok(())
@@ -65,7 +64,6 @@ fn next_table(tables: &mut Tables) -> Option<Table>
 
 // Says of a position what the worker owns.
 fn give_rows(
-    alloc: Global,
     strategy: &Strategy,
     worker: u32,
     generation: u64,
@@ -78,7 +76,7 @@ fn give_rows(
         outs.new.items ≡ outs.old.items ++ row_out strategy.now worker generation settled ∷ []) }
 {
     let Settled { point, ts, table } = settled;
-    let rows = owned(alloc, strategy, worker, table)?;
+    let rows = owned(strategy, worker, table);
     outs.reserve(1)?;
     outs.push_reserved(Out::Rows(Rows {
         point,
@@ -91,39 +89,26 @@ fn give_rows(
 }
 
 // Those rows of the table that the worker owns.
-fn owned(
-    alloc: Global,
-    strategy: &Strategy,
-    worker: u32,
-    table: Table,
-) -> Result<RowList, AllocError>
+fn owned(strategy: &Strategy, worker: u32, table: Table) -> RowList
     requires { length table.columns ≡ length strategy.now }
-    ensures is_table { IfOk result (λ _. IsTable table.columns table.rows) }
-    ensures owned { IfOk result (λ rows. rows ≡ owned_by strategy.now worker table.rows) }
+    ensures is_table { IsTable table.columns table.rows }
+    ensures owned { result ≡ owned_by strategy.now worker table.rows }
 {
-    kept(alloc, strategy, worker, table.into_rows())
+    let width = table.columns().len();
+    kept(strategy, worker, width, table.into_rows())
 }
 
-// Those of the rows that the worker owns.
-fn kept(
-    alloc: Global,
-    strategy: &Strategy,
-    worker: u32,
-    rows: Vec<Row>,
-) -> Result<RowList, AllocError>
-    requires { all_sized (length strategy.now) rows.items ≡ true }
-    ensures { IfOk result (λ kept. kept ≡ owned_by strategy.now worker rows.items) }
+// Those of the rows, which all have this width, that the worker owns.
+fn kept(strategy: &Strategy, worker: u32, width: usize, mut rows: Vec<Row>) -> RowList
+    requires width { width ≡ length strategy.now }
+    requires sized { all_sized (length strategy.now) rows.items ≡ true }
+    ensures { result ≡ owned_by strategy.now worker rows.items }
 {
     if worker == 0 && strategy.workers() == 1 {
-        return Ok(RowList::new(rows));
+        return RowList::new(rows);
     }
-    let mut kept = Vec::new(alloc);
-    for row in rows {
-        if is_owner(strategy, worker, &row) {
-            kept.push(row)?;
-        }
-    }
-    Ok(RowList::new(kept))
+    rows.retain(|row| row.values().len() == width && is_owner(strategy, worker, row));
+    RowList::new(rows)
 }
 
 // Whether the row belongs to the worker.

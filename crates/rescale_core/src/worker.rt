@@ -85,7 +85,6 @@ impl Worker {
         let first = monitor.given();
         let tables = monitor.step(alloc, &point)?;
         give_tables(
-            alloc,
             monitor,
             strategy,
             self.number,
