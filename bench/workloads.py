@@ -215,6 +215,12 @@ def approvals_with_drafts(draw, events):
         yield now, [event(draw.choice(kinds), draw.randrange(5000)) for _ in range(size)]
 
 
+def alarms_with_answers(draw, events):
+    for _, now in zip(batches(events, 1), clock(draw, 3)):
+        yield now, [event("answer", draw.randrange(1000), draw.randrange(100)) if draw.randrange(100)
+                    else event("alarm", draw.randrange(1000))]
+
+
 def bursts(draw, events):
     now = 0
     kinds = ["request"] * 10 + ["grant"] * 9 + ["drop"]
@@ -287,6 +293,8 @@ WORKLOADS = {
                                  "a window between two atoms", approvals_with_drafts, only_asked=True),
     "approved-first": Workload(REPORTS, "ONCE[0,700] approve(x) OR NOT publish(x)",
                                "a window before its atom", approvals_one_by_one, only_asked=True),
+    "answers-ahead": Workload("alarm(int) answer(int,int)", "NOT (alarm(x) AND EVENTUALLY[0,500] answer(x,y))",
+                              "a window ahead that few time-points ask, by key", alarms_with_answers, only_asked=True),
 }
 
 MEASURED = [name for name, workload in WORKLOADS.items() if not workload.only_asked]
