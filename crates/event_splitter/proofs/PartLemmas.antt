@@ -3,14 +3,11 @@ use Rattle.std.proofs.Common.{◌≡◌, ◌∙◌, ap, ap₂, sym, refl, arith,
 use Rattle.std.proofs.Common.{◌&&◌, List, [], ◌∷◌, ◌++◌, map, length, replicate, take, drop, append-nil}
 use Rattle.std.proofs.lemmas.List.{drop_all, take_all}
 use Rattle.std.proofs.lemmas.List.Elements.{filter-append}
-use Rattle.std.proofs.lemmas.List.Kept.{IsStrictlySortedBy-filter}
-use Rattle.std.proofs.lemmas.Map.Lookups.{btree_set_from_contains}
-use Rattle.std.proofs.lemmas.Map.Views.{any-filter_same, tells_apart}
-use Rattle.std.specs.BTreeSet.{BTreeSet, insert_key}
+use Rattle.std.specs.BTreeSet.{insert_key}
 use Rattle.std.specs.List.{filter, flat_map, list_any, range_with_len}
-use Rattle.std.specs.Ordering.{eq_by_cmp}
 use Rattle.std.specs.Cmp.{both_ways}
-use Rattle.mfotl_model.proofs.AscendingLemmas.{any_ascending, insert_behind, sorted_ascending}
+use Rattle.mfotl_model.proofs.AscendingLemmas.{insert_behind}
+use Rattle.mfotl_model.proofs.EventLemmas.{events_filtered}
 use Rattle.mfotl_model.proofs.LogicLemmas.{among_distinct, any_alike, any_map, funext, any_filter}
 use Rattle.mfotl_model.proofs.RowLemmas.{event_exact}
 use Rattle.mfotl_model.proofs.ColumnLemmas.{read_own}
@@ -26,23 +23,6 @@ use Rattle.mfotl_model.specs.declared.event.TimePoint.{TimePoint}
 use Rattle.mfotl_model.specs.declared.term.Atom.{Atom as OneAtom}
 use Rattle.event_splitter.specs.Parts.{given_to, with_event}
 use Rattle.event_splitter.specs.Readings.{is_near, reading_of, readings_of, some_near}
-
--- events of a kind come out in order as those of the kind do
-pub ascending_filter : (p : Event → Bool) (xs : List Event)
-    → ascending event_cmp (filter p xs) ≡ filter p (ascending event_cmp xs)
-ascending_filter p xs =
-    let left : BTreeSet Event = record { keys = ascending event_cmp (filter p xs) } in
-    let right : BTreeSet Event = record { keys = filter p (ascending event_cmp xs) } in
-    btree_set_from_contains event_total left right
-    (sorted_ascending event_total event_exact (filter p xs))
-    (IsStrictlySortedBy-filter event_cmp p (ascending event_cmp xs) (sorted_ascending event_total event_exact xs))
-    (λ q. any_ascending event_total event_exact (eq_by_cmp event_cmp q) (filter p xs)
-    ∙ any-filter_same (eq_by_cmp event_cmp q) p (p q)
-    (λ k h. ap p (sym (tells_apart event_exact q k h))) xs
-    ∙ ap (λ b. p q && b) (sym (any_ascending event_total event_exact (eq_by_cmp event_cmp q) xs))
-    ∙ sym (any-filter_same (eq_by_cmp event_cmp q) p (p q)
-    (λ k h. ap p (sym (tells_apart event_exact q k h))) (ascending event_cmp xs)))
-    event_exact
 
 module _ (free : List ℕ) (near : Region) (passes : Passes free near) where
   -- a region doesn't ask how often the variables stand there
@@ -75,11 +55,11 @@ module _ (free : List ℕ) (near : Region) (passes : Passes free near) where
       (slice near atoms (ascending event_cmp events))
   slice_more atoms events event =
       let some : Event → Bool = λ e. list_any (sees near e) atoms in
-      sym (ascending_filter some (events ++ event ∷ []))
+      sym (events_filtered some (events ++ event ∷ []))
       ∙ ap (ascending event_cmp) (filter-append some events (event ∷ []))
       ∙ by (some event)
       ∙ ap₂ (λ b db. cond b (insert_key event_cmp db event) db) (sym (near_sees atoms event))
-      (ascending_filter some events)
+      (events_filtered some events)
     where
       kept : List Event
       kept = filter (λ e. list_any (sees near e) atoms) events

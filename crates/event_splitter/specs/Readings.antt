@@ -10,10 +10,6 @@ use Rattle.mfotl_model.specs.declared.term.Atom.{Atom as OneAtom}
 use Rattle.mfotl_model.specs.declared.value.Value.{Value}
 use Rattle.slice_strategy.specs.Slicers.{NoneFrom, end_of}
 
--- whether some atom stands for the event
-abbrev pub is_seen : List OneAtom → Event → Bool
-is_seen atoms event = list_any (λ atom. is_match atom event) atoms
-
 -- the variables of an atom, as often as they stand there, and the value of each
 pub record ReadingOf : Type 0 where
   pub columns : List ℕ

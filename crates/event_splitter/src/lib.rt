@@ -6,4 +6,4 @@ mod reading;
 mod spread;
 mod time_point;
 
-pub use time_point::{is_blank, is_whole, split};
+pub use time_point::{only_part, split};

@@ -1,13 +1,11 @@
 //! Time-points split among workers.
-ghost use Rattle.std.specs.Prelude.{◌≡◌, ◌∷◌, [], IfOk, not, replicate, true};
-ghost use Rattle.std.specs.List.{list_all, list_any};
+ghost use Rattle.std.specs.Prelude.{◌≡◌, ◌∷◌, [], IfOk, replicate};
 ghost use Rattle.monitorable.specs.Atoms.{atoms_of};
 ghost use Rattle.monitorable.specs.Cores.{core_form};
 ghost use Rattle.event_splitter.specs.Parts.{parts_for};
-ghost use Rattle.event_splitter.specs.Readings.{is_seen};
 
 use crate::spread::give_all;
-use mfotl_model::{Atom, Db, Event, TimePoint};
+use mfotl_model::{Db, TimePoint};
 use monitorable::Core;
 use slice_strategy::Slicer;
 use std::alloc::{AllocError, Global};
@@ -42,52 +40,15 @@ pub fn split<S: Slicer>(
     Ok(points)
 }
 
-// Whether some atom stands for the event.
-fn is_seen(atoms: &[Atom], event: &Event) -> bool
-    ensures { result ≡ is_seen atoms.now event.now }
+/// The part of a time-point for the one worker that there is: the events that some atom stands for. They stay where
+/// they are, and it takes no memory.
+pub fn only_part<S: Slicer>(core: &Core, _slicer: &S, point: TimePoint) -> TimePoint
+    requires one { S.count _slicer.now ≡ 1 }
+    ensures { parts_for (S.count _slicer.now) (S.region _slicer.now) (atoms_of (core_form core.now)) point ≡ result ∷ [] }
 {
-    atoms.iter().any(|atom| atom.is_match(event))
-}
-
-// Whether some atom stands for each of the events.
-fn all_seen(atoms: &[Atom], events: &[Event]) -> bool
-    ensures { result ≡ list_all (is_seen atoms.now) events.now }
-{
-    events.iter().all(|event| is_seen(atoms, event))
-}
-
-/// Whether the time-point as it is would be its only part: where there is one worker, and some atom stands for each of
-/// the events.
-pub fn is_whole<S: Slicer>(core: &Core, slicer: &S, point: &TimePoint) -> bool
-    ensures whole { result ≡ true → parts_for (S.count slicer.now) (S.region slicer.now) (atoms_of (core_form core.now))
-        point.now ≡ point.now ∷ [] }
-    ensures parted { parts_for (S.count slicer.now) (S.region slicer.now) (atoms_of (core_form core.now)) point.now
-        ≡ point.now ∷ [] → result ≡ true }
-{
-    slicer.workers() == 1 && all_seen(core.atoms(), point.db.inserted())
-}
-
-// Whether some atom stands for some of the events.
-fn any_seen(atoms: &[Atom], events: &[Event]) -> bool
-    ensures { result ≡ list_any (is_seen atoms.now) events.now }
-{
-    events.iter().any(|event| is_seen(atoms, event))
-}
-
-// Whether no atom stands for any of the events.
-fn none_seen(atoms: &[Atom], events: &[Event]) -> bool
-    ensures { result ≡ not (list_any (is_seen atoms.now) events.now) }
-{
-    !any_seen(atoms, events)
-}
-
-/// Whether the only part of the time-point would have no event: where there is one worker, and no atom stands for any
-/// of the events.
-pub fn is_blank<S: Slicer>(core: &Core, slicer: &S, point: &TimePoint) -> bool
-    ensures blank { result ≡ true → parts_for (S.count slicer.now) (S.region slicer.now) (atoms_of (core_form core.now))
-        point.now ≡ record { ts = point.now.ts; db = [] } ∷ [] }
-    ensures parted { parts_for (S.count slicer.now) (S.region slicer.now) (atoms_of (core_form core.now)) point.now
-        ≡ record { ts = point.now.ts; db = [] } ∷ [] → result ≡ true }
-{
-    slicer.workers() == 1 && none_seen(core.atoms(), point.db.inserted())
+    let TimePoint { ts, db } = point;
+    TimePoint {
+        ts,
+        db: db.seen_by(core.atoms()),
+    }
 }

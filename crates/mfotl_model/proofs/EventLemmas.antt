@@ -27,10 +27,15 @@ pub events_moved : (events moved : List Event) → IsPermutation events moved
     → ascending event_cmp moved ≡ ascending event_cmp events
 events_moved events moved same = moved_ascending event_total event_exact events moved same
 
+-- the events that pass a test among some are those of their set
+pub events_filtered : (p : Event → Bool) (events : List Event)
+    → ascending event_cmp (filter p events) ≡ filter p (ascending event_cmp events)
+events_filtered p events = filter_ascending event_total event_exact p events
+
 -- the events of a predicate among some are those of their set
 pub events_of_pred : (pred : ℕ) (events : List Event)
     → ascending event_cmp (filter (has_pred pred) events) ≡ filter (has_pred pred) (ascending event_cmp events)
-events_of_pred pred events = filter_ascending event_total event_exact (has_pred pred) events
+events_of_pred pred events = events_filtered (has_pred pred) events
 
 -- a test finds among the events in order what it finds among them
 pub any_event : (p : Event → Bool) (events : List Event)

@@ -17,9 +17,13 @@ among x variables = list_any (nat_eq x) variables
 abbrev pub without : ℕ → List ℕ → List ℕ
 without x variables = filter (λ y. not (nat_eq y x)) variables
 
+-- those of the variables ys that are none of xs
+abbrev pub others : List ℕ → List ℕ → List ℕ
+others xs ys = filter (λ y. not (among y xs)) ys
+
 -- the variables of both lists: first those of xs, then those of ys that are none of xs
 abbrev pub joined : List ℕ → List ℕ → List ℕ
-joined xs ys = xs ++ filter (λ y. not (among y xs)) ys
+joined xs ys = xs ++ others xs ys
 
 -- each variable once, at its first place
 abbrev pub distinct : List ℕ → List ℕ

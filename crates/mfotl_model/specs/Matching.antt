@@ -2,7 +2,7 @@
 -- rows that they give.
 use Rattle.std.specs.Prelude.{ℕ, Bool, false, nat_eq, List, map, pos, Option, option_and_then, position, slice_get}
 use Rattle.std.specs.Prelude.{unwrap_or}
-use Rattle.std.specs.List.{filter}
+use Rattle.std.specs.List.{filter, list_any}
 use Rattle.std.specs.Ordering.{eq_by_cmp}
 use Rattle.mfotl_model.specs.Events.{event_cmp}
 use Rattle.mfotl_model.specs.Satisfaction.{Valuation, event_of}
@@ -39,6 +39,10 @@ reads atom event = read_off atom.args event.args
 -- whether the atom stands for the event, where its variables are what it reads off the event
 unfoldable pub is_match : OneAtom → Event → Bool
 is_match atom event = eq_by_cmp event_cmp (event_of (reads atom event) atom) event
+
+-- whether some of the atoms stands for the event
+abbrev pub is_seen : List OneAtom → Event → Bool
+is_seen atoms event = list_any (λ atom. is_match atom event) atoms
 
 -- the values of the columns that are read off the event
 abbrev pub row_read : Query → Event → List Value

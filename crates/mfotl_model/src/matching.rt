@@ -2,7 +2,7 @@
 ghost use Rattle.std.specs.Prelude.{◌≡◌, IfOk, option_map, position};
 ghost use Rattle.std.specs.List.{list_all, zip};
 ghost use Rattle.mfotl_model.specs.AtomSteps.{give_back, stands_for};
-ghost use Rattle.mfotl_model.specs.Matching.{first_value, is_match, is_variable};
+ghost use Rattle.mfotl_model.specs.Matching.{first_value, is_match, is_seen, is_variable};
 ghost use Rattle.mfotl_model.specs.Matching.{read_off, row_read};
 
 use crate::event::Event;
@@ -53,6 +53,13 @@ impl Atom {
         }
         Ok(row)
     }
+}
+
+/// Whether some of the atoms stands for the event.
+pub(crate) fn is_seen(atoms: &[Atom], event: &Event) -> bool
+    ensures { result ≡ is_seen atoms.now event.now }
+{
+    atoms.iter().any(|atom| atom.is_match(event))
 }
 
 // the first place where the terms have the variable

@@ -1,7 +1,6 @@
 //! Lists of variables, by number: those of terms, and those of two lists.
-ghost use Rattle.std.specs.Prelude.{◌≡◌, [], ◌∷◌, not, IfOk, OnOk};
-ghost use Rattle.std.specs.List.{filter};
-ghost use Rattle.mfotl_model.specs.FreeVariables.{among, joined, variable_in, variables_in, without};
+ghost use Rattle.std.specs.Prelude.{◌≡◌, [], ◌∷◌, IfOk, OnOk};
+ghost use Rattle.mfotl_model.specs.FreeVariables.{among, joined, others, variable_in, variables_in, without};
 
 use crate::term::{Atom, Comparison, Term};
 use std::alloc::{AllocError, Global};
@@ -37,7 +36,7 @@ pub fn is_among(variable: u32, vars: &[u32]) -> bool
 
 /// Those of `more` that are none of `vars`.
 pub fn others(alloc: Global, vars: &[u32], more: &[u32]) -> Result<Vec<u32>, AllocError>
-    ensures { IfOk result (λ new. new.items ≡ filter (λ y. not (among y vars.now)) more.now) }
+    ensures { IfOk result (λ new. new.items ≡ others vars.now more.now) }
 {
     more.iter()
         .copied()

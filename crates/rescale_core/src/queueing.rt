@@ -8,8 +8,8 @@ ghost use Rattle.rescale_core.specs.Routing.{all_slices, part_below, place_below
 use crate::boxed::BoxedStrategy;
 use crate::item::Item;
 use crate::queue::Queue;
-use event_splitter::{is_blank, is_whole, split};
-use mfotl_model::{Db, TimePoint};
+use event_splitter::{only_part, split};
+use mfotl_model::TimePoint;
 use monitorable::Core;
 use slice_strategy::{Slicer, Strategy};
 use std::alloc::{AllocError, Global};
@@ -29,12 +29,8 @@ pub(crate) fn push_point(
     ensures queued { IfOk result (λ _. (q : ℕ) → queue_at queues.new.items q ≡ queue_at queues.old.items q
         ++ slices_for generation number 0 (all_slices (core_form core.now) strategy.now point) q) }
 {
-    if is_whole(core, strategy, &point) {
-        push_whole(queues, generation, number, point)?;
-        return Ok(());
-    }
-    if is_blank(core, strategy, &point) {
-        push_blank(alloc, queues, generation, number, point.ts)?;
+    if strategy.workers() == 1 {
+        push_first(queues, generation, number, only_part(core, strategy, point))?;
         return Ok(());
     }
     let slices = split(alloc, core, strategy, &point)?;
@@ -67,8 +63,8 @@ fn push_slices(
     Ok(())
 }
 
-// Queues the time-point as it is for the first worker, whose slice it is.
-fn push_whole(
+// Queues a slice for the first worker.
+fn push_first(
     queues: &mut Vec<Queue>,
     generation: u64,
     number: u64,
@@ -85,24 +81,6 @@ fn push_whole(
         number,
         point,
     })?;
-    Ok(())
-}
-
-// Queues a time-point without events for the first worker, whose slice it is.
-fn push_blank(
-    alloc: Global,
-    queues: &mut Vec<Queue>,
-    generation: u64,
-    number: u64,
-    ts: u64,
-) -> Result<(), AllocError>
-    requires { 0 < length queues.old.items }
-    ensures len { IfOk result (λ _. length queues.new.items ≡ length queues.old.items) }
-    ensures queued { IfOk result (λ _. (q : ℕ) → queue_at queues.new.items q ≡ queue_at queues.old.items q
-        ++ slices_for generation number 0 (record { ts = ts; db = [] } ∷ []) q) }
-{
-    let db = Db::new(alloc);
-    push_whole(queues, generation, number, TimePoint { ts, db })?;
     Ok(())
 }
 

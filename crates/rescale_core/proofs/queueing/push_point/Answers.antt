@@ -5,12 +5,12 @@ use Rattle.rescale_core.specs.Routing.{slices_for}
 use Rattle.rescale_core.proofs.ReadingLemmas.{parts_are, slices_len}
 use Rattle.rescale_core.proofs.queueing.push_point.Goals as goal
 
-pub push_whole-requires : goal.push_whole-requires
-push_whole-requires c =
+pub push_first-requires : goal.push_first-requires
+push_first-requires c =
     let core = core_form c.args.core.now in
     let s = c.args.strategy.now in
     let e = sym (slices_len core s c.args.point) ∙ ap length (sym (parts_are core s c.args.point)
-    ∙ c.is_whole.ensures.whole c.if-is_whole.true) in
+    ∙ c.only_part.ensures) in
     omega (arith, e, c.requires)
 
 pub push_slices-requires : goal.push_slices-requires
@@ -20,13 +20,13 @@ push_slices-requires c =
     let e = ap length (c.in_ok-slices.ensures ∙ parts_are core s c.args.point) ∙ slices_len core s c.args.point in
     omega (arith, e, c.requires)
 
-pub returns-then-is_whole-clause-queued : goal.returns-then-is_whole-clause-queued
-returns-then-is_whole-clause-queued c = λ q.
+pub returns-then-workers-eq1-clause-queued : goal.returns-then-workers-eq1-clause-queued
+returns-then-workers-eq1-clause-queued c = λ q.
     let core = core_form c.args.core.now in
     let s = c.args.strategy.now in
-    c.in_ok-push_whole.ensures.queued q
+    c.in_ok-push_first.ensures.queued q
     ∙ ap (λ ps. queue_at c.args.queues.now.items q ++ slices_for c.args.generation c.args.number 0 ps q)
-    (sym (c.is_whole.ensures.whole c.if-is_whole.true) ∙ parts_are core s c.args.point)
+    (sym c.only_part.ensures ∙ parts_are core s c.args.point)
 
 pub returns-clause-queued : goal.returns-clause-queued
 returns-clause-queued c = λ q.
@@ -35,19 +35,3 @@ returns-clause-queued c = λ q.
     c.in_ok-push_slices.ensures.queued q
     ∙ ap (λ ps. queue_at c.args.queues.now.items q ++ slices_for c.args.generation c.args.number 0 ps q)
     (c.in_ok-slices.ensures ∙ parts_are core s c.args.point)
-
-pub push_blank-requires : goal.push_blank-requires
-push_blank-requires c =
-    let core = core_form c.args.core.now in
-    let s = c.args.strategy.now in
-    let e = sym (slices_len core s c.args.point) ∙ ap length (sym (parts_are core s c.args.point)
-    ∙ c.is_blank.ensures.blank c.if-is_blank.true) in
-    omega (arith, e, c.requires)
-
-pub returns-then-is_blank-clause-queued : goal.returns-then-is_blank-clause-queued
-returns-then-is_blank-clause-queued c = λ q.
-    let core = core_form c.args.core.now in
-    let s = c.args.strategy.now in
-    c.in_ok-push_blank.ensures.queued q
-    ∙ ap (λ ps. queue_at c.args.queues.now.items q ++ slices_for c.args.generation c.args.number 0 ps q)
-    (sym (c.is_blank.ensures.blank c.if-is_blank.true) ∙ parts_are core s c.args.point)
