@@ -111,8 +111,8 @@ join_advances columns tests p xs ys is due e =
     (few_advanced p xs due is.few))
 
 -- where a position is due, fewer than 2^63 were pulled
-pub few_pulled : (p : ℕ) (xs : List ChildOf) → (xs ≡ [] → p < 2 ^ 63) → list_all (λ c. nat_lt 0 (length c.tables)) xs ≡ true
-    → FewFrom p xs → p < 2 ^ 63
+pub few_pulled : (p : ℕ) (xs : List ChildOf) → (xs ≡ [] → p < 2 ^ 63)
+    → list_all (λ c. nat_lt 0 (length c.tables)) xs ≡ true → FewFrom p xs → p < 2 ^ 63
 few_pulled p [] childless due few = childless refl
 few_pulled p (x ∷ xs) childless due few =
     let parts = and_parts (nat_lt 0 (length x.tables)) (list_all (λ c. nat_lt 0 (length c.tables)) xs) due in

@@ -1,6 +1,6 @@
 -- Rows that are listed by a part of them.
-use Rattle.std.proofs.Common.{◌≡◌, ℕ, ◌+◌, ◌<◌, Bool, true, false, cond, nat_eq, ◌&&◌, ◌||◌, List, [], ◌∷◌, ◌++◌, length}
-use Rattle.std.proofs.Common.{get_or, take, Option, Some, None, refl, sym, ap, ◌∙◌, arith}
+use Rattle.std.proofs.Common.{◌≡◌, ℕ, ◌+◌, ◌<◌, Bool, true, false, cond, nat_eq, ◌&&◌, ◌||◌, List, [], ◌∷◌, ◌++◌}
+use Rattle.std.proofs.Common.{get_or, length, take, Option, Some, None, refl, sym, ap, ◌∙◌, arith}
 use Rattle.std.proofs.lemmas.Bool.{and_from, and_parts, eqb-true, or_left, or_right}
 use Rattle.std.proofs.Math.Bool.{and-false, or_assoc, or-false}
 use Rattle.std.specs.BTreeMap.{is_at}
@@ -173,7 +173,8 @@ listed_taken right old new table entry rows more lists takes listed u =
     ap (list_all (λ e. is_listed right new u)) (takes u) ∙ by (has_row table u) (lists u)
   where
     by : (b : Bool) → is_listed right new u ≡ (is_listed right old u || b)
-        → list_all (λ e. is_listed right new u) (cond b (entries_for rows u ++ entry u ∷ []) (entries_for rows u)) ≡ true
+        → list_all (λ e. is_listed right new u) (cond b (entries_for rows u ++ entry u ∷ []) (entries_for rows u))
+        ≡ true
     by true is =
         each_of (is_listed right new u) (entries_for rows u ++ entry u ∷ [])
         (is ∙ or_right (is_listed right old u) true refl)

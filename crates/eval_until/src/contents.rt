@@ -27,7 +27,8 @@ pub struct Taken {
 }
 
 /// What is kept of the positions that were taken: where runs begin, the entries of rows, the rows that have some by
-/// their part at some columns, and by position the rows that came with it, so that those of a pulled position are found.
+/// their part at some columns, and by position the rows that came with it, so that those of a pulled position are
+/// found.
 #[derive(Drop)]
 pub struct Contents {
     pub starts: StartMap,

@@ -44,7 +44,8 @@ pub fn split<S: Slicer>(
 /// they are, and it takes no memory.
 pub fn only_part<S: Slicer>(core: &Core, _slicer: &S, point: TimePoint) -> TimePoint
     requires one { S.count _slicer.now ≡ 1 }
-    ensures { parts_for (S.count _slicer.now) (S.region _slicer.now) (atoms_of (core_form core.now)) point ≡ result ∷ [] }
+    ensures { parts_for (S.count _slicer.now) (S.region _slicer.now) (atoms_of (core_form core.now)) point
+        ≡ result ∷ [] }
 {
     let TimePoint { ts, db } = point;
     TimePoint {

@@ -10,7 +10,8 @@ pub until_resumed-requires : goal.until_resumed-requires
 until_resumed-requires c =
     let k : KeptTimes = record { first = c.args.first; stamps = c.args.times.now } in
     let fits =
-    subst (Matches k (node.Until c.args.state c.args.order)) (c.in-Window.is ∙ ap kept.Window c.in-Until.is) c.requires in
+    subst (Matches k (node.Until c.args.state c.args.order)) (c.in-Window.is ∙ ap kept.Window c.in-Until.is)
+    c.requires in
     record { rule = until_node_fits k c.args.state c.args.order c.in-Until.data fits.0 fits.1 fits.2 }
 
 pub returns : goal.returns
