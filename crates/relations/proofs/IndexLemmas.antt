@@ -1,6 +1,8 @@
 -- Rows sorted behind their keys.
-use Rattle.std.proofs.Common.{◌≡◌, ℕ, zero, suc, ◌+◌, ◌<◌, false, List, [], ◌∷◌, map, length, slice_index_or, refl}
+use Rattle.std.proofs.Common.{◌≡◌, ℕ, ◌+◌, ◌<◌, false, List, [], ◌∷◌, map, length, slice_index_or, refl}
 use Rattle.std.proofs.Common.{sym, subst, ap, ap₂, ◌∙◌, arith}
+use Rattle.std.proofs.lemmas.List.{length-map}
+use Rattle.std.proofs.Math.ListN.{get_or-map}
 use Rattle.std.proofs.lemmas.List.Elements.{All-nil, All-cons, All-get_or, All-head, All-tail}
 use Rattle.std.proofs.lemmas.List.Sorted.{All-permutation, IsPermutation-map}
 use Rattle.std.specs.List.{All}
@@ -62,28 +64,16 @@ first_not_less Greater b e = refl
 
 key_at : (es : List Entry) (i : ℕ) (d : Entry) → slice_index_or (map (λ (e : Entry). e.key) es) i d.key
     ≡ (slice_index_or es i d).key
-key_at [] i d = refl
-key_at (e ∷ es) zero d = refl
-key_at (e ∷ es) (suc i) d = key_at es i d
+key_at = get_or-map (λ (e : Entry). e.key)
 
 row_at : (es : List Entry) (i : ℕ) (d : Entry) → slice_index_or (map (λ (e : Entry). e.row) es) i d.row
     ≡ (slice_index_or es i d).row
-row_at [] i d = refl
-row_at (e ∷ es) zero d = refl
-row_at (e ∷ es) (suc i) d = row_at es i d
-
-long : (es : List Entry) → length (map (λ (e : Entry). e.key) es) ≡ length es
-long [] = refl
-long (e ∷ es) = ap suc (long es)
-
-long_rows : (es : List Entry) → length (map (λ (e : Entry). e.row) es) ≡ length es
-long_rows [] = refl
-long_rows (e ∷ es) = ap suc (long_rows es)
+row_at = get_or-map (λ (e : Entry). e.row)
 
 pub keys_rise : (es : List Entry) → IsSorted entry_cmp es → IsSorted row_cmp (map (λ (e : Entry). e.key) es)
 keys_rise es sorted k d a l =
     let e : Entry = record { key = d; row = d } in
-    let n : length (map (λ (x : Entry). x.key) es) ≡ length es = long es in
+    let n : length (map (λ (x : Entry). x.key) es) ≡ length es = length-map es (λ (x : Entry). x.key) in
     (λ i. is_lt (row_cmp (key_at es (k + 1) e i) (key_at es k e i)))
     ∙ first_not_less (row_cmp (slice_index_or es (k + 1) e).key (slice_index_or es k e).key)
     (row_cmp (slice_index_or es (k + 1) e).row (slice_index_or es k e).row)
@@ -94,7 +84,7 @@ pub rows_rise : (columns key_columns : List ℕ) (rows : List (List Value)) (es 
     → IsSorted entry_cmp es → IsSorted (index_cmp columns key_columns) (map (λ (e : Entry). e.row) es)
 rows_rise columns key_columns rows es p sorted k d a l =
     let e : Entry = record { key = part columns key_columns d; row = d } in
-    let n : length (map (λ (x : Entry). x.row) es) ≡ length es = long_rows es in
+    let n : length (map (λ (x : Entry). x.row) es) ≡ length es = length-map es (λ (x : Entry). x.row) in
     let own : (i : ℕ) → i < length es → (slice_index_or es i e).key
     ≡ part columns key_columns (slice_index_or es i e).row =
     λ i m. All-get_or (λ (x : Entry). x.key ≡ part columns key_columns x.row) es i e m

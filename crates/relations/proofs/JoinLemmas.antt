@@ -1,5 +1,5 @@
 -- The join of two tables by all pairs of rows, spoken of by valuations.
-use Rattle.std.proofs.Common.{◌≡◌, ℕ, Bool, true, false, not, ◌&&◌, ◌||◌, cond, nat_eq, List, [], ◌∷◌, ◌++◌}
+use Rattle.std.proofs.Common.{◌≡◌, ℕ, Bool, true, false, not, ◌&&◌, ◌||◌, nat_eq, List, [], ◌∷◌, ◌++◌}
 use Rattle.std.proofs.Common.{length, map, refl, sym, ap, ap₂, ◌∙◌, inl, inr, arith}
 use Rattle.std.proofs.lemmas.Bool.{and_parts, and_from, or_cases, or_left, or_right}
 use Rattle.std.proofs.lemmas.Bool.{eqb-true}
@@ -11,15 +11,15 @@ use Rattle.std.proofs.Math.Bool.{and-false, and-or_distrib_left, and-or_distrib_
 use Rattle.std.specs.List.{list_any, list_all, filter}
 use Rattle.std.specs.Ordering.{eq_by_cmp, is_eq}
 use Rattle.std.specs.Cmp.{both_ways}
-use Rattle.mfotl_model.proofs.LogicLemmas.{any_map, same_number, any_filter}
+use Rattle.mfotl_model.proofs.LogicLemmas.{any_filter, any_map, filtered_found, same_number}
 use Rattle.mfotl_model.proofs.RowLemmas.{row_exact, value_exact, value_itself}
 use Rattle.mfotl_model.proofs.ColumnLemmas.{same_columns, row_kept, read_own}
-use Rattle.mfotl_model.specs.FreeVariables.{among, joined}
+use Rattle.mfotl_model.specs.FreeVariables.{among, joined, others}
 use Rattle.mfotl_model.specs.Satisfaction.{Valuation}
 use Rattle.mfotl_model.specs.Values.{row_cmp, row_total, value_cmp}
 use Rattle.mfotl_model.specs.declared.value.Value.{Value}
 use Rattle.mfotl_model.specs.Tables.{all_apart, all_sized, part, valuation}
-use Rattle.relations.specs.Operations.{agree, combined, others, pairs, pairs_of}
+use Rattle.relations.specs.Operations.{agree, combined, pairs, pairs_of}
 
 pub all_members : (p : ℕ → Bool) (ys : List ℕ) → ((y : ℕ) → among y ys ≡ true → p y ≡ true) → list_all p ys ≡ true
 all_members p [] h = refl
@@ -61,18 +61,8 @@ among_others ca cb y out m =
     (λ z e. ap (λ w. not (among w ca)) (sym (eqb-true y z e)) ∙ ap not out) cb
     ∙ m
 
-kept_by : (y z : ℕ) (rest ys : List ℕ) (b : Bool) → (among y rest ≡ true → among y ys ≡ true)
-    → among y (cond b (z ∷ rest) rest) ≡ true → among y (z ∷ ys) ≡ true
-kept_by y z rest ys true more k =
-    elim (or_cases (nat_eq y z) (among y rest) k) [
-      | inl here ↦ or_left (nat_eq y z) (among y ys) here
-      | inr there ↦ or_right (nat_eq y z) (among y ys) (more there)
-    ]
-kept_by y z rest ys false more k = or_right (nat_eq y z) (among y ys) (more k)
-
 pub kept_among : (y : ℕ) (ca cb : List ℕ) → among y (others ca cb) ≡ true → among y cb ≡ true
-kept_among y ca [] m = m
-kept_among y ca (z ∷ cb) m = kept_by y z (others ca cb) cb (not (among z ca)) (kept_among y ca cb) m
+kept_among y ca cb m = filtered_found (λ z. not (among z ca)) (nat_eq y) cb m
 
 module _ (v : Valuation) (ca cb : List ℕ) (apart : all_apart cb ≡ true) where
   -- two rows that agree make the row of v exactly where both are v's

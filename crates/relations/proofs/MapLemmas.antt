@@ -1,25 +1,19 @@
 -- What a change at one row leaves in a map at each row.
 use Rattle.std.proofs.Common.{◌≡◌, Bool, true, false, cond, List, Option, Some, None, refl, sym, subst, ap, ◌∙◌}
 use Rattle.std.specs.BTreeMap.{BTreeMap, WritesThrough, is_at}
+use Rattle.std.specs.Cmp.{Equal-is}
 use Rattle.std.specs.HashMap as hash
 use Rattle.std.specs.HashMap.{HashMap}
 use Rattle.std.specs.Map.{lookup}
 use Rattle.std.specs.Option.{unwrap_or, IsSome}
-use Rattle.std.specs.Ordering.{eq_by_cmp, is_eq}
-use Rattle.std.specs.declared.cmp.Ordering.{Ordering}
-use Rattle.std.specs.declared.cmp.Ordering.TheVariants.{Less, Equal, Greater}
+use Rattle.std.specs.Ordering.{eq_by_cmp}
 use Rattle.mfotl_model.specs.Values.{row_cmp}
 use Rattle.mfotl_model.specs.declared.value.Value.{Value}
 use Rattle.mfotl_model.proofs.RowLemmas.{row_exact}
 
-is_equal : (o : Ordering) → is_eq o ≡ true → o ≡ Equal
-is_equal Less e = cc
-is_equal Equal e = refl
-is_equal Greater e = cc
-
 -- rows that compare as equal are one
 pub same_row : (u v : List Value) → is_at (row_cmp u) v ≡ true → u ≡ v
-same_row u v e = row_exact u v (is_equal (row_cmp u v) e)
+same_row u v e = row_exact u v ((Equal-is (row_cmp u v)).0 e)
 
 -- after a change at one key, the value there is changed, and no other
 pub changed : {X : Type 0} (d : X) (h : X → X) (row v : List Value) (m n : List (List Value × X)) (w : Option X)

@@ -1,8 +1,8 @@
 -- The rows between two places are those whose key is the one that was sought.
-use Rattle.std.proofs.Common.{◌≡◌, ℕ, suc, ◌-◌, ◌<◌, ◌≤◌, true, false, List, [], ◌∷◌, length, map, take}
+use Rattle.std.proofs.Common.{◌≡◌, ℕ, ◌-◌, ◌<◌, ◌≤◌, true, false, List, [], length, map, take}
 use Rattle.std.proofs.Common.{drop, slice_index_or, refl, sym, ap, ◌∙◌, arith, inl, inr}
 use Rattle.std.proofs.lemmas.Bool.{cases_lt}
-use Rattle.std.proofs.lemmas.List.{get_or-map}
+use Rattle.std.proofs.lemmas.List.{get_or-map, length-map}
 use Rattle.std.specs.List.{filter}
 use Rattle.std.specs.Ordering.{is_eq, eq_by_cmp, ordering_reverse}
 use Rattle.std.specs.declared.cmp.Ordering.{Ordering}
@@ -11,10 +11,6 @@ use Rattle.mfotl_model.proofs.RunLemmas.{between}
 use Rattle.mfotl_model.specs.Values.{row_cmp, row_total}
 use Rattle.mfotl_model.specs.declared.value.Value.{Value}
 use Rattle.relations.specs.Searches.{before}
-
-length_mapped : (f : List Value → List Value) (rows : List (List Value)) → length (map f rows) ≡ length rows
-length_mapped f [] = refl
-length_mapped f (x ∷ rows) = ap suc (length_mapped f rows)
 
 is_low : (o p : Ordering) → p ≡ ordering_reverse o → before false o ≡ true → is_eq p ≡ false
 is_low Less p e h = ap is_eq e
@@ -52,7 +48,7 @@ module _ (f : List Value → List Value) (rows keys : List (List Value)) (key : 
       ∙ row_total.antisymm key (slice_index_or keys i d)
 
   long : length keys ≡ length rows
-  long = ap length same ∙ length_mapped f rows
+  long = ap length same ∙ length-map rows f
 
   pub low_first : low ≤ high
   low_first = elim (cases_lt high low) [

@@ -18,7 +18,7 @@ use Rattle.mfotl_model.proofs.LogicLemmas.{any_map}
 use Rattle.mfotl_model.proofs.RowLemmas.{row_exact}
 use Rattle.mfotl_model.proofs.ColumnLemmas.{same_columns, row_kept, read_own}
 use Rattle.mfotl_model.specs.Ascending.{ascending}
-use Rattle.mfotl_model.specs.FreeVariables.{among, joined}
+use Rattle.mfotl_model.specs.FreeVariables.{among, joined, others}
 use Rattle.mfotl_model.specs.Satisfaction.{Valuation, compares, term_value}
 use Rattle.mfotl_model.specs.Values.{row_cmp, row_total}
 use Rattle.mfotl_model.specs.declared.term.Comparison.{Comparison}
@@ -26,7 +26,7 @@ use Rattle.mfotl_model.specs.declared.term.Term.{Term}
 use Rattle.mfotl_model.specs.declared.term.Term.TheVariants.{Var, Const}
 use Rattle.mfotl_model.specs.declared.value.Value.{Value}
 use Rattle.mfotl_model.specs.Tables.{TableOf, all_among, all_apart, all_sized, has, has_row, part, valuation}
-use Rattle.relations.specs.Operations.{agree, covers_term, chosen, chosen_rows, combined, joined_rows, others, pairs}
+use Rattle.relations.specs.Operations.{agree, covers_term, chosen, chosen_rows, combined, joined_rows, pairs}
 use Rattle.relations.specs.Operations.{pairs_of, unmatched_rows}
 use Rattle.relations.specs.Tables.{IsTable}
 use Rattle.relations.proofs.AscendingRows.{has_ascending, sized_ascending, sized_inserted}

@@ -4,24 +4,23 @@ use Rattle.std.proofs.Common.{List, [], ◌∷◌, ◌++◌, map, length, refl, 
 use Rattle.std.proofs.Math.Nat.{suc-mul}
 use Rattle.std.proofs.Math.Dec.{eqb-suc-zero}
 use Rattle.std.proofs.lemmas.Bool.{and_parts, eqb-true}
+use Rattle.std.proofs.lemmas.List.Elements.{filter_agree}
 use Rattle.std.proofs.lemmas.List.Folds.{list_any-append}
 use Rattle.std.proofs.lemmas.List.Sorted.{list_any-IsPermutation}
 use Rattle.std.specs.List.{list_any, list_all, filter}
 use Rattle.std.specs.List.Sorted.{IsPermutation}
-use Rattle.std.specs.Ordering.{eq_by_cmp, is_eq, ordering_reverse}
-use Rattle.std.specs.declared.cmp.Ordering.{Ordering}
-use Rattle.std.specs.declared.cmp.Ordering.TheVariants.{Less, Equal, Greater}
-use Rattle.std.specs.Cmp.{tied_then}
+use Rattle.std.specs.Ordering.{eq_by_cmp}
+use Rattle.std.specs.Cmp.{eq_by_cmp_equiv, tied_then}
 use Rattle.mfotl_model.proofs.LogicLemmas.{any_map, any_filter}
 use Rattle.mfotl_model.proofs.AscendingLemmas.{same_ascending}
 use Rattle.mfotl_model.proofs.RowLemmas.{any_none, row_exact}
 use Rattle.mfotl_model.proofs.ColumnLemmas.{row_kept}
 use Rattle.mfotl_model.specs.Ascending.{ascending}
-use Rattle.mfotl_model.specs.FreeVariables.{among}
+use Rattle.mfotl_model.specs.FreeVariables.{among, others}
 use Rattle.mfotl_model.specs.Values.{row_cmp, row_total, value_cmp}
 use Rattle.mfotl_model.specs.declared.value.Value.{Value}
 use Rattle.mfotl_model.specs.Tables.{all_apart, all_sized, has_row, part, valuation}
-use Rattle.relations.specs.Operations.{agree, combined, common, others, pairs, pairs_of, pairs_with, turned_pairs}
+use Rattle.relations.specs.Operations.{agree, combined, common, pairs, pairs_of, pairs_with, turned_pairs}
 use Rattle.relations.proofs.TestLemmas.{all_moved}
 
 module _ (ca cb : List ℕ) (ra rb : List Value) where
@@ -52,12 +51,6 @@ module _ (ca cb : List ℕ) (ra rb : List Value) where
   unfolding part agree
   agree_is = by_key cb
 
-pub filter_alike : (p q : List Value → Bool) (rows : List (List Value)) → ((row : List Value) → p row ≡ q row)
-    → filter p rows ≡ filter q rows
-filter_alike p q [] same = refl
-filter_alike p q (row ∷ rows) same = λ i. cond (same row i) (row ∷ filter_alike p q rows same i)
-    (filter_alike p q rows same i)
-
 -- a row with those that have its key
 pub pairs_by_key : (ca cb : List ℕ) (bs : List (List Value)) (ra : List Value)
     → map (λ rb. ra ++ part cb (others ca cb) rb) (filter
@@ -66,8 +59,8 @@ pub pairs_by_key : (ca cb : List ℕ) (bs : List (List Value)) (ra : List Value)
 unfolding pairs_of combined
 pairs_by_key ca cb bs ra =
     ap (map (λ rb. ra ++ part cb (others ca cb) rb))
-    (filter_alike (λ rb. eq_by_cmp row_cmp (part ca (common ca cb) ra) (part cb (common ca cb) rb))
-    (agree ca cb ra) bs (λ rb. agree_is ca cb ra rb))
+    (filter_agree (λ rb. eq_by_cmp row_cmp (part ca (common ca cb) ra) (part cb (common ca cb) rb))
+    (agree ca cb ra) (λ rb. agree_is ca cb ra rb) bs)
 
 pairs_has : (ca cb : List ℕ) (bs : List (List Value)) (q ra : List Value)
     → has_row (pairs_of ca cb bs ra) q ≡ list_any (λ rb. agree ca cb ra rb
@@ -133,13 +126,8 @@ none_left p (row ∷ rows) = step (none_left p rows) (p row)
 
 -- equality doesn't hang on the side
 
-turned_order : (o p : Ordering) → p ≡ ordering_reverse o → is_eq p ≡ is_eq o
-turned_order Less p e = ap is_eq e
-turned_order Equal p e = ap is_eq e
-turned_order Greater p e = ap is_eq e
-
 pub equal_turned : (a b : List Value) → eq_by_cmp row_cmp a b ≡ eq_by_cmp row_cmp b a
-equal_turned a b = turned_order (row_cmp b a) (row_cmp a b) (row_total.antisymm a b)
+equal_turned = (eq_by_cmp_equiv row_total).symm
 
 -- the rows that have a row's key, combined with it
 pub pairs_with_by_key : (ca cb : List ℕ) (rows : List (List Value)) (rb : List Value)
@@ -149,9 +137,9 @@ pub pairs_with_by_key : (ca cb : List ℕ) (rows : List (List Value)) (rb : List
 unfolding pairs_with combined
 pairs_with_by_key ca cb rows rb =
     ap (map (λ ra. ra ++ part cb (others ca cb) rb))
-    (filter_alike (λ ra. eq_by_cmp row_cmp (part cb (common ca cb) rb) (part ca (common ca cb) ra))
-    (λ ra. agree ca cb ra rb) rows
-    (λ ra. equal_turned (part cb (common ca cb) rb) (part ca (common ca cb) ra) ∙ agree_is ca cb ra rb))
+    (filter_agree (λ ra. eq_by_cmp row_cmp (part cb (common ca cb) rb) (part ca (common ca cb) ra))
+    (λ ra. agree ca cb ra rb)
+    (λ ra. equal_turned (part cb (common ca cb) rb) (part ca (common ca cb) ra) ∙ agree_is ca cb ra rb) rows)
 
 -- a test of pairs, one list of the pairs after the other
 

@@ -1,7 +1,7 @@
 -- Two joins, one after the other, the second with a table that has no columns of its own.
 use Rattle.std.proofs.Common.{◌≡◌, ℕ, Bool, true, false, ◌&&◌, ◌||◌, cond, nat_eq, List, [], ◌∷◌, ◌++◌}
 use Rattle.std.proofs.Common.{length, map, pos, refl, sym, ap, ◌∙◌, arith}
-use Rattle.std.proofs.lemmas.List.Elements.{filter-append}
+use Rattle.std.proofs.lemmas.List.Elements.{filter-append, filter_agree}
 use Rattle.std.proofs.lemmas.List.Kept.{IsStrictlySortedBy-filter}
 use Rattle.std.proofs.lemmas.Map.Lookups.{btree_set_from_contains}
 use Rattle.std.specs.BTreeSet.{BTreeSet}
@@ -10,19 +10,19 @@ use Rattle.std.specs.List.Sorted.{IsPermutation}
 use Rattle.mfotl_model.proofs.RowLemmas.{row_exact}
 use Rattle.mfotl_model.proofs.ColumnLemmas.{read_own, joined_apart}
 use Rattle.mfotl_model.specs.Ascending.{ascending}
-use Rattle.mfotl_model.specs.FreeVariables.{among, joined}
+use Rattle.mfotl_model.specs.FreeVariables.{among, joined, others}
 use Rattle.mfotl_model.specs.Satisfaction.{Valuation}
 use Rattle.mfotl_model.specs.Tables.{TableOf, all_among, has, has_row, part, valuation}
 use Rattle.mfotl_model.specs.Values.{row_cmp, row_total}
 use Rattle.mfotl_model.specs.declared.value.Value.{Value}
 use Rattle.mfotl_model.specs.declared.value.Value.TheVariants.{Int}
-use Rattle.relations.specs.Operations.{has_part, joined_rows, joined_table, others, pairs, pairs_of, table_of_rows}
+use Rattle.relations.specs.Operations.{has_part, joined_rows, joined_table, pairs, pairs_of, table_of_rows}
 use Rattle.relations.specs.Tables.{IsTable}
 use Rattle.relations.proofs.AscendingRows.{has_ascending, made_is, rows_ascend}
 use Rattle.relations.proofs.InsideLemmas.{matched_is}
 use Rattle.relations.proofs.JoinLemmas.{among_others, kept_among}
 use Rattle.relations.proofs.OperationLaws.{filtered_has, has_joined, sized_pairs}
-use Rattle.relations.proofs.PairLemmas.{filter_alike, join_moved}
+use Rattle.relations.proofs.PairLemmas.{join_moved}
 
 -- what a row has at a column that it lacks
 absent : (columns : List ℕ) (row : List Value) (x : ℕ) → among x columns ≡ false
@@ -97,8 +97,8 @@ pub kept_alike : (c : TableOf) (rows : List (List Value)) → ((q : List Value) 
     → (columns : List ℕ) (xs : List (List Value))
     → filter (has_part (table_of_rows c.columns rows) columns) xs ≡ filter (has_part c columns) xs
 kept_alike c rows same columns xs =
-    filter_alike (has_part (table_of_rows c.columns rows) columns) (has_part c columns) xs
-    (λ row. same (part columns c.columns row))
+    filter_agree (has_part (table_of_rows c.columns rows) columns) (has_part c columns)
+    (λ row. same (part columns c.columns row)) xs
 
 -- in order, before or after some are left out
 ordered_kept : (p : List Value → Bool) (xs : List (List Value))

@@ -4,7 +4,7 @@ use Rattle.std.specs.List.{list_all, filter, flat_map}
 use Rattle.std.specs.Ordering.{eq_by_cmp}
 use Rattle.std.proofs.Math.Bool.{beq}
 use Rattle.mfotl_model.specs.Ascending.{ascending}
-use Rattle.mfotl_model.specs.FreeVariables.{among, joined}
+use Rattle.mfotl_model.specs.FreeVariables.{among, joined, others}
 use Rattle.mfotl_model.specs.Satisfaction.{Valuation, compares, term_value}
 use Rattle.mfotl_model.specs.Tables.{TableOf, has_row, part, valuation}
 use Rattle.mfotl_model.specs.Values.{row_cmp, value_cmp}
@@ -12,10 +12,6 @@ use Rattle.mfotl_model.specs.declared.term.Comparison.{Comparison}
 use Rattle.mfotl_model.specs.declared.term.Term.{Term}
 use Rattle.mfotl_model.specs.declared.term.Term.TheVariants.{Var, Const}
 use Rattle.mfotl_model.specs.declared.value.Value.{Value}
-
--- the columns of the second list that the first lacks
-abbrev pub others : List ℕ → List ℕ → List ℕ
-others first second = filter (λ y. not (among y first)) second
 
 -- the columns of the second list that the first has too
 abbrev pub common : List ℕ → List ℕ → List ℕ
@@ -65,7 +61,7 @@ has_part t columns row = has_row t.rows (part columns t.columns row)
 
 -- the first's rows whose part at the second's columns is no row of the second
 abbrev pub unmatched_rows : TableOf → TableOf → List (List Value)
-unmatched_rows a b = filter (λ row. not (has_row b.rows (part a.columns b.columns row))) a.rows
+unmatched_rows a b = filter (λ row. not (has_part b a.columns row)) a.rows
 
 -- whether a comparison comes out as wanted at a valuation
 unfoldable pub chosen : Comparison → Bool → Valuation → Bool

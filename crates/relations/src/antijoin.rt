@@ -86,7 +86,7 @@ impl Table {
         let columns = Columns::from_slice(alloc, self.columns())?;
         let seconds = other.rows();
         let rows = copied_apart(alloc, self.columns(), other.columns(), self.rows(), seconds)?;
-        Ok(Table::of(columns, rows))
+        Ok(Table::from_ascending(columns, rows))
     }
 
     /// What `antijoin` gives, without copies of the rows that stay.
@@ -100,7 +100,7 @@ impl Table {
         let (columns, rows) = self.into_parts();
         let seconds = other.rows();
         let kept = moved_apart(alloc, columns.as_slice(), other.columns(), rows, seconds)?;
-        Ok(Table::of(columns, kept))
+        Ok(Table::from_ascending(columns, kept))
     }
 
     /// What `antijoin` gives with the index's table, in two searches for each row.
@@ -122,6 +122,6 @@ impl Table {
     {
         let columns = Columns::from_slice(alloc, self.columns())?;
         let rows = unmatched(alloc, self.columns(), self.rows(), index, steps)?;
-        Ok(Table::of(columns, rows))
+        Ok(Table::from_ascending(columns, rows))
     }
 }

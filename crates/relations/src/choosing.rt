@@ -74,7 +74,7 @@ impl Table {
     {
         let columns = Columns::from_slice(alloc, self.columns())?;
         let rows = chosen_rows(alloc, self.columns(), comparison, wanted, self.rows())?;
-        Ok(Table::of(columns, rows))
+        Ok(Table::from_ascending(columns, rows))
     }
 
     /// What `select` gives, without copies of the rows that stay and without memory.
@@ -88,7 +88,7 @@ impl Table {
     {
         let (columns, mut rows) = self.into_parts();
         retain_chosen(columns.as_slice(), comparison, wanted, &mut rows);
-        Table::of(columns, rows)
+        Table::from_ascending(columns, rows)
     }
 
     /// The table itself where this holds, else the one without rows. It takes no memory.

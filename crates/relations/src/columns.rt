@@ -1,8 +1,8 @@
 //! Columns, and rows read through them.
 ghost use Rattle.std.specs.Prelude.{◌≡◌, IfOk, MatchOption, map, pos};
-ghost use Rattle.mfotl_model.specs.FreeVariables.{joined, without};
-ghost use Rattle.mfotl_model.specs.Tables.{part, valuation};
-ghost use Rattle.relations.specs.Operations.{common, others};
+ghost use Rattle.mfotl_model.specs.FreeVariables.{joined, others, without};
+ghost use Rattle.mfotl_model.specs.Tables.{all_among, part, valuation};
+ghost use Rattle.relations.specs.Operations.{common};
 
 use mfotl_model::{Row, Value, is_among};
 use smallvec::SmallVec;
@@ -59,8 +59,15 @@ pub fn part_of(
     Ok(narrow)
 }
 
+/// Whether each of the columns that are wanted is one of these.
+pub fn all_among(wanted: &[u32], columns: &[u32]) -> bool
+    ensures { result ≡ all_among wanted.now columns.now }
+{
+    wanted.iter().all(|x| is_among(*x, columns))
+}
+
 /// The columns of the second that the first has.
-pub(crate) fn common(alloc: Global, first: &[u32], second: &[u32]) -> Result<Columns, AllocError>
+pub fn common(alloc: Global, first: &[u32], second: &[u32]) -> Result<Columns, AllocError>
     ensures { IfOk result (λ both. both.items ≡ common first.now second.now) }
 {
     second

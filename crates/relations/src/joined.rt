@@ -9,21 +9,15 @@ ghost use Rattle.mfotl_model.specs.Values.{row_cmp};
 ghost use Rattle.relations.specs.Operations.{has_part, joined_rows, joined_table};
 
 use crate::antijoin::has_part;
-use crate::columns::{both_columns, common};
+use crate::columns::{all_among, both_columns, common};
 use crate::hashed::hashed;
 use crate::pairs::kept_pairs;
 use crate::steps::Steps;
 use crate::table::Table;
-use mfotl_model::{Row, is_among};
+use mfotl_model::Row;
 use std::alloc::{AllocError, Global};
 use std::marker::Brand;
 use std::sync::ledger::{Blank, Ledger};
-
-fn are_among(wanted: &[u32], columns: &[u32]) -> bool
-    ensures { result ≡ all_among wanted.now columns.now }
-{
-    wanted.iter().all(|y| is_among(*y, columns))
-}
 
 /// The rows whose part at these columns is one of the second's.
 fn moved_matched(
@@ -58,7 +52,7 @@ fn only_matched(alloc: Global, table: Table, other: &Table) -> Result<Table, All
     let seconds = other.rows();
     let (columns, rows) = table.into_parts();
     let kept = moved_matched(alloc, columns.as_slice(), wanted, rows, seconds)?;
-    Ok(Table::of(columns, kept))
+    Ok(Table::from_ascending(columns, kept))
 }
 
 // The rows of the join of two tables of which the third has a part. Other pairs aren't made.
@@ -133,9 +127,9 @@ fn is_narrowed(
         IsTrue (all_among third.now.columns (joined first.now.columns second.now.columns))) }
 {
     let columns = both_columns(alloc, first.columns(), second.columns())?;
-    let own = !are_among(second.columns(), first.columns());
+    let own = !all_among(second.columns(), first.columns());
     let long = is_long(first, second) && is_long(first, third);
-    Ok(are_among(third.columns(), columns.as_slice()) && own && long)
+    Ok(all_among(third.columns(), columns.as_slice()) && own && long)
 }
 
 impl Table {
@@ -148,7 +142,7 @@ impl Table {
         ensures has { IfOk result (λ table. (v : Valuation) →
             has table v ≡ (has self v && has other.now v)) }
     {
-        if are_among(other.columns(), self.columns()) {
+        if all_among(other.columns(), self.columns()) {
             return only_matched(alloc, self, other);
         }
         self.join(alloc, other)

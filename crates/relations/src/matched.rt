@@ -1,8 +1,9 @@
 //! Rows of one table with those of another that agree, found by an index.
 ghost use Rattle.std.specs.Prelude.{◌≡◌, ◌++◌, ◌+◌, ◌*◌, ◌<◌, ◌≤◌, ◌^◌, IfOk, OnOk, length, map, not, ℕ};
 ghost use Rattle.std.specs.List.{filter};
+ghost use Rattle.mfotl_model.specs.FreeVariables.{others};
 ghost use Rattle.mfotl_model.specs.Tables.{has_row, part};
-ghost use Rattle.relations.specs.Operations.{common, others, pairs, pairs_of, pairs_with, turned_pairs};
+ghost use Rattle.relations.specs.Operations.{common, pairs, pairs_of, pairs_with, turned_pairs};
 
 use crate::columns::{others, part_of, value_of};
 use crate::index::Index;

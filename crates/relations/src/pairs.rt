@@ -1,9 +1,9 @@
 //! Pairs of rows that agree, of which a third table has a part.
 ghost use Rattle.std.specs.Prelude.{◌≡◌, ◌++◌, IfOk, OnOk, length, map, true};
 ghost use Rattle.std.specs.List.{filter, flat_map};
-ghost use Rattle.mfotl_model.specs.FreeVariables.{joined};
+ghost use Rattle.mfotl_model.specs.FreeVariables.{joined, others};
 ghost use Rattle.mfotl_model.specs.Tables.{all_sized, has_row, part, valuation};
-ghost use Rattle.relations.specs.Operations.{common, has_part, others, pairs_of, table_of_rows};
+ghost use Rattle.relations.specs.Operations.{common, has_part, pairs_of, table_of_rows};
 
 use crate::columns::{others, part_of, value_of};
 use crate::index::Index;

@@ -77,7 +77,8 @@ impl Table {
         }
     }
 
-    pub(crate) fn of(columns: Columns, rows: Vec<Row>) -> Self
+    /// The table of these rows as they stand, such as some of another table's.
+    pub fn from_ascending(columns: Columns, rows: Vec<Row>) -> Self
         requires is_table { IsTable columns.items rows.items }
         ensures columns { result.columns ≡ columns.items }
         ensures rows { result.rows ≡ rows.items }

@@ -7,8 +7,8 @@ use Rattle.relations.proofs.InsideLemmas.{joined_within, matched_is}
 use Rattle.relations.proofs.OperationLaws.{has_as, has_joined, some_of}
 use Rattle.relations.proofs.joined.only_matched.Goals as goal
 
-pub of-requires : goal.of-requires
-of-requires c =
+pub from_ascending-requires : goal.from_ascending-requires
+from_ascending-requires c =
     let a = c.args.table in
     let b = c.args.other.now in
     let parts = c.into_parts-columns in
@@ -22,7 +22,7 @@ of-requires c =
 
 pub returns-clause-columns : goal.returns-clause-columns
 returns-clause-columns c =
-    c.of.ensures.columns ∙ c.into_parts-columns.ensures.columns
+    c.from_ascending.ensures.columns ∙ c.into_parts-columns.ensures.columns
     ∙ sym (joined_within c.args.table.columns c.args.other.now.columns c.requires.inside)
 
 pub returns-clause-rows : goal.returns-clause-rows
@@ -30,7 +30,7 @@ returns-clause-rows c =
     let a = c.args.table in
     let b = c.args.other.now in
     let parts = c.into_parts-columns in
-    c.of.ensures.rows ∙ c.in_ok-kept.ensures
+    c.from_ascending.ensures.rows ∙ c.in_ok-kept.ensures
     ∙ (λ i. filter (λ row. has_row (c.rows-seconds.ensures.rows i)
     (part ((c.as_slice.ensures ∙ parts.ensures.columns) i) (c.columns-wanted.ensures.columns i) row))
     (parts.ensures.rows i))
@@ -41,9 +41,10 @@ returns-clause-has c = λ v.
     let a = c.args.table in
     let b = c.args.other.now in
     let parts = c.into_parts-columns in
-    has_as c.of.result (joined a.columns b.columns) (joined_rows a b) v
-    (c.of.ensures.columns ∙ parts.ensures.columns ∙ sym (joined_within a.columns b.columns c.requires.inside))
-    (c.of.ensures.rows ∙ c.in_ok-kept.ensures
+    has_as c.from_ascending.result (joined a.columns b.columns) (joined_rows a b) v
+    (c.from_ascending.ensures.columns ∙ parts.ensures.columns
+    ∙ sym (joined_within a.columns b.columns c.requires.inside))
+    (c.from_ascending.ensures.rows ∙ c.in_ok-kept.ensures
     ∙ (λ i. filter (λ row. has_row (c.rows-seconds.ensures.rows i)
     (part ((c.as_slice.ensures ∙ parts.ensures.columns) i) (c.columns-wanted.ensures.columns i) row))
     (parts.ensures.rows i))

@@ -5,8 +5,8 @@ use Rattle.relations.specs.Operations.{unmatched_rows}
 use Rattle.relations.proofs.OperationLaws.{has_as, has_unmatched, some_of}
 use Rattle.relations.proofs.table.Table.antijoin.Goals as goal
 
-pub of-requires : goal.of-requires
-of-requires c =
+pub from_ascending-requires : goal.from_ascending-requires
+from_ascending-requires c =
     let a = c.args.self.now in
     let b = c.args.other.now in
     record {
@@ -22,8 +22,9 @@ pub returns-clause-has : goal.returns-clause-has
 returns-clause-has c = λ v.
     let a = c.args.self.now in
     let b = c.args.other.now in
-    has_as c.of.result a.columns (unmatched_rows a b) v
-    (c.of.ensures.columns ∙ c.in_ok-columns.ensures.ok ∙ c.columns.ensures.columns)
-    (c.of.ensures.rows ∙ c.in_ok-rows.ensures ∙ (λ i. filter (λ row. not (has_row (c.rows-seconds.ensures.rows i)
+    has_as c.from_ascending.result a.columns (unmatched_rows a b) v
+    (c.from_ascending.ensures.columns ∙ c.in_ok-columns.ensures.ok ∙ c.columns.ensures.columns)
+    (c.from_ascending.ensures.rows ∙ c.in_ok-rows.ensures
+    ∙ (λ i. filter (λ row. not (has_row (c.rows-seconds.ensures.rows i)
     (part (c.columns-2.ensures.columns i) (c.columns-3.ensures.columns i) row))) (c.rows.ensures.rows i)))
     ∙ has_unmatched a b v c.requires.inside

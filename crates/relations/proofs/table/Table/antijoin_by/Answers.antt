@@ -6,8 +6,8 @@ use Rattle.relations.specs.Operations.{unmatched_rows}
 use Rattle.relations.proofs.OperationLaws.{has_as, has_unmatched, some_of}
 use Rattle.relations.proofs.table.Table.antijoin_by.Goals as goal
 
-pub of-requires : goal.of-requires
-of-requires g c =
+pub from_ascending-requires : goal.from_ascending-requires
+from_ascending-requires g c =
     let a = c.args.self.now in
     let b = c.args.index.now in
     record {
@@ -23,9 +23,9 @@ pub returns-clause-has : goal.returns-clause-has
 returns-clause-has g c = λ v.
     let a = c.args.self.now in
     let b = table_of c.args.index.now in
-    has_as c.of.result a.columns (unmatched_rows a b) v
-    (c.of.ensures.columns ∙ c.in_ok-columns.ensures.ok ∙ c.columns.ensures.columns)
-    (c.of.ensures.rows ∙ c.in_ok-rows.ensures.kept
+    has_as c.from_ascending.result a.columns (unmatched_rows a b) v
+    (c.from_ascending.ensures.columns ∙ c.in_ok-columns.ensures.ok ∙ c.columns.ensures.columns)
+    (c.from_ascending.ensures.rows ∙ c.in_ok-rows.ensures.kept
     ∙ (λ i. filter (λ row. not (has_row b.rows (part (c.columns-2.ensures.columns i) b.columns row)))
     (c.rows.ensures.rows i)))
     ∙ has_unmatched a b v c.requires.inside

@@ -5,8 +5,8 @@ use Rattle.relations.specs.Operations.{unmatched_rows}
 use Rattle.relations.proofs.OperationLaws.{has_as, has_unmatched, some_of}
 use Rattle.relations.proofs.table.Table.antijoined.Goals as goal
 
-pub of-requires : goal.of-requires
-of-requires c =
+pub from_ascending-requires : goal.from_ascending-requires
+from_ascending-requires c =
     let a = c.args.self in
     let b = c.args.other.now in
     let parts = c.into_parts-columns in
@@ -23,8 +23,10 @@ returns-clause-has c = λ v.
     let a = c.args.self in
     let b = c.args.other.now in
     let parts = c.into_parts-columns in
-    has_as c.of.result a.columns (unmatched_rows a b) v (c.of.ensures.columns ∙ parts.ensures.columns)
-    (c.of.ensures.rows ∙ c.in_ok-kept.ensures ∙ (λ i. filter (λ row. not (has_row (c.rows-seconds.ensures.rows i)
+    has_as c.from_ascending.result a.columns (unmatched_rows a b) v
+    (c.from_ascending.ensures.columns ∙ parts.ensures.columns)
+    (c.from_ascending.ensures.rows ∙ c.in_ok-kept.ensures
+    ∙ (λ i. filter (λ row. not (has_row (c.rows-seconds.ensures.rows i)
     (part ((c.as_slice.ensures ∙ parts.ensures.columns) i) (c.columns-2.ensures.columns i) row)))
     (parts.ensures.rows i)))
     ∙ has_unmatched a b v c.requires.inside

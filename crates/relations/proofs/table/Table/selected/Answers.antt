@@ -5,8 +5,8 @@ use Rattle.relations.specs.Operations.{chosen, chosen_rows}
 use Rattle.relations.proofs.OperationLaws.{has_as, has_chosen, some_of}
 use Rattle.relations.proofs.table.Table.selected.Goals as goal
 
-pub of-requires : goal.of-requires
-of-requires c =
+pub from_ascending-requires : goal.from_ascending-requires
+from_ascending-requires c =
     let a = c.args.self in
     let parts = c.into_parts-columns in
     record {
@@ -22,8 +22,9 @@ pub returns-clause-has : goal.returns-clause-has
 returns-clause-has c = λ v.
     let a = c.args.self in
     let parts = c.into_parts-columns in
-    has_as c.of.result a.columns (chosen_rows c.args.comparison.now c.args.wanted a) v
-    (c.of.ensures.columns ∙ parts.ensures.columns)
-    (c.of.ensures.rows ∙ c.retain_chosen.ensures ∙ (λ i. filter (λ row. chosen c.args.comparison.now c.args.wanted
+    has_as c.from_ascending.result a.columns (chosen_rows c.args.comparison.now c.args.wanted a) v
+    (c.from_ascending.ensures.columns ∙ parts.ensures.columns)
+    (c.from_ascending.ensures.rows ∙ c.retain_chosen.ensures
+    ∙ (λ i. filter (λ row. chosen c.args.comparison.now c.args.wanted
     (valuation ((c.as_slice.ensures ∙ parts.ensures.columns) i) row)) (parts.ensures.rows i)))
     ∙ has_chosen a c.args.comparison.now c.args.wanted v c.requires.left c.requires.right
