@@ -4,6 +4,7 @@ use Rattle.std.proofs.Common.{◌≡◌, ◌≢◌, ◌∙◌, ap, ap₂, sym, r
 use Rattle.std.proofs.Common.{nat_eq, List, [], ◌∷◌, length, map, Some, pos}
 use Rattle.std.specs.Prelude.{unwrap_or}
 use Rattle.std.proofs.lemmas.Bool.{and_parts, ne_eqb}
+use Rattle.std.proofs.lemmas.List.Filters.{length-filter_both}
 use Rattle.std.proofs.lemmas.Map.Views.{tells_apart}
 use Rattle.std.specs.List.{filter}
 use Rattle.std.specs.Ordering.{eq_by_cmp}
@@ -33,13 +34,7 @@ abbrev other_than : ℕ → ℕ → Bool
 other_than x y = not (among y (x ∷ []))
 
 at_most : (p : ℕ → Bool) (ys : List ℕ) → length (filter p ys) ≤ length ys
-at_most p [] = omega arith
-at_most p (y ∷ ys) = by (p y) (at_most p ys)
-  where
-    by : (b : Bool) → length (filter p ys) ≤ length ys
-        → length (cond b (y ∷ filter p ys) (filter p ys)) ≤ suc (length ys)
-    by true most = omega arith
-    by false most = omega arith
+at_most p ys = omega (arith, length-filter_both p (λ y. not (p y)) (λ y. refl) ys)
 
 -- a filter that leaves out none keeps the list
 all_kept : (p : ℕ → Bool) (ys : List ℕ) → length (filter p ys) ≡ length ys → filter p ys ≡ ys

@@ -8,8 +8,8 @@ ghost use Rattle.monitor_state.specs.Nodes.{with_conjunct, with_conjuncts, witho
 
 use crate::begin_filter::{is_window, some_among, without_not};
 use crate::boxes::{beside, boxed, exists, next, not, or, previous, since, until};
-use crate::ordering::all_among;
 use monitorable::Node as Core;
+use relations::all_among;
 use std::alloc::{AllocError, Global};
 
 /// A core with each of its conjunctions as a chain, the windows at its end as far as may be.

@@ -12,15 +12,13 @@ ghost use Rattle.monitor_state.specs.Nodes.{adds_none, filters, is_keyed, is_win
 
 use crate::begin_until::until_state;
 use crate::filter::FilterState;
-use crate::lookup::common;
 use crate::node::{Node, add};
 use crate::operators::{is_negated, since_state};
-use crate::ordering::all_among;
 use crate::tables::Tables;
 use crate::window::Window;
 use mfotl_model::{Interval, is_among};
 use monitorable::{Node as Core, Role, bound_by};
-use relations::{Columns, Table};
+use relations::{Columns, Table, all_among, common};
 use std::alloc::{AllocError, Global};
 
 /// A window that is asked for rows, without its NOT.

@@ -1,14 +1,11 @@
 //! A window is asked by the values that a table has of some of its columns.
-ghost use Rattle.std.specs.Prelude.{◌≡◌, IfOk, IsTrue, OnOk};
-ghost use Rattle.mfotl_model.specs.Satisfaction.{Valuation};
-ghost use Rattle.relations.specs.Operations.{common};
+ghost use Rattle.std.specs.Prelude.{IfOk, IsTrue, OnOk};
 ghost use Rattle.monitor_state.specs.FilterFeeding.{Finds, Joins, WindowGoes};
 ghost use Rattle.monitor_state.specs.WindowNode.{window_due, window_took_all};
 
 use crate::ordering::in_order;
 use crate::window::{Window, columns, go_on, pulled_of};
-use mfotl_model::is_among;
-use relations::{Columns, Table};
+use relations::{Columns, Table, common};
 use std::alloc::{AllocError, Global};
 
 /// Goes on by one position: a table's rows, each with those of which the window holds that agree with it.
@@ -49,15 +46,4 @@ fn found_for(alloc: Global, window: &mut Window, table: &Table) -> Result<Table,
     }
     let keys = table.project(alloc, shared)?;
     pulled_of(alloc, window, &keys)
-}
-
-/// The columns of the second that the first has.
-pub fn common(alloc: Global, first: &[u32], second: &[u32]) -> Result<Columns, AllocError>
-    ensures { IfOk result (λ both. both.items ≡ common first.now second.now) }
-{
-    second
-        .iter()
-        .copied()
-        .filter(|y| is_among(*y, first))
-        .collect(alloc)
 }
