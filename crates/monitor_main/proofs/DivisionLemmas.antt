@@ -14,7 +14,7 @@ use Rattle.slice_strategy.specs.declared.change.Change.{Change as ChangeOf}
 use Rattle.slice_strategy.proofs.EntryLaws.{strategy_size}
 use Rattle.worker_pool.specs.Policies.{IsCoreOf}
 use Rattle.monitor_main.specs.CheckedPolicies.{Divides, HasVariables}
-use Rattle.monitor_main.specs.ReadyTasks.{AreFor}
+use Rattle.worker_pool.specs.Changes.{AllSuit}
 
 -- ---- each strategy has an entry for each variable
 
@@ -49,6 +49,6 @@ module _ (core : CoreForm) (policy : Form) (is : IsCoreOf core policy) (vars : L
     workers = d.1;
   }
 
-  pub all_for : (cs : List ChangeOf) → AllByRecursion (λ c. Divides vars c.strategy) cs → AreFor core cs
+  pub all_for : (cs : List ChangeOf) → AllByRecursion (λ c. Divides vars c.strategy) cs → AllSuit core cs
   all_for [] h = tt
   all_for (c ∷ cs) h = (first_for c.strategy h.0, all_for cs h.1)

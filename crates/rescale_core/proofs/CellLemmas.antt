@@ -83,6 +83,7 @@ within_front n (e ∷ a) b h = (h.0, within_front n a b h.1)
 
 -- ---- one cell
 
+-- the seed of the worker of this number
 abbrev pub seed_in : World → ℕ → SeedOf
 seed_in w k = record { core = w.core; first = w.first; number = k }
 

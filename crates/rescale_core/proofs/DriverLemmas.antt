@@ -9,6 +9,7 @@ use lib.ListN.{get_elem?}
 use native.Mathlib.Decide.{ℕ_discrete}
 use Rattle.turn_hub.specs.Answers.{MayHand}
 use Rattle.turn_hub.specs.Ends.{main_view}
+use Rattle.rescale_core.proofs.CellLemmas.{seed_in}
 use Rattle.rescale_core.proofs.Pieces.{answers_cut}
 use Rattle.rescale_core.proofs.Soundness.{has_of}
 use Rattle.rescale_core.specs.Moving.{CellLine, IsDriverOf, IsLineOf, lines_of}
@@ -51,9 +52,6 @@ get_there (x ∷ xs) zero h = (x, refl)
 get_there (x ∷ xs) (suc k) h = get_there xs k (omega arith)
 
 -- ---- lines
-
-abbrev pub seed_in : World → ℕ → SeedOf
-seed_in w k = record { core = w.core; first = w.first; number = k }
 
 -- the outs that came back answer what was handed over last
 pub answered_last : (w : World) (k : ℕ) (l : CellLine) (outs : List Out) → IsSound w → IsLineOf w k l

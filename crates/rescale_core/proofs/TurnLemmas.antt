@@ -10,7 +10,7 @@ use Rattle.turn_hub.specs.Answers.{MayHand, swapped_line}
 use Rattle.turn_hub.specs.Ends.{main_view}
 use Rattle.turn_hub.proofs.Opens.{below_length}
 use Rattle.rescale_core.proofs.DriverLemmas.{answered_last, get_here, line_kept, lines_set, may_fed}
-use Rattle.rescale_core.proofs.DriverLemmas.{seed_in}
+use Rattle.rescale_core.proofs.CellLemmas.{seed_in}
 use Rattle.rescale_core.proofs.Taking.{Took, reaches_on, takes_all, took_router}
 use Rattle.rescale_core.specs.Moving.{CellLine, HasTurn, IsDriverOf, IsLineOf, DriverMoves, Reaches, collects, lines_of}
 use Rattle.rescale_core.specs.Moving.StepKind.{Feeds, Takes}

@@ -34,7 +34,8 @@ impl Cell {
     }
 }
 
-fn one_more(count: u64) -> Result<u64, AllocError>
+/// One more than a count, such as the number of the next generation.
+pub(crate) fn one_more(count: u64) -> Result<u64, AllocError>
     ensures { IfOk result (λ more. more ≡ count + 1) }
 {
     count.checked_add(1).ok_or(AllocError)

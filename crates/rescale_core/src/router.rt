@@ -9,6 +9,7 @@ ghost use Rattle.rescale_core.specs.Worlds.Step.{Read, Collect, Emit};
 ghost use Rattle.rescale_core.specs.declared.item.Entry.TheVariants.{Change, Point};
 
 use crate::boxed::BoxedPiece;
+use crate::cell::one_more;
 use crate::item::{Item, Out};
 use crate::outstanding::{grow_counts, lower, none_outstanding, raise};
 use crate::queue::{Queue, none_wait};
@@ -59,7 +60,7 @@ impl Router {
         ensures { IfOk result (λ _. (w : World) → IsRouterOf self.old w → IsFor w.core strategy
             → IsRouterOf self.new (world_after w (Read (Change strategy)))) }
     {
-        let generation = next(self.generation)?;
+        let generation = one_more(self.generation)?;
         let count = self.strategy.workers();
         let workers = strategy.workers();
         self.gather.begin(generation, workers)?;
@@ -147,13 +148,6 @@ impl Router {
         }
         !self.gather.is_ready()
     }
-}
-
-// The next generation's number.
-fn next(generation: u64) -> Result<u64, AllocError>
-    ensures { IfOk result (λ more. more ≡ generation + 1) }
-{
-    generation.checked_add(1).ok_or(AllocError)
 }
 
 // Takes out the first items, as many as wanted or all that are ready.
