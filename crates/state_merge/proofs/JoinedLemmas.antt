@@ -1,20 +1,23 @@
 -- What two states keep for a row, together: it answers each test as the one that may be asked, or as both.
-use Rattle.std.proofs.Common.{◌≡◌, ℕ, ◌-◌, ◌≤◌, Bool, true, false, ◌&&◌, ◌||◌, cond, nat_le, nat_lt, nat_eq, List, []}
-use Rattle.std.proofs.Common.{◌∷◌, length, Option, None, Some, refl, sym, ap, ap₂, ◌∙◌, arith, inl, inr}
-use Rattle.std.proofs.lemmas.Bool.{cases_lt, eqb-true}
+use Rattle.std.proofs.Common.{◌≡◌, ℕ, ◌-◌, ◌≤◌, Bool, true, false, ◌&&◌, ◌||◌, nat_le, List, [], ◌∷◌, length, Option}
+use Rattle.std.proofs.Common.{None, Some, refl, sym, ap, ap₂, ◌∙◌, arith, inl, inr}
+use Rattle.std.proofs.lemmas.Bool.{cases_lt}
 use Rattle.std.proofs.lemmas.Bool.Decides.{nat_tests}
-use Rattle.std.proofs.Math.Bool.{or-false, or_self, or_assoc, and-true}
+use Rattle.std.proofs.lemmas.Map.Lookups.{exact_unsigned}
+use Rattle.std.proofs.Math.Bool.{or-false, or_self, and-true}
 use Rattle.std.specs.List.{list_any}
+use Rattle.std.specs.Ordering.{nat_cmp}
 use Rattle.std.specs.Prelude.{min}
+use Rattle.std.specs.declared.cmp.Ordering.TheVariants.{Equal}
 use Rattle.mfotl_model.specs.Intervals.{in_interval, at_most}
 use Rattle.mfotl_model.specs.Satisfaction.{time_at}
 use Rattle.mfotl_model.specs.declared.interval.Interval.{Interval}
-use Rattle.mfotl_model.proofs.LogicLemmas.{or_moved}
 use Rattle.eval_since.specs.Times.{reaches}
 use Rattle.eval_until.specs.declared.recalled.Mark.{Mark}
-use Rattle.monitor_state.specs.JoinedRows.{either, least_time, marks_joined, put_mark, put_time, times_joined}
-use Rattle.monitor_state.specs.JoinedRows.{times_united}
+use Rattle.monitor_state.specs.JoinedRows.{either, least_time, marks_joined, times_joined, times_united}
 use Rattle.monitor_state.specs.StateStands.{mark_meets}
+use Rattle.state_merge.specs.Pairs.{lesser_mark}
+use Rattle.state_merge.proofs.PutLemmas.{any_of_all, marks_are, one_time, place_of, time_of, times_are}
 
 -- two tests that are right wherever they may be asked, and false elsewhere
 pub pooled_test : (r q ta tb truth : Bool) → (r ≡ true → ta ≡ truth) → (r ≡ false → ta ≡ false) → (q ≡ true → tb
@@ -60,24 +63,11 @@ either_holds {X} both P (Some x) (Some y) z is a b join = by z is (join x y (a x
 
 -- ---- times
 
-any_put_time : (p : ℕ → Bool) (x : ℕ) (ys : List ℕ) → list_any p (put_time x ys) ≡ (p x || list_any p ys)
-any_put_time p x [] = refl
-any_put_time p x (y ∷ ys) = by (nat_lt x y) (nat_eq x y) (λ e. eqb-true x y e) (any_put_time p x ys)
-  where
-    by : (less same : Bool) → (same ≡ true → x ≡ y) → list_any p (put_time x ys) ≡ (p x || list_any p ys)
-        → list_any p (cond less (x ∷ y ∷ ys) (cond same (y ∷ ys) (y ∷ put_time x ys)))
-        ≡ (p x || (p y || list_any p ys))
-    by true same e h = refl
-    by false true e h =
-        sym (ap (λ z. p z || (p y || list_any p ys)) (e refl) ∙ sym (or_assoc (p y) (p y) (list_any p ys))
-        ∙ ap (λ b. b || list_any p ys) (or_self (p y)))
-    by false false e h = ap (λ b. p y || b) h ∙ or_moved (p y) (p x) (list_any p ys)
-
 any_times : (p : ℕ → Bool) (xs ys : List ℕ) → list_any p (times_united xs ys) ≡ (list_any p xs || list_any p ys)
-any_times p [] ys = refl
-any_times p (x ∷ xs) ys =
-    any_put_time p x (times_united xs ys) ∙ ap (λ b. p x || b) (any_times p xs ys)
-    ∙ sym (or_assoc (p x) (list_any p xs) (list_any p ys))
+any_times p xs ys = ap (list_any p) (times_are xs ys) ∙ any_of_all time_of one_time p join xs ys
+  where
+    join : (x y : ℕ) → nat_cmp x y ≡ Equal → p y ≡ (p x || p y)
+    join x y e = sym (ap (λ z. p z || p y) (exact_unsigned x y e) ∙ or_self (p y))
 
 -- without an upper end the lesser time serves
 lesser_serves : (lo z x y : ℕ) → nat_le lo (z - min x y) ≡ (nat_le lo (z - x) || nat_le lo (z - y))
@@ -137,34 +127,16 @@ module _ (i : Interval) (t : List ℕ) (p : ℕ) where
       spread true false c d = sym (or-false (c && d))
       spread false b c d = refl
 
-  any_put_mark : (m : Mark) (ns : List Mark)
-      → list_any (mark_meets i t p) (put_mark m ns) ≡ (mark_meets i t p m || list_any (mark_meets i t p) ns)
-  any_put_mark m [] = refl
-  any_put_mark m (n ∷ ns) =
-      by (nat_lt m.place n.place) (nat_eq m.place n.place) (λ e. eqb-true m.place n.place e) (any_put_mark m ns)
-    where
-      same_place : m.place ≡ n.place → mark_meets i t p (record { place = n.place; start = min m.start n.start })
-          ≡ (mark_meets i t p m || mark_meets i t p n)
-      same_place e =
-          lesser_start n.place m.start n.start
-          ∙ ap (λ q. mark_meets i t p (record { place = q; start = m.start }) || mark_meets i t p n) (sym e)
-
-      by : (less same : Bool) → (same ≡ true → m.place ≡ n.place)
-          → list_any (mark_meets i t p) (put_mark m ns) ≡ (mark_meets i t p m || list_any (mark_meets i t p) ns)
-          → list_any (mark_meets i t p) (cond less (m ∷ n ∷ ns)
-          (cond same (record { place = n.place; start = min m.start n.start } ∷ ns) (n ∷ put_mark m ns)))
-          ≡ (mark_meets i t p m || (mark_meets i t p n || list_any (mark_meets i t p) ns))
-      by true same e h = refl
-      by false true e h =
-          ap (λ b. b || list_any (mark_meets i t p) ns) (same_place (e refl))
-          ∙ or_assoc (mark_meets i t p m) (mark_meets i t p n) (list_any (mark_meets i t p) ns)
-      by false false e h = ap (λ b. mark_meets i t p n || b) h
-          ∙ or_moved (mark_meets i t p n) (mark_meets i t p m) (list_any (mark_meets i t p) ns)
+  same_place : (m n : Mark) → nat_cmp m.place n.place ≡ Equal
+      → mark_meets i t p (lesser_mark m n) ≡ (mark_meets i t p m || mark_meets i t p n)
+  same_place m n e =
+      lesser_start n.place m.start n.start
+      ∙ ap (λ q. mark_meets i t p (record { place = q; start = m.start }) || mark_meets i t p n)
+      (sym (exact_unsigned m.place n.place e))
 
   -- the marks of both meet what either does
   pub marks_right : (ms ns : List Mark) → list_any (mark_meets i t p) (marks_joined ms ns)
       ≡ (list_any (mark_meets i t p) ms || list_any (mark_meets i t p) ns)
-  marks_right [] ns = refl
-  marks_right (m ∷ ms) ns =
-      any_put_mark m (marks_joined ms ns) ∙ ap (λ b. mark_meets i t p m || b) (marks_right ms ns)
-      ∙ sym (or_assoc (mark_meets i t p m) (list_any (mark_meets i t p) ms) (list_any (mark_meets i t p) ns))
+  marks_right ms ns =
+      ap (list_any (mark_meets i t p)) (marks_are ms ns)
+      ∙ any_of_all place_of lesser_mark (mark_meets i t p) same_place ms ns

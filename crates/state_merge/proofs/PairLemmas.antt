@@ -1,4 +1,4 @@
--- Two ascending lists paired key by key: what is found among the pairs, and that they ascend.
+-- Two ascending lists walked side by side: what is found at each key, and that the keys ascend.
 use Rattle.std.proofs.Common.{◌≡◌, Bool, true, false, cond, List, [], ◌∷◌, map, Option, Some, None, refl, sym, subst}
 use Rattle.std.proofs.Common.{ap, ◌∙◌}
 use Rattle.std.proofs.lemmas.Map.Views.{tells_apart}
@@ -11,22 +11,46 @@ use Rattle.std.specs.Map.{lookup, keys_of}
 use Rattle.std.specs.Ordering.{is_eq, ordering_reverse}
 use Rattle.std.specs.declared.cmp.Ordering.{Ordering}
 use Rattle.std.specs.declared.cmp.Ordering.TheVariants.{Less, Equal, Greater}
-use Rattle.itertools.specs.List.{by_ordering, merge_join_by}
-use Rattle.itertools.specs.declared.either_or_both.EitherOrBoth.{EitherOrBoth}
-use Rattle.itertools.specs.declared.either_or_both.EitherOrBoth.TheVariants.{Both, Left, Right}
-use Rattle.monitor_state.specs.JoinedRows.{either}
-use Rattle.state_merge.specs.Pairs.{InPair, joined_pairs}
+use Rattle.mfotl_model.proofs.RowLemmas.{row_exact}
+use Rattle.mfotl_model.specs.Values.{row_cmp, row_total}
+use Rattle.mfotl_model.specs.declared.value.Value.{Value}
+use Rattle.relations.specs.KeptRows.{RowsAscend, kept_for}
+use Rattle.monitor_state.specs.JoinedRows.{RowsUnion, either}
+use Rattle.state_merge.specs.Pairs.{by_order, walked}
+
+-- what holds of each of three values holds of the one that an ordering chooses
+pub chosen : {A : Type 0} (P : A → Type 0) (o : Ordering) (a b c : A) → (o ≡ Less → P a) → (o ≡ Equal → P b)
+    → (o ≡ Greater → P c) → P (by_order o a b c)
+chosen P Less a b c less equal greater = less refl
+chosen P Equal a b c less equal greater = equal refl
+chosen P Greater a b c less equal greater = greater refl
+
+-- what holds of a walk over two lists, by the order of their first ones
+pub by_first : {I X : Type 0} (order : I → I → Ordering) (told : I → X) (both : I → I → X) (P : List X → Type 0)
+    (x y : I) (xs ys : List I) → (order x y ≡ Less → P (told x ∷ walked order told both xs (y ∷ ys)))
+    → (order x y ≡ Equal → P (both x y ∷ walked order told both xs ys))
+    → (order x y ≡ Greater → P (told y ∷ walked order told both (x ∷ xs) ys))
+    → P (walked order told both (x ∷ xs) (y ∷ ys))
+by_first order told both P x y xs ys less equal greater =
+    chosen P (order x y) (told x ∷ walked order told both xs (y ∷ ys)) (both x y ∷ walked order told both xs ys)
+    (told y ∷ walked order told both (x ∷ xs) ys) less equal greater
 
 module _ {I K X : Type 0} {cmp : K → K → Ordering} (total : IsTotalOrder cmp) (exact : CmpEqualImpliesEq cmp)
     (key : I → K) (value : I → X) (both : X → X → X) where
-  abbrev entries : List I → List (K × X)
-  entries is = map (λ i. (key i, value i)) is
+  abbrev order : I → I → Ordering
+  order x y = cmp (key x) (key y)
 
-  abbrev pairs : List I → List I → List (EitherOrBoth I I)
-  pairs xs ys = merge_join_by (λ a b. cmp (key a) (key b)) xs ys
+  abbrev told : I → K × X
+  told i = (key i, value i)
+
+  abbrev one : I → I → K × X
+  one x y = (key x, both (value x) (value y))
+
+  abbrev entries : List I → List (K × X)
+  entries is = map told is
 
   abbrev merged : List I → List I → List (K × X)
-  merged xs ys = joined_pairs key value both (pairs xs ys)
+  merged xs ys = walked order told one xs ys
 
   abbrev found : List (K × X) → K → Option X
   found es k = lookup (is_at (cmp k)) es
@@ -49,68 +73,52 @@ module _ {I K X : Type 0} {cmp : K → K → Ordering} (total : IsTotalOrder cmp
   absent k [] all = refl
   absent k (e ∷ es) all = ap (λ o. cond (is_eq o) (Some e.1) (found es k)) all.0 ∙ absent k es all.1
 
-  rights : (ys : List I) → merged [] ys ≡ entries ys
-  rights [] = refl
-  rights (y ∷ ys) = ap (λ es. (key y, value y) ∷ es) (rights ys)
-
-  lefts : (xs : List I) → joined_pairs key value both (map (λ x. Left x) xs) ≡ entries xs
-  lefts [] = refl
-  lefts (x ∷ xs) = ap (λ es. (key x, value x) ∷ es) (lefts xs)
-
-  lefts_alone : (xs : List I) → merged xs [] ≡ entries xs
-  lefts_alone [] = refl
-  lefts_alone (x ∷ xs) = lefts (x ∷ xs)
-
   right_none : (o : Option X) → either both o None ≡ o
   right_none None = refl
   right_none (Some x) = refl
 
   merged_behind : (k : K) (xs ys : List I) → Behind k (entries xs) → Behind k (entries ys) → Behind k (merged xs ys)
-  merged_behind k [] ys ax ay = subst (Behind k) (sym (rights ys)) ay
-  merged_behind k (x ∷ xs) [] ax ay = subst (Behind k) (sym (lefts_alone (x ∷ xs))) ax
+  merged_behind k [] ys ax ay = ay
+  merged_behind k (x ∷ xs) [] ax ay = ax
   merged_behind k (x ∷ xs) (y ∷ ys) ax ay =
-      by (cmp (key x) (key y)) (merged_behind k xs (y ∷ ys) ax.1 ay) (merged_behind k xs ys ax.1 ay.1)
-      (merged_behind k (x ∷ xs) ys ax ay.1)
-    where
-      by : (o : Ordering) → Behind k (merged xs (y ∷ ys)) → Behind k (merged xs ys) → Behind k (merged (x ∷ xs) ys)
-          → Behind k (joined_pairs key value both
-          (by_ordering o (Left x ∷ pairs xs (y ∷ ys)) (Both x y ∷ pairs xs ys) (Right y ∷ pairs (x ∷ xs) ys)))
-      by Less a b c = (ax.0, a)
-      by Equal a b c = (ax.0, b)
-      by Greater a b c = (ay.0, c)
+      by_first order told one (Behind k) x y xs ys
+      (λ e. (ax.0, merged_behind k xs (y ∷ ys) ax.1 ay)) (λ e. (ax.0, merged_behind k xs ys ax.1 ay.1))
+      (λ e. (ay.0, merged_behind k (x ∷ xs) ys ax ay.1))
 
   -- the pairs ascend
   pub merged_ascends : (xs ys : List I) → Ascend (entries xs) → Ascend (entries ys) → Ascend (merged xs ys)
   unfolding IsStrictlySortedBy
-  merged_ascends [] ys ax ay = subst Ascend (sym (rights ys)) ay
-  merged_ascends (x ∷ xs) [] ax ay = subst Ascend (sym (lefts_alone (x ∷ xs))) ax
+  merged_ascends [] ys ax ay = ay
+  merged_ascends (x ∷ xs) [] ax ay = ax
   merged_ascends (x ∷ xs) (y ∷ ys) ax ay =
-      by (cmp (key x) (key y)) refl (merged_ascends xs (y ∷ ys) ax.1 ay) (merged_ascends xs ys ax.1 ay.1)
-      (merged_ascends (x ∷ xs) ys ax ay.1)
-    where
-      by : (o : Ordering) → cmp (key x) (key y) ≡ o → Ascend (merged xs (y ∷ ys)) → Ascend (merged xs ys)
-          → Ascend (merged (x ∷ xs) ys) → Ascend (joined_pairs key value both
-          (by_ordering o (Left x ∷ pairs xs (y ∷ ys)) (Both x y ∷ pairs xs ys) (Right y ∷ pairs (x ∷ xs) ys)))
-      by Less e a b c = (merged_behind (key x) xs (y ∷ ys) ax.0 (e, further (key x) (key y) (entries ys) e ay.0), a)
-      by Equal e a b c = (
-        merged_behind (key x) xs ys ax.0
-            (subst (λ k. Behind k (entries ys)) (sym (exact (key x) (key y) e)) ay.0),
-        b,
-      )
-      by Greater e a b c =
-          let low : cmp (key y) (key x) ≡ Less = turned (key x) (key y) e in
-          (merged_behind (key y) (x ∷ xs) ys (low, further (key y) (key x) (entries xs) low ax.0) ay.0, c)
+      by_first order told one Ascend x y xs ys
+      (λ e. (
+        merged_behind (key x) xs (y ∷ ys) ax.0 (e, further (key x) (key y) (entries ys) e ay.0),
+        merged_ascends xs (y ∷ ys) ax.1 ay,
+      ))
+      (λ e. (
+        merged_behind (key x) xs ys ax.0 (subst (λ k. Behind k (entries ys)) (sym (exact (key x) (key y) e)) ay.0),
+        merged_ascends xs ys ax.1 ay.1,
+      ))
+      (λ e. let low : cmp (key y) (key x) ≡ Less = turned (key x) (key y) e in (
+        merged_behind (key y) (x ∷ xs) ys (low, further (key y) (key x) (entries xs) low ax.0) ay.0,
+        merged_ascends (x ∷ xs) ys ax ay.1,
+      ))
 
   -- for each key there is what both keep together
   pub merged_finds : (xs ys : List I) → Ascend (entries xs) → Ascend (entries ys) → (k : K)
       → found (merged xs ys) k ≡ either both (found (entries xs) k) (found (entries ys) k)
   unfolding IsStrictlySortedBy
-  merged_finds [] ys ax ay k = ap (λ es. found es k) (rights ys)
-  merged_finds (x ∷ xs) [] ax ay k =
-      ap (λ es. found es k) (lefts_alone (x ∷ xs)) ∙ sym (right_none (found (entries (x ∷ xs)) k))
+  merged_finds [] ys ax ay k = refl
+  merged_finds (x ∷ xs) [] ax ay k = sym (right_none (found (entries (x ∷ xs)) k))
   merged_finds (x ∷ xs) (y ∷ ys) ax ay k =
-      by (cmp (key x) (key y)) refl (merged_finds xs (y ∷ ys) ax.1 ay k) (merged_finds xs ys ax.1 ay.1 k)
-      (merged_finds (x ∷ xs) ys ax ay.1 k)
+      by_first order told one (λ es. found es k ≡ either both (found (entries (x ∷ xs)) k)
+      (found (entries (y ∷ ys)) k)) x y xs ys
+      (λ e. first e (is_at (cmp k) (key x)) refl (merged_finds xs (y ∷ ys) ax.1 ay k))
+      (λ e. same (is_at (cmp k) (key x)) (merged_finds xs ys ax.1 ay.1 k)
+      ∙ ap (λ q. either both (found (entries (x ∷ xs)) k) (cond (is_at (cmp k) q) (Some (value y))
+      (found (entries ys) k))) (exact (key x) (key y) e))
+      (λ e. second (turned (key x) (key y) e) (is_at (cmp k) (key y)) refl (merged_finds (x ∷ xs) ys ax ay.1 k))
     where
       first : cmp (key x) (key y) ≡ Less → (b : Bool) → is_at (cmp k) (key x) ≡ b
           → found (merged xs (y ∷ ys)) k ≡ either both (found (entries xs) k) (found (entries (y ∷ ys)) k)
@@ -140,43 +148,24 @@ module _ {I K X : Type 0} {cmp : K → K → Ordering} (total : IsTotalOrder cmp
       same true h = refl
       same false h = h
 
-      by : (o : Ordering) → cmp (key x) (key y) ≡ o
-          → found (merged xs (y ∷ ys)) k ≡ either both (found (entries xs) k) (found (entries (y ∷ ys)) k)
-          → found (merged xs ys) k ≡ either both (found (entries xs) k) (found (entries ys) k)
-          → found (merged (x ∷ xs) ys) k ≡ either both (found (entries (x ∷ xs)) k) (found (entries ys) k)
-          → found (joined_pairs key value both
-          (by_ordering o (Left x ∷ pairs xs (y ∷ ys)) (Both x y ∷ pairs xs ys) (Right y ∷ pairs (x ∷ xs) ys))) k
-          ≡ either both (found (entries (x ∷ xs)) k) (found (entries (y ∷ ys)) k)
-      by Less e a b c = first e (is_at (cmp k) (key x)) refl a
-      by Equal e a b c =
-          same (is_at (cmp k) (key x)) b
-          ∙ ap (λ q. either both (found (entries (x ∷ xs)) k) (cond (is_at (cmp k) q) (Some (value y))
-          (found (entries ys) k))) (exact (key x) (key y) e)
-      by Greater e a b c = second (turned (key x) (key y) e) (is_at (cmp k) (key y)) refl c
+-- rows that a walk over two lists gives are the union of both
+module _ {I X : Type 0} (row : I → List Value) (value : I → X) (both : X → X → X) where
+  abbrev kept : I → List Value × X
+  kept i = (row i, value i)
 
--- what holds of each one in two lists holds of each one in their pairs
-module _ {I : Type 0} (P : I → Type 0) (order : I → I → Ordering) where
-  abbrev AllHold : List (EitherOrBoth I I) → Type 0
-  AllHold ps = AllByRecursion (InPair P) ps
+  abbrev kept_of_both : I → I → List Value × X
+  kept_of_both x y = (row x, both (value x) (value y))
 
-  rights_hold : (ys : List I) → AllByRecursion P ys → AllHold (map (λ y. Right y) ys)
-  rights_hold [] all = tt
-  rights_hold (y ∷ ys) all = (all.0, rights_hold ys all.1)
+  pub rows_united : (xs ys zs : List I) → RowsAscend (map kept xs) → RowsAscend (map kept ys)
+      → map kept zs ≡ walked (λ x y. row_cmp (row x) (row y)) kept kept_of_both xs ys
+      → RowsUnion both (map kept xs) (map kept ys) (map kept zs)
+  rows_united xs ys zs ax ay is =
+      record {
+        each = λ u. ap (λ es. kept_for es u) is ∙ merged_finds row_total row_exact row value both xs ys ax ay u;
+        ascend = subst RowsAscend (sym is) (merged_ascends row_total row_exact row value both xs ys ax ay);
+      }
 
-  lefts_hold : (xs : List I) → AllByRecursion P xs → AllHold (map (λ x. Left x) xs)
-  lefts_hold [] all = tt
-  lefts_hold (x ∷ xs) all = (all.0, lefts_hold xs all.1)
-
-  pub pairs_hold : (xs ys : List I) → AllByRecursion P xs → AllByRecursion P ys → AllHold (merge_join_by order xs ys)
-  pairs_hold [] ys ax ay = rights_hold ys ay
-  pairs_hold (x ∷ xs) [] ax ay = lefts_hold (x ∷ xs) ax
-  pairs_hold (x ∷ xs) (y ∷ ys) ax ay =
-      by (order x y) (pairs_hold xs (y ∷ ys) ax.1 ay) (pairs_hold xs ys ax.1 ay.1) (pairs_hold (x ∷ xs) ys ax ay.1)
-    where
-      by : (o : Ordering) → AllHold (merge_join_by order xs (y ∷ ys)) → AllHold (merge_join_by order xs ys)
-          → AllHold (merge_join_by order (x ∷ xs) ys)
-          → AllHold (by_ordering o (Left x ∷ merge_join_by order xs (y ∷ ys)) (Both x y ∷ merge_join_by order xs ys)
-          (Right y ∷ merge_join_by order (x ∷ xs) ys))
-      by Less a b c = (ax.0, a)
-      by Equal a b c = ((ax.0, ay.0), b)
-      by Greater a b c = (ay.0, c)
+-- where nothing is asked, it holds of all
+pub unasked : {I : Type 0} (is : List I) → AllByRecursion (λ i. Unit {0}) is
+unasked [] = tt
+unasked (i ∷ is) = (tt, unasked is)

@@ -25,8 +25,8 @@ use Rattle.eval_until.specs.declared.entries.Entry.{Entry}
 use Rattle.eval_until.specs.declared.recalled.KeptMarks.{KeptMarks}
 use Rattle.eval_until.specs.declared.recalled.Mark.{Mark}
 use Rattle.monitor_state.specs.StateStands.{marks_for, marks_kept}
-use Rattle.state_merge.proofs.KeepingLemmas.{AllKept, found_each, marks_all, marks_ascend, marks_some}
-use Rattle.state_merge.proofs.PutLemmas.{less_is}
+use Rattle.state_merge.proofs.KeepingLemmas.{AllKept, found_each, marks_all, marks_some}
+use Rattle.state_merge.proofs.PutLemmas.{less_is, marks_ascend}
 use Rattle.state_merge.specs.Pairs.{MarksAscend}
 use Rattle.monitor_state.specs.JoinedRows.{marks_joined}
 use Rattle.monitor_state.proofs.MarkLemmas.{entries_are}

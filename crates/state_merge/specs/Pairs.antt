@@ -1,54 +1,35 @@
--- Two lists of things that are kept for keys, paired key by key.
-use Rattle.std.specs.Prelude.{ℕ, min, Option, List, map}
+-- Two lists of things that stand by their keys, walked side by side.
+use Rattle.std.specs.Prelude.{min, Option, Some, None, List, [], ◌∷◌, map}
 use Rattle.std.specs.List.Sorted.{IsStrictlySortedBy}
 use Rattle.std.specs.Ordering.{nat_cmp}
-use Rattle.itertools.specs.declared.either_or_both.EitherOrBoth.{EitherOrBoth}
-use Rattle.itertools.specs.declared.either_or_both.EitherOrBoth.TheVariants.{Both, Left, Right}
-use Rattle.mfotl_model.specs.declared.value.Value.{Value}
-use Rattle.eval_since.specs.declared.recalled.KeptRow.{KeptRow}
-use Rattle.eval_until.specs.declared.recalled.KeptMarks.{KeptMarks}
-use Rattle.eval_until.specs.declared.recalled.KeptStart.{KeptStart}
+use Rattle.std.specs.declared.cmp.Ordering.{Ordering}
+use Rattle.std.specs.declared.cmp.Ordering.TheVariants.{Less, Equal, Greater}
 use Rattle.eval_until.specs.declared.recalled.Mark.{Mark}
-use Rattle.monitor_state.specs.JoinedRows.{marks_joined, times_joined}
 
--- the key of a pair, with what is kept for it: what one has, or what is made of both
-abbrev pub joined_pair : {I K X : Type 0} → (I → K) → (I → X) → (X → X → X) → EitherOrBoth I I → K × X
-joined_pair key value both (Left x) = (key x, value x)
-joined_pair key value both (Right y) = (key y, value y)
-joined_pair key value both (Both x y) = (key x, both (value x) (value y))
+-- the first, second or third value, by an ordering
+abbrev pub by_order : {A : Type 0} → Ordering → A → A → A → A
+by_order Less a b c = a
+by_order Equal a b c = b
+by_order Greater a b c = c
 
--- those of all pairs
-abbrev pub joined_pairs : {I K X : Type 0} → (I → K) → (I → X) → (X → X → X) → List (EitherOrBoth I I) → List (K × X)
-joined_pairs key value both pairs = map (joined_pair key value both) pairs
+-- what there is to tell of each one that a walk over two lists meets: of the one with the lesser key, or of two with
+-- one key together
+abbrev pub walked : {I X : Type 0} → (I → I → Ordering) → (I → X) → (I → I → X) → List I → List I → List X
+walked order told both [] ys = map told ys
+walked order told both (x ∷ xs) [] = map told (x ∷ xs)
+walked order told both (x ∷ xs) (y ∷ ys) =
+    by_order (order x y) (told x ∷ walked order told both xs (y ∷ ys)) (both x y ∷ walked order told both xs ys)
+    (told y ∷ walked order told both (x ∷ xs) ys)
 
--- a fact of each one in a pair
-abbrev pub InPair : {I : Type 0} → (I → Type 0) → EitherOrBoth I I → Type 0
-InPair P (Left x) = P x
-InPair P (Right y) = P y
-InPair P (Both x y) = P x × P y
-
--- the time of a pair of equal times, or the one that is there
-abbrev pub time_of : EitherOrBoth ℕ ℕ → ℕ
-time_of pair = (joined_pair (λ t. t) (λ t. t) (λ x y. x) pair).0
+-- a list of which the first one was taken, if it had one
+abbrev pub held : {I : Type 0} → Option I → List I → List I
+held None xs = []
+held (Some x) xs = x ∷ xs
 
 -- the places of marks ascend
 abbrev pub MarksAscend : List Mark → Type 0
 MarksAscend marks = IsStrictlySortedBy nat_cmp (map (λ (m : Mark). m.place) marks)
 
--- the mark of a pair of one place, or the one that is there
-abbrev pub mark_of : EitherOrBoth Mark Mark → Mark
-mark_of (Left m) = m
-mark_of (Right n) = n
-mark_of (Both m n) = record { place = n.place; start = min m.start n.start }
-
--- the row of a pair with its times
-abbrev pub with_times : Option ℕ → EitherOrBoth KeptRow KeptRow → List Value × List ℕ
-with_times hi pair = joined_pair (λ (k : KeptRow). k.row) (λ (k : KeptRow). k.times.items) (times_joined hi) pair
-
--- the row of a pair with the start of its run
-abbrev pub with_start : EitherOrBoth KeptStart KeptStart → List Value × ℕ
-with_start pair = joined_pair (λ (k : KeptStart). k.row) (λ (k : KeptStart). k.start) min pair
-
--- the row of a pair with its marks
-abbrev pub with_marks : EitherOrBoth KeptMarks KeptMarks → List Value × List Mark
-with_marks pair = joined_pair (λ (k : KeptMarks). k.row) (λ (k : KeptMarks). k.marks.items) marks_joined pair
+-- of two marks for one place the one with the lesser start
+abbrev pub lesser_mark : Mark → Mark → Mark
+lesser_mark m n = record { place = n.place; start = min m.start n.start }

@@ -1,6 +1,7 @@
 //! The pieces of a worker's new state, in any order, united to the state of its monitor.
 #![tactic(auto)]
 
+mod keyed;
 pub mod laws;
 mod marks;
 mod merging;

@@ -1,43 +1,35 @@
 //! The times of a row, united.
-ghost use Rattle.std.specs.Prelude.{◌≡◌, IfOk, map};
+ghost use Rattle.std.specs.Prelude.{◌≡◌, IfOk};
 ghost use Rattle.std.specs.List.Sorted.{IsStrictlyIncreasing};
-ghost use Rattle.std.specs.Ordering.{nat_cmp};
-ghost use Rattle.itertools.specs.List.{merge_join_by};
 ghost use Rattle.monitor_state.specs.JoinedRows.{least_time, times_joined};
-ghost use Rattle.state_merge.specs.Pairs.{time_of};
 
-use itertools::{EitherOrBoth, Itertools};
+use crate::keyed::{Keyed, joined};
 use std::alloc::{AllocError, Global};
+use std::cmp::Ordering;
 
-fn one_time(pair: EitherOrBoth<u64, u64>) -> u64
-    ensures { result ≡ time_of pair }
-{
-    match pair {
-        EitherOrBoth::Left(time) => time,
-        EitherOrBoth::Right(time) => time,
-        EitherOrBoth::Both(time, _) => time,
+impl Keyed for u64 {
+    ghost use Rattle.std.specs.Prelude.{ℕ};
+    ghost use Rattle.std.specs.Ordering.{nat_cmp};
+
+    type Limit = ();
+
+    ghost Told = { ℕ };
+
+    ghost told = { λ t. t };
+
+    ghost order = { nat_cmp };
+
+    ghost fits = { λ t. Unit {0} };
+
+    ghost both = { λ limit x y. y };
+
+    fn order(&self, other: &Self) -> Ordering {
+        self.cmp(other)
     }
-}
 
-fn paired_times(
-    alloc: Global,
-    first: Vec<u64>,
-    second: Vec<u64>,
-) -> Result<Vec<EitherOrBoth<u64, u64>>, AllocError>
-    ensures { IfOk result (λ pairs. pairs.items ≡ merge_join_by nat_cmp first.items second.items) }
-{
-    let pairs = first.into_iter().merge_join_by(second, |x, y| x.cmp(y));
-    pairs.collect_vec(alloc)
-}
-
-fn all_times(alloc: Global, pairs: Vec<EitherOrBoth<u64, u64>>) -> Result<Vec<u64>, AllocError>
-    ensures { IfOk result (λ times. times.items ≡ map time_of pairs.items) }
-{
-    let mut times = Vec::with_capacity(alloc, pairs.len())?;
-    for pair in pairs {
-        times.push(one_time(pair))?;
+    fn united(self, _alloc: Global, _limit: (), other: Self) -> Result<Self, AllocError> {
+        Ok(other)
     }
-    Ok(times)
 }
 
 fn least(alloc: Global, first: Vec<u64>, second: Vec<u64>) -> Result<Vec<u64>, AllocError>
@@ -68,8 +60,7 @@ pub fn joined_times(
     match hi {
         None => least(alloc, first, second),
         Some(_) => {
-            let pairs = paired_times(alloc, first, second)?;
-            let times = all_times(alloc, pairs)?;
+            let times = joined(alloc, (), first, second)?;
             Ok(times)
         }
     }
