@@ -4,6 +4,7 @@ pub mod StampLemmas
 pub mod FeedingLemmas
 pub mod RegionLemmas
 pub mod OrderingLemmas
+pub mod TablesLemmas
 pub mod SinceSteps
 pub mod JoinLemmas
 pub mod JoinSteps

@@ -1,6 +1,6 @@
 -- Tables with their columns in another order.
-use Rattle.std.proofs.Common.{Result, Ok, Err, IfOk, OnOk, Option, Some, None, option_to_list, subst, ◌≡◌}
-use Rattle.std.proofs.Common.{List, [], ◌∷◌, ◌++◌, sym, ap, ◌∙◌, append_assoc, append-nil, IfNone}
+use Rattle.std.proofs.Common.{Result, Ok, Err, IfOk, OnOk, Option, Some, option_to_list, ◌≡◌}
+use Rattle.std.proofs.Common.{List, ◌∷◌, ◌++◌, ap, ◌∙◌}
 
 -- what follows from two facts of a value that a result has
 pub ok_two : {X E : Type 0} (r : Result X E) (P Q R : X → Type 0) → ((x : X) → P x → Q x → R x) → IfOk r P → IfOk r Q
@@ -13,20 +13,7 @@ pub taken_one : {X : Type 0} (r : Option X) (x : X) (all rest : List X) → r �
     → all ≡ x ∷ rest
 taken_one r x all rest is e = e ∙ ap (λ o. option_to_list o ++ rest) is
 
-pub moved_one : {X : Type 0} (initial front all rest : List X) (x : X) → initial ≡ front ++ all → all ≡ x ∷ rest
-    → initial ≡ (front ++ x ∷ []) ++ rest
-moved_one initial front all rest x before is =
-    before ∙ ap (λ xs. front ++ xs) is ∙ sym (append_assoc front (x ∷ []) rest)
-
 pub ok_both : {X E : Type 0} (r : Result X E) (P : X → Type 0) (Q : Type 0) (R : X → Type 0) → ((x : X) → P x → Q → R x)
     → IfOk r P → OnOk r Q → IfOk r R
 ok_both (Ok x) P Q R h p q = h x p q
 ok_both (Err e) P Q R h p q = p
-
--- all was taken where nothing more could be
-pub ended_at : {X : Type 0} (initial front all : List X) (r : Option X) (rest : List X) → initial ≡ front ++ all
-    → r ≡ None
-    → IfNone r (all ≡ [])
-    → initial ≡ front
-ended_at initial front all r rest before is none =
-    before ∙ ap (λ xs. front ++ xs) (subst (λ o. IfNone o (all ≡ [])) is none) ∙ append-nil front

@@ -41,10 +41,10 @@ pub fn take_filter(
     pulled(alloc, state)
 }
 
-fn push_tables(kept: &mut Tables, mut tables: Tables) -> Result<(), AllocError>
+fn push_tables(kept: &mut Tables, tables: Tables) -> Result<(), AllocError>
     ensures { OnOk result (kept.new ≡ kept.old ++ tables) }
 {
-    while let Some(table) = tables.take() {
+    for table in tables {
         kept.push(table)?;
     }
     Ok(())

@@ -37,10 +37,10 @@ fn next(child: u32) -> Result<u32, AllocError>
     child.checked_add(1).ok_or(AllocError)
 }
 
-fn push_child(state: &mut JoinState, child: u32, mut tables: Tables) -> Result<(), AllocError>
+fn push_child(state: &mut JoinState, child: u32, tables: Tables) -> Result<(), AllocError>
     ensures { OnOk result (state.new ≡ record state.old { children = child_fed state.old.children child tables }) }
 {
-    while let Some(table) = tables.take() {
+    for table in tables {
         if !state.takes(child, &table) {
             return Err(AllocError);
         }

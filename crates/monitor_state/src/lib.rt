@@ -11,6 +11,7 @@ mod conjunction;
 mod constant;
 mod filter;
 mod join;
+mod kept_times;
 pub mod laws;
 mod lookup;
 mod monitor;

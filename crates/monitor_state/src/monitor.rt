@@ -12,6 +12,7 @@ ghost use Rattle.monitor_state.specs.StateStands.{StateStands};
 ghost use Rattle.monitor_state.specs.Steps.{Steps};
 
 use crate::compile::begun_nodes;
+use crate::kept_times::KeptTimes;
 use crate::node::Node;
 use crate::recording::nodes_data;
 use crate::resume_nodes::nodes_resumed;
@@ -114,7 +115,11 @@ impl Monitor {
             nodes,
         } = state;
         let first = taken.saturating_sub(times.len() as u64);
-        let nodes = nodes_resumed(alloc, fresh, first, times.as_slice(), nodes)?;
+        let kept = KeptTimes {
+            first,
+            stamps: times.as_slice(),
+        };
+        let nodes = nodes_resumed(alloc, fresh, &kept, nodes)?;
         Ok(Monitor {
             core,
             taken,

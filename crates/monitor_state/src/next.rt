@@ -24,10 +24,10 @@ pub fn take_next(
     pulled(alloc, state)
 }
 
-fn push_tables(state: &mut NextState, mut tables: Tables) -> Result<(), AllocError>
+fn push_tables(state: &mut NextState, tables: Tables) -> Result<(), AllocError>
     ensures { OnOk result (NextPushed state.old state.new tables) }
 {
-    while let Some(table) = tables.take() {
+    for table in tables {
         if !state.takes_right(&table) {
             return Err(AllocError);
         }

@@ -110,11 +110,11 @@ fn advance_exists(
     quantified(alloc, tables, var)
 }
 
-fn quantified(alloc: Global, mut tables: Tables, var: u32) -> Result<Tables, AllocError>
+fn quantified(alloc: Global, tables: Tables, var: u32) -> Result<Tables, AllocError>
     ensures { IfOk result (λ without. Quantifies var tables without) }
 {
     let mut without = Tables::new(alloc);
-    while let Some(table) = tables.take() {
+    for table in tables {
         without.push(table.exists(alloc, var)?)?;
     }
     Ok(without)

@@ -21,10 +21,10 @@ pub fn take_or(
     pulled(alloc, state)
 }
 
-fn push_operand(state: &mut OrState, child: u32, mut tables: Tables) -> Result<(), AllocError>
+fn push_operand(state: &mut OrState, child: u32, tables: Tables) -> Result<(), AllocError>
     ensures { OnOk result (state.new ≡ operand_fed state.old child tables) }
 {
-    while let Some(table) = tables.take() {
+    for table in tables {
         if !state.takes(child, &table) {
             return Err(AllocError);
         }

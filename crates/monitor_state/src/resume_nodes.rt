@@ -3,10 +3,9 @@ ghost use Rattle.std.specs.Prelude.{IfOk};
 ghost use Rattle.monitor_state.specs.Resuming.{AllMatch, Matches, NodeResumed, NodesResumed};
 
 use crate::filter::FilterState;
+use crate::kept_times::KeptTimes;
 use crate::node::Node;
-use crate::resume_windows::{
-    before_place, from_place, since_resumed, until_resumed, window_resumed,
-};
+use crate::resume_windows::{since_resumed, until_resumed, window_resumed};
 use crate::state::{NodeData, WindowData};
 use crate::tables::Tables;
 use eval_bool::{AtomReader, JoinState, OrState};
@@ -20,13 +19,11 @@ use std::collections::VecDeque;
 pub fn nodes_resumed(
     alloc: Global,
     fresh: Vec<Node>,
-    first: u64,
-    times: &[u64],
+    times: &KeptTimes,
     kept: Vec<NodeData>,
 ) -> Result<Vec<Node>, AllocError>
-    requires { AllMatch (record { first = first; stamps = times.now }) fresh.items kept.items }
-    ensures { IfOk result (λ nodes. NodesResumed (record { first = first; stamps = times.now }) fresh.items kept.items
-        nodes.items) }
+    requires { AllMatch times.now fresh.items kept.items }
+    ensures { IfOk result (λ nodes. NodesResumed times.now fresh.items kept.items nodes.items) }
 {
     let mut nodes = Vec::with_capacity(alloc, fresh.len())?;
     let mut rest = VecDeque::from_vec(fresh);
@@ -35,7 +32,7 @@ pub fn nodes_resumed(
         let Some(data) = left.pop_front() else {
             return Err(AllocError);
         };
-        nodes.push(node_resumed(alloc, node, first, times, data)?)?;
+        nodes.push(node_resumed(alloc, node, times, data)?)?;
     }
     Ok(nodes)
 }
@@ -43,35 +40,29 @@ pub fn nodes_resumed(
 fn node_resumed(
     alloc: Global,
     node: Node,
-    first: u64,
-    times: &[u64],
+    times: &KeptTimes,
     kept: NodeData,
 ) -> Result<Node, AllocError>
-    requires { Matches (record { first = first; stamps = times.now }) node kept }
-    ensures { IfOk result (NodeResumed (record { first = first; stamps = times.now }) node kept) }
+    requires { Matches times.now node kept }
+    ensures { IfOk result (NodeResumed times.now node kept) }
 {
     match node {
-        Node::Constant(table) => resumed_constant(table, first, times, kept),
-        Node::Atom(reader) => resumed_atom(reader, first, times, kept),
-        Node::Exists(var) => resumed_exists(var, first, times, kept),
-        Node::Join(state) => resumed_join(alloc, state, first, times, kept),
-        Node::Filter(state) => resumed_filter(alloc, state, first, times, kept),
-        Node::Or(state) => resumed_or(state, first, times, kept),
-        Node::Previous(state) => resumed_previous(alloc, state, first, times, kept),
-        Node::Next(state) => resumed_next(alloc, state, first, times, kept),
-        Node::Since(state, order) => resumed_since(alloc, state, order, first, times, kept),
-        Node::Until(state, order) => resumed_until(alloc, state, order, first, times, kept),
+        Node::Constant(table) => resumed_constant(table, times, kept),
+        Node::Atom(reader) => resumed_atom(reader, times, kept),
+        Node::Exists(var) => resumed_exists(var, times, kept),
+        Node::Join(state) => resumed_join(alloc, state, times, kept),
+        Node::Filter(state) => resumed_filter(alloc, state, times, kept),
+        Node::Or(state) => resumed_or(state, times, kept),
+        Node::Previous(state) => resumed_previous(alloc, state, times, kept),
+        Node::Next(state) => resumed_next(alloc, state, times, kept),
+        Node::Since(state, order) => resumed_since(alloc, state, order, times, kept),
+        Node::Until(state, order) => resumed_until(alloc, state, order, times, kept),
     }
 }
 
-fn resumed_constant(
-    table: Table,
-    first: u64,
-    times: &[u64],
-    kept: NodeData,
-) -> Result<Node, AllocError>
-    requires { Matches (record { first = first; stamps = times.now }) (Node.Constant table) kept }
-    ensures { IfOk result (NodeResumed (record { first = first; stamps = times.now }) (Node.Constant table) kept) }
+fn resumed_constant(table: Table, times: &KeptTimes, kept: NodeData) -> Result<Node, AllocError>
+    requires { Matches times.now (Node.Constant table) kept }
+    ensures { IfOk result (NodeResumed times.now (Node.Constant table) kept) }
 {
     match kept {
         NodeData::Bare => Ok(Node::Constant(table)),
@@ -79,14 +70,9 @@ fn resumed_constant(
     }
 }
 
-fn resumed_atom(
-    reader: AtomReader,
-    first: u64,
-    times: &[u64],
-    kept: NodeData,
-) -> Result<Node, AllocError>
-    requires { Matches (record { first = first; stamps = times.now }) (Node.Atom reader) kept }
-    ensures { IfOk result (NodeResumed (record { first = first; stamps = times.now }) (Node.Atom reader) kept) }
+fn resumed_atom(reader: AtomReader, times: &KeptTimes, kept: NodeData) -> Result<Node, AllocError>
+    requires { Matches times.now (Node.Atom reader) kept }
+    ensures { IfOk result (NodeResumed times.now (Node.Atom reader) kept) }
 {
     match kept {
         NodeData::Bare => Ok(Node::Atom(reader)),
@@ -94,9 +80,9 @@ fn resumed_atom(
     }
 }
 
-fn resumed_exists(var: u32, first: u64, times: &[u64], kept: NodeData) -> Result<Node, AllocError>
-    requires { Matches (record { first = first; stamps = times.now }) (Node.Exists var) kept }
-    ensures { IfOk result (NodeResumed (record { first = first; stamps = times.now }) (Node.Exists var) kept) }
+fn resumed_exists(var: u32, times: &KeptTimes, kept: NodeData) -> Result<Node, AllocError>
+    requires { Matches times.now (Node.Exists var) kept }
+    ensures { IfOk result (NodeResumed times.now (Node.Exists var) kept) }
 {
     match kept {
         NodeData::Bare => Ok(Node::Exists(var)),
@@ -107,12 +93,11 @@ fn resumed_exists(var: u32, first: u64, times: &[u64], kept: NodeData) -> Result
 fn resumed_join(
     alloc: Global,
     state: JoinState,
-    first: u64,
-    times: &[u64],
+    times: &KeptTimes,
     kept: NodeData,
 ) -> Result<Node, AllocError>
-    requires { Matches (record { first = first; stamps = times.now }) (Node.Join state) kept }
-    ensures { IfOk result (NodeResumed (record { first = first; stamps = times.now }) (Node.Join state) kept) }
+    requires { Matches times.now (Node.Join state) kept }
+    ensures { IfOk result (NodeResumed times.now (Node.Join state) kept) }
 {
     let NodeData::Join(data) = kept else {
         return Err(AllocError);
@@ -124,17 +109,16 @@ fn resumed_join(
 fn resumed_filter(
     alloc: Global,
     state: FilterState,
-    first: u64,
-    times: &[u64],
+    times: &KeptTimes,
     kept: NodeData,
 ) -> Result<Node, AllocError>
-    requires { Matches (record { first = first; stamps = times.now }) (Node.Filter state) kept }
-    ensures { IfOk result (NodeResumed (record { first = first; stamps = times.now }) (Node.Filter state) kept) }
+    requires { Matches times.now (Node.Filter state) kept }
+    ensures { IfOk result (NodeResumed times.now (Node.Filter state) kept) }
 {
     let NodeData::Filter(tables, window) = kept else {
         return Err(AllocError);
     };
-    let window = window_resumed(alloc, state.window, first, times, window)?;
+    let window = window_resumed(alloc, state.window, times, window)?;
     Ok(Node::Filter(FilterState {
         tables: Tables::from_vec(tables),
         window,
@@ -143,9 +127,9 @@ fn resumed_filter(
     }))
 }
 
-fn resumed_or(state: OrState, first: u64, times: &[u64], kept: NodeData) -> Result<Node, AllocError>
-    requires { Matches (record { first = first; stamps = times.now }) (Node.Or state) kept }
-    ensures { IfOk result (NodeResumed (record { first = first; stamps = times.now }) (Node.Or state) kept) }
+fn resumed_or(state: OrState, times: &KeptTimes, kept: NodeData) -> Result<Node, AllocError>
+    requires { Matches times.now (Node.Or state) kept }
+    ensures { IfOk result (NodeResumed times.now (Node.Or state) kept) }
 {
     let NodeData::Or(data) = kept else {
         return Err(AllocError);
@@ -156,18 +140,17 @@ fn resumed_or(state: OrState, first: u64, times: &[u64], kept: NodeData) -> Resu
 fn resumed_previous(
     alloc: Global,
     state: PrevState,
-    first: u64,
-    times: &[u64],
+    times: &KeptTimes,
     kept: NodeData,
 ) -> Result<Node, AllocError>
-    requires { Matches (record { first = first; stamps = times.now }) (Node.Previous state) kept }
-    ensures { IfOk result (NodeResumed (record { first = first; stamps = times.now }) (Node.Previous state) kept) }
+    requires { Matches times.now (Node.Previous state) kept }
+    ensures { IfOk result (NodeResumed times.now (Node.Previous state) kept) }
 {
     let NodeData::Previous(data) = kept else {
         return Err(AllocError);
     };
-    let last = before_place(times, first, data.pulled);
-    let next = from_place(times, first, data.pulled);
+    let last = times.before_place(data.pulled);
+    let next = times.from_place(data.pulled);
     let resumed = state.resumed(alloc, last, next, data)?;
     Ok(Node::Previous(resumed))
 }
@@ -175,17 +158,16 @@ fn resumed_previous(
 fn resumed_next(
     alloc: Global,
     state: NextState,
-    first: u64,
-    times: &[u64],
+    times: &KeptTimes,
     kept: NodeData,
 ) -> Result<Node, AllocError>
-    requires { Matches (record { first = first; stamps = times.now }) (Node.Next state) kept }
-    ensures { IfOk result (NodeResumed (record { first = first; stamps = times.now }) (Node.Next state) kept) }
+    requires { Matches times.now (Node.Next state) kept }
+    ensures { IfOk result (NodeResumed times.now (Node.Next state) kept) }
 {
     let NodeData::Next(data) = kept else {
         return Err(AllocError);
     };
-    let next = from_place(times, first, data.pulled);
+    let next = times.from_place(data.pulled);
     let resumed = state.resumed(alloc, next, data)?;
     Ok(Node::Next(resumed))
 }
@@ -194,12 +176,11 @@ fn resumed_since(
     alloc: Global,
     state: SinceState,
     order: Table,
-    first: u64,
-    times: &[u64],
+    times: &KeptTimes,
     kept: NodeData,
 ) -> Result<Node, AllocError>
-    requires { Matches (record { first = first; stamps = times.now }) (Node.Since state order) kept }
-    ensures { IfOk result (NodeResumed (record { first = first; stamps = times.now }) (Node.Since state order) kept) }
+    requires { Matches times.now (Node.Since state order) kept }
+    ensures { IfOk result (NodeResumed times.now (Node.Since state order) kept) }
 {
     let NodeData::Window(window) = kept else {
         return Err(AllocError);
@@ -207,7 +188,7 @@ fn resumed_since(
     let WindowData::Since(data) = window else {
         return Err(AllocError);
     };
-    let resumed = since_resumed(alloc, state, first, times, data)?;
+    let resumed = since_resumed(alloc, state, times, data)?;
     Ok(Node::Since(resumed, order))
 }
 
@@ -215,12 +196,11 @@ fn resumed_until(
     alloc: Global,
     state: UntilState,
     order: Table,
-    first: u64,
-    times: &[u64],
+    times: &KeptTimes,
     kept: NodeData,
 ) -> Result<Node, AllocError>
-    requires { Matches (record { first = first; stamps = times.now }) (Node.Until state order) kept }
-    ensures { IfOk result (NodeResumed (record { first = first; stamps = times.now }) (Node.Until state order) kept) }
+    requires { Matches times.now (Node.Until state order) kept }
+    ensures { IfOk result (NodeResumed times.now (Node.Until state order) kept) }
 {
     let NodeData::Window(window) = kept else {
         return Err(AllocError);
@@ -228,6 +208,6 @@ fn resumed_until(
     let WindowData::Until(data) = window else {
         return Err(AllocError);
     };
-    let resumed = until_resumed(alloc, state, first, times, data)?;
+    let resumed = until_resumed(alloc, state, times, data)?;
     Ok(Node::Until(resumed, order))
 }

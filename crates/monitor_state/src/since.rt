@@ -42,10 +42,10 @@ pub fn feed_since(
     push_rights(state, right)
 }
 
-fn push_lefts(state: &mut SinceState, mut tables: Tables) -> Result<(), AllocError>
+fn push_lefts(state: &mut SinceState, tables: Tables) -> Result<(), AllocError>
     ensures { OnOk result (LeftsPushed state.old state.new tables) }
 {
-    while let Some(table) = tables.take() {
+    for table in tables {
         if !state.takes_left(&table) {
             return Err(AllocError);
         }
@@ -54,10 +54,10 @@ fn push_lefts(state: &mut SinceState, mut tables: Tables) -> Result<(), AllocErr
     Ok(())
 }
 
-fn push_rights(state: &mut SinceState, mut tables: Tables) -> Result<(), AllocError>
+fn push_rights(state: &mut SinceState, tables: Tables) -> Result<(), AllocError>
     ensures { OnOk result (RightsPushed state.old state.new tables) }
 {
-    while let Some(table) = tables.take() {
+    for table in tables {
         if !state.takes_right(&table) {
             return Err(AllocError);
         }

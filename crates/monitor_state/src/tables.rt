@@ -1,5 +1,6 @@
 //! Tables of positions that follow one another.
 ghost use Rattle.std.specs.Prelude.{◌≡◌, ◌++◌, ◌∷◌, [], IfNone, IfOk, OnOk, length, option_to_list};
+ghost use Rattle.std.specs.Iterator.{YieldsFirst, item_count};
 
 use relations::{Table, copied_tables};
 use std::alloc::{AllocError, Global};
@@ -99,5 +100,35 @@ impl Tables {
             self.first = self.more.pop_front();
         }
         first
+    }
+}
+
+impl IntoIterator for Tables {
+    type Item = Table;
+
+    type IntoIter = IntoIter;
+
+    ghost into_iter_gives = { λ tables iter. iter.left ≡ tables };
+
+    fn into_iter(self) -> IntoIter {
+        IntoIter { left: self }
+    }
+}
+
+/// The tables, one after the other.
+#[derive(Drop)]
+pub struct IntoIter {
+    left: Tables,
+}
+
+impl Iterator for IntoIter {
+    type Item = Table;
+
+    ghost next_gives = { YieldsFirst (λ iter. iter.left) };
+
+    ghost remaining = { item_count (λ iter. iter.left) };
+
+    fn next(&mut self) -> Option<Table> {
+        self.left.take()
     }
 }

@@ -43,10 +43,10 @@ pub fn feed_until(
     push_rights(state, right)
 }
 
-fn push_lefts(state: &mut UntilState, mut tables: Tables) -> Result<(), AllocError>
+fn push_lefts(state: &mut UntilState, tables: Tables) -> Result<(), AllocError>
     ensures { OnOk result (UntilLeftsPushed state.old state.new tables) }
 {
-    while let Some(table) = tables.take() {
+    for table in tables {
         if !state.takes_left(&table) {
             return Err(AllocError);
         }
@@ -55,10 +55,10 @@ fn push_lefts(state: &mut UntilState, mut tables: Tables) -> Result<(), AllocErr
     Ok(())
 }
 
-fn push_rights(state: &mut UntilState, mut tables: Tables) -> Result<(), AllocError>
+fn push_rights(state: &mut UntilState, tables: Tables) -> Result<(), AllocError>
     ensures { OnOk result (UntilRightsPushed state.old state.new tables) }
 {
-    while let Some(table) = tables.take() {
+    for table in tables {
         if !state.takes_right(&table) {
             return Err(AllocError);
         }

@@ -1,12 +1,7 @@
-use Rattle.std.proofs.Common.{◌≡◌, List, ◌++◌, length}
-use Rattle.mfotl_model.specs.Tables.{TableOf}
+use Rattle.std.proofs.Common.{◌≡◌}
 use Rattle.monitor_state.specs.JoinFeeding.{child_fed}
 use Rattle.monitor_state.proofs.join.push_child.Given as goal
 
 abbrev pub invariant-loop-table : goal.invariant-loop-table
 invariant-loop-table l =
-    (front : List TableOf) × (l.initial.tables ≡ front ++ l.tables)
-    × (l.state ≡ record l.initial.state { children = child_fed l.initial.state.children l.child front })
-
-abbrev pub decreases-loop-table : goal.decreases-loop-table
-decreases-loop-table l = length l.tables
+    l.state ≡ record l.initial.state { children = child_fed l.initial.state.children l.child l.yielded }

@@ -1,11 +1,5 @@
-use Rattle.std.proofs.Common.{◌≡◌, List, ◌++◌, length}
-use Rattle.mfotl_model.specs.Tables.{TableOf}
 use Rattle.monitor_state.specs.Quantified.{Quantifies}
 use Rattle.monitor_state.proofs.node.quantified.Given as goal
 
 abbrev pub invariant-loop-table : goal.invariant-loop-table
-invariant-loop-table l =
-    (front : List TableOf) × (l.initial.tables ≡ front ++ l.tables) × Quantifies l.var front l.without
-
-abbrev pub decreases-loop-table : goal.decreases-loop-table
-decreases-loop-table l = length l.tables
+invariant-loop-table l = Quantifies l.var l.yielded l.without

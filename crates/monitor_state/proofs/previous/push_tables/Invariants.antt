@@ -1,11 +1,5 @@
-use Rattle.std.proofs.Common.{◌≡◌, List, ◌++◌, length}
-use Rattle.mfotl_model.specs.Tables.{TableOf}
 use Rattle.monitor_state.specs.PreviousFeeding.{PreviousPushed}
 use Rattle.monitor_state.proofs.previous.push_tables.Given as goal
 
 abbrev pub invariant-loop-table : goal.invariant-loop-table
-invariant-loop-table l =
-    (front : List TableOf) × (l.initial.tables ≡ front ++ l.tables) × PreviousPushed l.initial.state l.state front
-
-abbrev pub decreases-loop-table : goal.decreases-loop-table
-decreases-loop-table l = length l.tables
+invariant-loop-table l = PreviousPushed l.initial.state l.state l.yielded

@@ -4,7 +4,7 @@ use Rattle.monitor_state.proofs.resume_nodes.nodes_resumed.Given as goal
 
 abbrev pub invariant-loop-node : goal.invariant-loop-node
 invariant-loop-node l =
-    HalfResumed (record { first = l.first; stamps = l.times }) l.fn.fresh.items l.fn.kept.items l.rest.items
+    HalfResumed l.times l.fn.fresh.items l.fn.kept.items l.rest.items
     l.left.items
     l.nodes.items
 

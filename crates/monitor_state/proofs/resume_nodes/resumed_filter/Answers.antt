@@ -1,20 +1,19 @@
 use Rattle.std.proofs.Common.{refl, subst, sym}
 use Rattle.monitor_state.proofs.ResumeNodes.{filter_fits, filter_resumed}
 use Rattle.monitor_state.specs.Resuming.{Matches, NodeResumed}
-use Rattle.monitor_state.specs.StateTimes.{KeptTimes}
 use Rattle.monitor_state.specs.declared.filter.FilterState.{FilterState}
 use Rattle.monitor_state.specs.declared.node.Node.TheVariants as node
 use Rattle.monitor_state.proofs.resume_nodes.resumed_filter.Goals as goal
 
 pub window_resumed-requires : goal.window_resumed-requires
 window_resumed-requires c =
-    let k : KeptTimes = record { first = c.args.first; stamps = c.args.times.now } in
+    let k = c.args.times.now in
     let fits = subst (Matches k (node.Filter c.args.state)) c.in-Filter.is c.requires in
     record { fits = filter_fits k c.args.state c.in-Filter.tables c.in-Filter.window fits.0 fits.1 fits.2 }
 
 pub returns : goal.returns
 returns c =
-    let k : KeptTimes = record { first = c.args.first; stamps = c.args.times.now } in
+    let k = c.args.times.now in
     let new : FilterState =
     record {
       tables = c.from_vec.result;

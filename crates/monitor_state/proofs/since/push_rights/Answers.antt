@@ -1,25 +1,17 @@
-use Rattle.std.proofs.Common.{List, [], ◌∷◌, ◌++◌, sym, subst}
-use Rattle.mfotl_model.specs.Tables.{TableOf}
+use Rattle.std.proofs.Common.{subst}
 use Rattle.monitor_state.proofs.FeedingLemmas.{rights_more}
-use Rattle.monitor_state.proofs.OrderingLemmas.{ended_at, moved_one, taken_one}
+use Rattle.monitor_state.proofs.TablesLemmas.{all_yielded}
 use Rattle.monitor_state.specs.Feeding.{RightsPushed}
 use Rattle.monitor_state.proofs.since.push_rights.Goals as goal
 
 pub loop-table-preserved : goal.loop-table-preserved
 loop-table-preserved c =
-    let front : List TableOf = c.loop-table.invariant.0 in (
-      front ++ c.in-Some.table ∷ [],
-      moved_one c.args.tables front c.loop-table.tables c.take.new.self c.in-Some.table c.loop-table.invariant.1
-          (taken_one c.take.result c.in-Some.table c.loop-table.tables c.take.new.self c.in-Some.is
-          c.take.ensures.first),
-      rights_more c.args.state.now c.loop-table.state c.push_right.new.self front c.in-Some.table
-          c.loop-table.invariant.2
-          c.in_ok-push_right.ensures.pushed c.in_ok-push_right.ensures.follows,
-    )
+    rights_more c.args.state.now c.loop-table.state c.push_right.new.self c.loop-table.yielded c.in-Some.table
+    c.loop-table.invariant c.in_ok-push_right.ensures.pushed c.in_ok-push_right.ensures.follows
 
 pub returns : goal.returns
 returns c =
     subst (RightsPushed c.args.state.now c.loop-table.state)
-    (sym (ended_at c.args.tables c.loop-table.invariant.0 c.loop-table.tables c.take.result c.take.new.self
-    c.loop-table.invariant.1 c.in_default.is c.take.ensures.none))
-    c.loop-table.invariant.2
+    (all_yielded c.loop-table.yielded c.into_iter-table-iterator.ensures.into_iter_gives c.loop-table.yielded_by
+    c.in-None.ensures.steps.0)
+    c.loop-table.invariant
