@@ -1,5 +1,5 @@
-"""The policies and logs by which the monitor is measured: fifteen shapes that stress it in different places, and three
-with a window that isn't written last in its conjunction, which are measured where they are asked for.
+"""The policies and logs by which the monitor is measured: fifteen shapes that stress it in different places, and five
+that are measured where they are asked for.
 
 `write(name, events, folder)` writes a signature, a policy and a log of about so many events. The same name and
 number give the same bytes.
@@ -215,6 +215,14 @@ def approvals_with_drafts(draw, events):
         yield now, [event(draw.choice(kinds), draw.randrange(5000)) for _ in range(size)]
 
 
+def approvals_among_others(draw, events):
+    others = ("edit", "read", "share", "print")
+    for now, size in enumerate(batches(events, 20)):
+        yield now, [event(draw.choice(others), draw.randrange(1000), f"place{draw.randrange(1000)}") if draw.randrange(3)
+                    else event("approve" if draw.randrange(10) < 8 else "publish", draw.randrange(1000))
+                    for _ in range(size)]
+
+
 def alarms_with_answers(draw, events):
     for _, now in zip(batches(events, 1), clock(draw, 3)):
         yield now, [event("answer", draw.randrange(1000), draw.randrange(100)) if draw.randrange(100)
@@ -293,6 +301,9 @@ WORKLOADS = {
                                  "a window between two atoms", approvals_with_drafts, only_asked=True),
     "approved-first": Workload(REPORTS, "ONCE[0,700] approve(x) OR NOT publish(x)",
                                "a window before its atom", approvals_one_by_one, only_asked=True),
+    "approvals-among-others": Workload(
+        REPORTS + " edit(int,string) read(int,string) share(int,string) print(int,string)", APPROVED,
+        "two thirds of the events are of predicates that the policy lacks", approvals_among_others, only_asked=True),
     "answers-ahead": Workload("alarm(int) answer(int,int)", "NOT (alarm(x) AND EVENTUALLY[0,500] answer(x,y))",
                               "a window ahead that few time-points ask, by key", alarms_with_answers, only_asked=True),
 }
