@@ -5,6 +5,7 @@ that are measured where they are asked for.
 number give the same bytes.
 """
 
+import argparse
 import itertools
 import os
 import random
@@ -309,6 +310,14 @@ WORKLOADS = {
 }
 
 MEASURED = [name for name, workload in WORKLOADS.items() if not workload.only_asked]
+
+
+def chosen(names):
+    """The workloads of these names, which commas part."""
+    unknown = [name for name in names.split(",") if name not in WORKLOADS]
+    if unknown:
+        raise argparse.ArgumentTypeError(f"no workload is called {', '.join(unknown)}")
+    return names.split(",")
 
 
 def write(name, events, folder):
