@@ -1,10 +1,12 @@
 //! What a worker keeps, and the pieces that its state is split into.
+ghost use Rattle.std.specs.Prelude.{◌<◌};
+ghost use Rattle.mfotl_model.specs.Strategies.{workers_of};
 
 use crate::setting::Setting;
 use crate::texts::{Case, Stop, halves, number, put};
 use event_splitter::split;
-use mfotl_model::{TimePoint, push_rows};
-use monitor_state::{Monitor, NodeData, State, WindowData};
+use mfotl_model::push_rows;
+use monitor_state::{Monitor, NodeData, Piece, State, WindowData};
 use relations::Table;
 use slice_strategy::{Slicer, Strategy};
 use state_split::split_state;
@@ -21,20 +23,33 @@ pub fn pieces(alloc: Global, setting: &Setting, case: &Case<'_>) -> Result<Vec<u
     if worker >= strategy.workers() {
         return Err(Stop::Malformed);
     }
-    let point = setting.point(alloc, point)?;
-    let monitor = monitor_behind(alloc, setting, &strategy, worker, &point)?;
-    let state = monitor.state(alloc)?;
+    let monitor = monitor_behind(alloc, setting, &strategy, worker, point)?;
+    pieces_told(alloc, &monitor, &strategy, worker, &next)
+}
+
+// The rows that a worker's monitor keeps, and those of its pieces.
+fn pieces_told(
+    alloc: Global,
+    monitor: &Monitor,
+    strategy: &Strategy,
+    worker: u32,
+    next: &Strategy,
+) -> Result<Vec<u8>, Stop>
+    requires { worker < workers_of strategy.now }
+{
     let mut told = Vec::new(alloc);
     put(&mut told, "keeps")?;
-    put_state(&mut told, &state)?;
-    for piece in &split_state(alloc, &monitor, &strategy, worker, &next, 1)? {
-        put(
-            &mut told,
-            format!(in alloc; "; piece {}:", piece.to)?.as_str(),
-        )?;
-        put_state(&mut told, &piece.state)?;
+    put_state(&mut told, &monitor.state(alloc)?)?;
+    for piece in &split_state(alloc, monitor, strategy, worker, next, 1)? {
+        put_piece(alloc, piece, &mut told)?;
     }
     Ok(told)
+}
+
+// Puts whose piece it is, and all its rows.
+fn put_piece(alloc: Global, piece: &Piece, told: &mut Vec<u8>) -> Result<(), Stop> {
+    put(told, format!(in alloc; "; piece {}:", piece.to)?.as_str())?;
+    Ok(put_state(told, &piece.state)?)
 }
 
 // The monitor of a worker behind its slice of a time-point.
@@ -43,9 +58,10 @@ fn monitor_behind(
     setting: &Setting,
     strategy: &Strategy,
     worker: u32,
-    point: &TimePoint,
+    point: &str,
 ) -> Result<Monitor, Stop> {
-    let slices = split(alloc, &setting.core, strategy, point)?;
+    let point = setting.point(alloc, point)?;
+    let slices = split(alloc, &setting.core, strategy, &point)?;
     let mut monitor = Monitor::new(alloc, &setting.core)?;
     match slices.get(worker as usize) {
         Some(slice) if monitor.taken() == 0 => {
