@@ -46,7 +46,7 @@ between p (x ∷ xs) (suc low) (suc high) l n below mid above =
     ∙ sym (cond-false (p x) (x ∷ filter p xs) (filter p xs) (below zero x (omega arith) (omega arith)))
 
 -- the first of two orders doesn't fall where both together don't
-first_rises : (a b : Ordering) → is_lt (ordering_then a b) ≡ false → is_lt a ≡ false
+pub first_rises : (a b : Ordering) → is_lt (ordering_then a b) ≡ false → is_lt a ≡ false
 first_rises Less b h = h
 first_rises Equal b h = refl
 first_rises Greater b h = refl

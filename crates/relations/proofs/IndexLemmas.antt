@@ -1,5 +1,5 @@
 -- Rows sorted behind their keys.
-use Rattle.std.proofs.Common.{◌≡◌, ℕ, ◌+◌, ◌<◌, false, List, [], ◌∷◌, map, length, slice_index_or, refl}
+use Rattle.std.proofs.Common.{◌≡◌, ℕ, ◌+◌, ◌<◌, List, [], ◌∷◌, map, length, slice_index_or, refl}
 use Rattle.std.proofs.Common.{sym, subst, ap, ap₂, ◌∙◌, arith}
 use Rattle.std.proofs.lemmas.List.{length-map}
 use Rattle.std.proofs.Math.ListN.{get_or-map}
@@ -8,8 +8,7 @@ use Rattle.std.proofs.lemmas.List.Sorted.{All-permutation, IsPermutation-map}
 use Rattle.std.specs.List.{All}
 use Rattle.std.specs.List.Sorted.{IsPermutation, IsSorted}
 use Rattle.std.specs.Ordering.{is_lt, ordering_then}
-use Rattle.std.specs.declared.cmp.Ordering.{Ordering}
-use Rattle.std.specs.declared.cmp.Ordering.TheVariants.{Less, Equal, Greater}
+use Rattle.mfotl_model.proofs.RunLemmas.{first_rises}
 use Rattle.mfotl_model.specs.Values.{row_cmp}
 use Rattle.mfotl_model.specs.declared.value.Value.{Value}
 use Rattle.mfotl_model.specs.Tables.{part}
@@ -57,11 +56,6 @@ pub keys_kept : (columns key_columns : List ℕ) (rows : List (List Value)) (es 
     → map (λ (e : Entry). e.key) es ≡ map (part columns key_columns) (map (λ (e : Entry). e.row) es)
 keys_kept columns key_columns rows es p = by_rows columns key_columns es (all_keyed columns key_columns rows es p)
 
-first_not_less : (a b : Ordering) → is_lt (ordering_then a b) ≡ false → is_lt a ≡ false
-first_not_less Less b e = e
-first_not_less Equal b e = refl
-first_not_less Greater b e = refl
-
 key_at : (es : List Entry) (i : ℕ) (d : Entry) → slice_index_or (map (λ (e : Entry). e.key) es) i d.key
     ≡ (slice_index_or es i d).key
 key_at = get_or-map (λ (e : Entry). e.key)
@@ -75,7 +69,7 @@ keys_rise es sorted k d a l =
     let e : Entry = record { key = d; row = d } in
     let n : length (map (λ (x : Entry). x.key) es) ≡ length es = length-map es (λ (x : Entry). x.key) in
     (λ i. is_lt (row_cmp (key_at es (k + 1) e i) (key_at es k e i)))
-    ∙ first_not_less (row_cmp (slice_index_or es (k + 1) e).key (slice_index_or es k e).key)
+    ∙ first_rises (row_cmp (slice_index_or es (k + 1) e).key (slice_index_or es k e).key)
     (row_cmp (slice_index_or es (k + 1) e).row (slice_index_or es k e).row)
     (sorted k e a (omega arith))
 
