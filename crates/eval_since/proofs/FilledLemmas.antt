@@ -9,9 +9,9 @@ use Rattle.std.specs.Option.{IfSome, unwrap_or}
 use Rattle.mfotl_model.specs.Tables.{has_row}
 use Rattle.mfotl_model.specs.Values.{row_cmp, row_total}
 use Rattle.mfotl_model.specs.declared.value.Value.{Value}
-use Rattle.relations.specs.KeptRows.{kept_for}
+use Rattle.relations.specs.KeptRows.{kept_for, list_for}
 use Rattle.relations.proofs.MapLemmas.{same_row}
-use Rattle.eval_since.specs.Groups.{HaveTimes, NoneEmpty, group_of, times_in}
+use Rattle.eval_since.specs.Groups.{HaveTimes, NoneEmpty}
 use Rattle.eval_since.specs.Times.{added, is_new}
 
 -- a group has a row, and each of its rows a time
@@ -66,7 +66,7 @@ found_filled key groups group is all =
 
 -- each row of the group at a part has a time, also where none is kept there
 pub had_times : (key : List Value) (groups : List (List Value × List (List Value × List ℕ)))
-    (group : List (List Value × List ℕ)) → group ≡ group_of groups key → NoneEmpty groups → HaveTimes group
+    (group : List (List Value × List ℕ)) → group ≡ list_for groups key → NoneEmpty groups → HaveTimes group
 had_times key groups group is all =
     subst HaveTimes (sym is) (by (kept_for groups key) (all key))
   where
@@ -89,17 +89,17 @@ not_empty [] e = absurd (let w : true ≡ false = e in cc)
 not_empty (y ∷ ys) e = omega arith
 
 -- a group that has times for a row has a row
-row_there : (group : List (List Value × List ℕ)) (v : List Value) → 0 < length (times_in group v) → 0 < length group
+row_there : (group : List (List Value × List ℕ)) (v : List Value) → 0 < length (list_for group v) → 0 < length group
 row_there [] v some = absurd (let w : 0 < 0 = some in omega arith)
 row_there (e ∷ es) v some = omega arith
 
 -- a group has the row that it was given times for
 pub row_changed : (h : List ℕ → List ℕ) (row : List Value) (old new : List (List Value × List ℕ))
-    → ((v : List Value) → times_in new v ≡ cond (is_at (row_cmp row) v) (h (times_in old v)) (times_in old v))
-    → 0 < length (h (times_in old row)) → 0 < length new
+    → ((v : List Value) → list_for new v ≡ cond (is_at (row_cmp row) v) (h (list_for old v)) (list_for old v))
+    → 0 < length (h (list_for old row)) → 0 < length new
 row_changed h row old new is some =
     row_there new row (subst (λ (ts : List ℕ). 0 < length ts) (sym (is row
-    ∙ ap (λ b. cond b (h (times_in old row)) (times_in old row)) ((eq_by_cmp_equiv row_total).refl row))) some)
+    ∙ ap (λ b. cond b (h (list_for old row)) (list_for old row)) ((eq_by_cmp_equiv row_total).refl row))) some)
 
 -- one row
 pub one_has : (first : List Value) (ts : List ℕ) → 0 < length ts → HaveTimes ((first, ts) ∷ [])

@@ -13,11 +13,11 @@ use Rattle.std.proofs.lemmas.Map.Entries.{lookup-filter-keys}
 use Rattle.std.specs.Cmp.{eq_by_cmp_equiv}
 use Rattle.mfotl_model.specs.declared.interval.Interval.{Interval}
 use Rattle.mfotl_model.specs.Tables.{has_row}
-use Rattle.relations.specs.KeptRows.{RowsDiffer}
+use Rattle.relations.specs.KeptRows.{RowsDiffer, list_for}
 use Rattle.relations.proofs.KeptLemmas.{differ_tail, none_behind}
 use Rattle.relations.proofs.MapLemmas.{same_row}
 use Rattle.relations.proofs.TableRows.{has_more}
-use Rattle.eval_since.specs.Groups.{hit, times_in, group_of, times_at}
+use Rattle.eval_since.specs.Groups.{hit, times_at}
 use Rattle.eval_since.specs.Times.{reaches, recent}
 
 pub recent_none : (hi x : ℕ) → recent hi x [] ≡ []
@@ -31,17 +31,17 @@ empty_list (y ∷ ys) e = absurd (let w : length (y ∷ ys) ≡ 0 = eqb-true (le
 -- a change at one row of one group
 pub grouped : (h : List ℕ → List ℕ) (key row q v : List Value)
     (old new : List (List Value × List (List Value × List ℕ))) (g : List (List Value × List ℕ))
-    → group_of new q ≡ cond (is_at (row_cmp key) q) g (group_of old q)
-    → times_in g v ≡ cond (is_at (row_cmp row) v) (h (times_in (group_of old key) v)) (times_in (group_of old key) v)
+    → list_for new q ≡ cond (is_at (row_cmp key) q) g (list_for old q)
+    → list_for g v ≡ cond (is_at (row_cmp row) v) (h (list_for (list_for old key) v)) (list_for (list_for old key) v)
     → times_at new q v ≡ cond (is_at (row_cmp key) q && is_at (row_cmp row) v) (h (times_at old q v))
     (times_at old q v)
-grouped h key row q v old new g outer inner = ap (λ e. times_in e v) outer ∙ by (is_at (row_cmp key) q) refl
+grouped h key row q v old new g outer inner = ap (λ e. list_for e v) outer ∙ by (is_at (row_cmp key) q) refl
   where
     by : (b : Bool) → is_at (row_cmp key) q ≡ b
-        → times_in (cond b g (group_of old q)) v ≡ cond (b && is_at (row_cmp row) v) (h (times_at old q v))
+        → list_for (cond b g (list_for old q)) v ≡ cond (b && is_at (row_cmp row) v) (h (times_at old q v))
         (times_at old q v)
-    by true e = inner ∙ ap (λ k. cond (is_at (row_cmp row) v) (h (times_in (group_of old k) v))
-        (times_in (group_of old k) v)) (same_row key q e)
+    by true e = inner ∙ ap (λ k. cond (is_at (row_cmp row) v) (h (list_for (list_for old k) v))
+        (list_for (list_for old k) v)) (same_row key q e)
     by false e = refl
 
 -- the groups of the parts so far are gone
@@ -123,11 +123,11 @@ pub kept_where : (parts : List (List Value)) (old new : List (List Value × List
     → times_at new q v ≡ cond (has_row parts q) (times_at old q v) []
 kept_where parts old new q v e =
     ap (λ es. times_at es q v) e
-    ∙ ap (λ o. times_in (unwrap_or o []) v) (lookup-filter-keys (is_at (row_cmp q)) (has_row parts) (has_row parts q)
+    ∙ ap (λ o. list_for (unwrap_or o []) v) (lookup-filter-keys (is_at (row_cmp q)) (has_row parts) (has_row parts q)
     (λ k at. ap (has_row parts) (sym (same_row q k at))) old)
     ∙ by (has_row parts q)
   where
-    by : (b : Bool) → times_in (unwrap_or (cond b (lookup (is_at (row_cmp q)) old) None) []) v
+    by : (b : Bool) → list_for (unwrap_or (cond b (lookup (is_at (row_cmp q)) old) None) []) v
         ≡ cond b (times_at old q v) []
     by true = refl
     by false = refl
@@ -146,19 +146,19 @@ pub regrouped : (h : List ℕ → List ℕ) (key row q v : List Value)
     (w : Option (List (List Value × List ℕ)))
     → lookup (is_at (row_cmp q)) new ≡ cond (is_at (row_cmp key) q) w (lookup (is_at (row_cmp q)) old)
     → unwrap_or w [] ≡ g
-    → e ≡ group_of old key
-    → times_in g v ≡ cond (is_at (row_cmp row) v) (h (times_in e v)) (times_in e v)
+    → e ≡ list_for old key
+    → list_for g v ≡ cond (is_at (row_cmp row) v) (h (list_for e v)) (list_for e v)
     → times_at new q v ≡ cond (is_at (row_cmp key) q && is_at (row_cmp row) v) (h (times_at old q v))
     (times_at old q v)
 regrouped h key row q v old new g e w outer is was inner =
     grouped h key row q v old new g
     (unwrapped [] (is_at (row_cmp key) q) w (lookup (is_at (row_cmp q)) new) (lookup (is_at (row_cmp q)) old) outer
-    ∙ ap (λ r. cond (is_at (row_cmp key) q) r (group_of old q)) is)
-    (inner ∙ ap (λ r. cond (is_at (row_cmp row) v) (h (times_in r v)) (times_in r v)) was)
+    ∙ ap (λ r. cond (is_at (row_cmp key) q) r (list_for old q)) is)
+    (inner ∙ ap (λ r. cond (is_at (row_cmp row) v) (h (list_for r v)) (list_for r v)) was)
 
 -- an empty group has no times to forget
-pub none_recent : (hi x : ℕ) (row v : List Value) → times_in [] v
-    ≡ cond (is_at (row_cmp row) v) (recent hi x (times_in [] v)) (times_in [] v)
+pub none_recent : (hi x : ℕ) (row v : List Value) → list_for {X = ℕ} [] v
+    ≡ cond (is_at (row_cmp row) v) (recent hi x (list_for [] v)) (list_for [] v)
 none_recent hi x row v = by (is_at (row_cmp row) v)
   where
     by : (b : Bool) → [] ≡ cond b (recent hi x []) []
@@ -168,12 +168,12 @@ none_recent hi x row v = by (is_at (row_cmp row) v)
 -- what is found among the entries is what the row's own entry gives
 pub hit_is : (interval : Interval) (x : ℕ) (u : List Value) (es : List (List Value × List ℕ))
     → RowsDiffer es
-    → list_any (hit interval x u) es ≡ reaches interval (times_in es u) x
+    → list_any (hit interval x u) es ≡ reaches interval (list_for es u) x
 hit_is interval x u [] h = refl
 hit_is interval x u (e ∷ es) h = by (is_at (row_cmp u) e.0) refl
     (hit_is interval x u es (differ_tail e es h))
   where
-    by : (b : Bool) → is_at (row_cmp u) e.0 ≡ b → list_any (hit interval x u) es ≡ reaches interval (times_in es u) x
+    by : (b : Bool) → is_at (row_cmp u) e.0 ≡ b → list_any (hit interval x u) es ≡ reaches interval (list_for es u) x
         → ((b && reaches interval e.1 x) || list_any (hit interval x u) es)
         ≡ reaches interval (unwrap_or (cond b (Some e.1) (lookup (is_at (row_cmp u)) es)) []) x
     by true at rest =
@@ -191,34 +191,34 @@ pub stands_tail : (e : List Value × List (List Value × List ℕ)) (es : List (
     → RowsDiffer (e ∷ es) → StandsIn (e ∷ es) k u → StandsIn es k u
 stands_tail e es k u h stands q apart = by (is_at (row_cmp q) e.0) refl (stands q apart)
   where
-    by : (b : Bool) → is_at (row_cmp q) e.0 ≡ b → times_in
+    by : (b : Bool) → is_at (row_cmp q) e.0 ≡ b → list_for
         (unwrap_or (cond b (Some e.1) (lookup (is_at (row_cmp q)) es)) []) u ≡ [] → times_at es q u ≡ []
-    by true at was = ap (λ o. times_in (unwrap_or o []) u)
+    by true at was = ap (λ o. list_for (unwrap_or o []) u)
         (none_behind q e es h at)
     by false at was = was
 
 -- where a row stands in one group alone, what is found in any group is found there
 pub group_is : (interval : Interval) (x : ℕ) (k u : List Value)
     (es : List (List Value × List (List Value × List ℕ))) → RowsDiffer es → StandsIn es k u
-    → list_any (λ e. reaches interval (times_in e.1 u) x) es ≡ reaches interval (times_at es k u) x
+    → list_any (λ e. reaches interval (list_for e.1 u) x) es ≡ reaches interval (times_at es k u) x
 group_is interval x k u [] h stands = refl
 group_is interval x k u (e ∷ es) h stands =
     by (is_at (row_cmp k) e.0) refl (group_is interval x k u es (differ_tail e es h)
     (stands_tail e es k u h stands)) (stands e.0)
   where
     by : (b : Bool) → is_at (row_cmp k) e.0 ≡ b
-        → list_any (λ e. reaches interval (times_in e.1 u) x) es ≡ reaches interval (times_at es k u) x
+        → list_any (λ e. reaches interval (list_for e.1 u) x) es ≡ reaches interval (times_at es k u) x
         → (is_at (row_cmp k) e.0 ≡ false → times_at (e ∷ es) e.0 u ≡ [])
-        → (reaches interval (times_in e.1 u) x || list_any (λ e. reaches interval (times_in e.1 u) x) es)
-        ≡ reaches interval (times_in (unwrap_or (cond b (Some e.1) (lookup (is_at (row_cmp k)) es)) []) u) x
+        → (reaches interval (list_for e.1 u) x || list_any (λ e. reaches interval (list_for e.1 u) x) es)
+        ≡ reaches interval (list_for (unwrap_or (cond b (Some e.1) (lookup (is_at (row_cmp k)) es)) []) u) x
     by true at rest there =
-        ap (λ r. reaches interval (times_in e.1 u) x || r) (rest
-        ∙ ap (λ o. reaches interval (times_in (unwrap_or o []) u) x)
+        ap (λ r. reaches interval (list_for e.1 u) x || r) (rest
+        ∙ ap (λ o. reaches interval (list_for (unwrap_or o []) u) x)
         (none_behind k e es h at))
-        ∙ or-false (reaches interval (times_in e.1 u) x)
+        ∙ or-false (reaches interval (list_for e.1 u) x)
     by false at rest there =
-        let here : times_at (e ∷ es) e.0 u ≡ times_in e.1 u = ap
-        (λ b. times_in (unwrap_or (cond b (Some e.1) (lookup (is_at (row_cmp e.0)) es)) []) u)
+        let here : times_at (e ∷ es) e.0 u ≡ list_for e.1 u = ap
+        (λ b. list_for (unwrap_or (cond b (Some e.1) (lookup (is_at (row_cmp e.0)) es)) []) u)
         ((eq_by_cmp_equiv row_total).refl e.0) in
-        ap (λ ts. reaches interval ts x || list_any (λ e. reaches interval (times_in e.1 u) x) es) (sym here
+        ap (λ ts. reaches interval ts x || list_any (λ e. reaches interval (list_for e.1 u) x) es) (sym here
         ∙ there at) ∙ rest

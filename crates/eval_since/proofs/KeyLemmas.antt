@@ -10,16 +10,16 @@ use Rattle.mfotl_model.specs.declared.interval.Interval.{Interval}
 use Rattle.mfotl_model.specs.declared.value.Value.{Value}
 use Rattle.mfotl_model.proofs.RowLemmas.{any_and_last}
 use Rattle.relations.proofs.MapLemmas.{same_row}
-use Rattle.relations.specs.KeptRows.{RowsDiffer}
+use Rattle.relations.specs.KeptRows.{RowsDiffer, list_for}
 use Rattle.eval_since.proofs.GroupLemmas.{StandsIn, empty_list, group_is, hit_is}
 use Rattle.eval_since.specs.LeftOperand.{grouping, lead}
-use Rattle.eval_since.specs.Groups.{hit, times_at, times_in}
+use Rattle.eval_since.specs.Groups.{hit, times_at}
 use Rattle.eval_since.specs.Times.{reaches}
 
 -- of a group's rows those that are wanted
 pub matches_are : (interval : Interval) (x : ℕ) (u : List Value) (wanted : List Value → Bool)
     (es : List (List Value × List ℕ)) → RowsDiffer es
-    → list_any (λ e. hit interval x u e && wanted e.0) es ≡ (reaches interval (times_in es u) x && wanted u)
+    → list_any (λ e. hit interval x u e && wanted e.0) es ≡ (reaches interval (list_for es u) x && wanted u)
 matches_are interval x u wanted es differ = each es ∙ any_and_last (wanted u) (hit interval x u) es
     ∙ ap (λ b. b && wanted u) (hit_is interval x u es differ)
   where
@@ -36,10 +36,10 @@ matches_are interval x u wanted es differ = each es ∙ any_and_last (wanted u) 
 -- where a row stands in one group alone, what is found in any group and wanted is found there
 pub matches_at : (interval : Interval) (x : ℕ) (k u : List Value) (wanted : Bool)
     (es : List (List Value × List (List Value × List ℕ))) → RowsDiffer es → StandsIn es k u
-    → list_any (λ e. reaches interval (times_in e.1 u) x && wanted) es
+    → list_any (λ e. reaches interval (list_for e.1 u) x && wanted) es
     ≡ (reaches interval (times_at es k u) x && wanted)
 matches_at interval x k u wanted es differ stands =
-    any_and_last wanted (λ (e : List Value × List (List Value × List ℕ)). reaches interval (times_in e.1 u) x) es
+    any_and_last wanted (λ (e : List Value × List (List Value × List ℕ)). reaches interval (list_for e.1 u) x) es
     ∙ ap (λ b. b && wanted) (group_is interval x k u es differ stands)
 
 -- what is looked up in the groups of keys is found where the row's own group is one of them

@@ -12,13 +12,12 @@ use Rattle.mfotl_model.specs.Values.{row_cmp, row_total}
 use Rattle.mfotl_model.specs.declared.interval.Interval.{Interval}
 use Rattle.mfotl_model.specs.declared.value.Value.{Value}
 use Rattle.relations.proofs.MapLemmas.{same_row}
-use Rattle.relations.specs.KeptRows.{filled}
-use Rattle.eval_since.specs.Groups.{times_in}
+use Rattle.relations.specs.KeptRows.{filled, list_for}
 use Rattle.eval_since.specs.Times.{reaches}
 
 module _ (first : List Value) where
   pub times_one : (ts : List ℕ) (v : List Value)
-      → times_in ((first, ts) ∷ []) v ≡ cond (is_at (row_cmp first) v) ts []
+      → list_for ((first, ts) ∷ []) v ≡ cond (is_at (row_cmp first) v) ts []
   times_one ts v = ap (λ b. unwrap_or (cond b (Some ts) None) []) ((eq_by_cmp_equiv row_total).symm v first)
       ∙ by (is_at (row_cmp first) v)
     where
@@ -28,24 +27,24 @@ module _ (first : List Value) where
 
   -- its own times
   pub own_times : (row : List Value) (ts : List ℕ) → is_at (row_cmp first) row ≡ true
-      → times_in ((first, ts) ∷ []) row ≡ ts
+      → list_for ((first, ts) ∷ []) row ≡ ts
   own_times row ts same = times_one ts row ∙ ap (λ b. cond b ts []) same
 
   -- another row has none
   pub other_times : (row : List Value) (ts : List ℕ) → is_at (row_cmp first) row ≡ false
-      → [] ≡ times_in ((first, ts) ∷ []) row
+      → [] ≡ list_for ((first, ts) ∷ []) row
   other_times row ts apart = sym (times_one ts row ∙ ap (λ b. cond b ts []) apart)
 
   -- a change of its own times
   pub one_changed : (h : List ℕ → List ℕ) (row : List Value) (ts new : List ℕ) → is_at (row_cmp first) row ≡ true
       → new ≡ h ts → (v : List Value)
-      → times_in ((first, new) ∷ []) v
-      ≡ cond (is_at (row_cmp row) v) (h (times_in ((first, ts) ∷ []) v)) (times_in ((first, ts) ∷ []) v)
+      → list_for ((first, new) ∷ []) v
+      ≡ cond (is_at (row_cmp row) v) (h (list_for ((first, ts) ∷ []) v)) (list_for ((first, ts) ∷ []) v)
   one_changed h row ts new same e v =
       times_one new v ∙ ap (λ t. cond (is_at (row_cmp first) v) t []) e
       ∙ by (is_at (row_cmp first) v)
       ∙ ap (λ t. cond (is_at (row_cmp first) v) (h t) t) (sym (times_one ts v))
-      ∙ ap (λ r. cond (is_at (row_cmp r) v) (h (times_in ((first, ts) ∷ []) v)) (times_in ((first, ts) ∷ []) v))
+      ∙ ap (λ r. cond (is_at (row_cmp r) v) (h (list_for ((first, ts) ∷ []) v)) (list_for ((first, ts) ∷ []) v))
       (same_row first row same)
     where
       by : (b : Bool) → cond b (h ts) [] ≡ cond b (h (cond b ts [])) (cond b ts [])
@@ -55,20 +54,20 @@ module _ (first : List Value) where
   -- a change at another row, which has no times
   pub one_apart : (h : List ℕ → List ℕ) (row : List Value) (ts : List ℕ) → h [] ≡ []
       → is_at (row_cmp first) row ≡ false → (v : List Value)
-      → times_in ((first, ts) ∷ []) v
-      ≡ cond (is_at (row_cmp row) v) (h (times_in ((first, ts) ∷ []) v)) (times_in ((first, ts) ∷ []) v)
+      → list_for ((first, ts) ∷ []) v
+      ≡ cond (is_at (row_cmp row) v) (h (list_for ((first, ts) ∷ []) v)) (list_for ((first, ts) ∷ []) v)
   one_apart h row ts none apart v = by (is_at (row_cmp row) v) refl
     where
-      nothing : is_at (row_cmp row) v ≡ true → times_in ((first, ts) ∷ []) v ≡ []
+      nothing : is_at (row_cmp row) v ≡ true → list_for ((first, ts) ∷ []) v ≡ []
       nothing e = times_one ts v ∙ ap (λ b. cond b ts []) (ap (is_at (row_cmp first)) (sym (same_row row v e)) ∙ apart)
 
-      by : (b : Bool) → is_at (row_cmp row) v ≡ b → times_in ((first, ts) ∷ []) v
-          ≡ cond b (h (times_in ((first, ts) ∷ []) v)) (times_in ((first, ts) ∷ []) v)
+      by : (b : Bool) → is_at (row_cmp row) v ≡ b → list_for ((first, ts) ∷ []) v
+          ≡ cond b (h (list_for ((first, ts) ∷ []) v)) (list_for ((first, ts) ∷ []) v)
       by true e = nothing e ∙ sym none ∙ ap h (sym (nothing e))
       by false e = refl
 
   -- without times it is none
-  pub none_left : (v : List Value) → [] ≡ times_in ((first, []) ∷ []) v
+  pub none_left : (v : List Value) → [] ≡ list_for ((first, []) ∷ []) v
   none_left v = sym (times_one [] v ∙ either (is_at (row_cmp first) v) [])
     where
       either : (b : Bool) (ts : List ℕ) → cond b ts ts ≡ ts
@@ -77,7 +76,7 @@ module _ (first : List Value) where
 
   one_reaches : (interval : Interval) (row : List Value) (ts : List ℕ) (x : ℕ)
       → (eq_by_cmp row_cmp first row && reaches interval ts x)
-      ≡ reaches interval (times_in ((first, ts) ∷ []) row) x
+      ≡ reaches interval (list_for ((first, ts) ∷ []) row) x
   one_reaches interval row ts x =
       by (is_at (row_cmp first) row) ∙ ap (λ t. reaches interval t x) (sym (times_one ts row))
     where
@@ -88,7 +87,7 @@ module _ (first : List Value) where
   -- where it reaches it is put behind the rows that are there
   pub one_more : (interval : Interval) (ts : List ℕ) (x : ℕ) (rows : List (List Value)) (u : List Value)
       → reaches interval ts x ≡ true
-      → has_row (rows ++ first ∷ []) u ≡ (has_row rows u || reaches interval (times_in ((first, ts) ∷ []) u) x)
+      → has_row (rows ++ first ∷ []) u ≡ (has_row rows u || reaches interval (list_for ((first, ts) ∷ []) u) x)
   one_more interval ts x rows u hits =
       list_any-append (eq_by_cmp row_cmp u) rows (first ∷ [])
       ∙ ap (λ b. has_row rows u || b) (or-false (eq_by_cmp row_cmp u first)
@@ -99,7 +98,7 @@ module _ (first : List Value) where
   -- where it doesn't, nothing is
   pub no_more : (interval : Interval) (ts : List ℕ) (x : ℕ) (rows : List (List Value)) (u : List Value)
       → reaches interval ts x ≡ false
-      → has_row rows u ≡ (has_row rows u || reaches interval (times_in ((first, ts) ∷ []) u) x)
+      → has_row rows u ≡ (has_row rows u || reaches interval (list_for ((first, ts) ∷ []) u) x)
   no_more interval ts x rows u misses =
       sym (or-false (has_row rows u)) ∙ ap (λ b. has_row rows u || b)
       (sym (and-false (eq_by_cmp row_cmp first u)) ∙ ap (λ b. eq_by_cmp row_cmp first u && b) (sym misses)
@@ -108,7 +107,7 @@ module _ (first : List Value) where
   -- the same of the rows that are wanted
   one_wanted : (interval : Interval) (ts : List ℕ) (x : ℕ) (wanted : List Value → Bool) (u : List Value)
       → (eq_by_cmp row_cmp first u && (reaches interval ts x && wanted first))
-      ≡ (reaches interval (times_in ((first, ts) ∷ []) u) x && wanted u)
+      ≡ (reaches interval (list_for ((first, ts) ∷ []) u) x && wanted u)
   one_wanted interval ts x wanted u =
       by (is_at (row_cmp first) u) refl ∙ ap (λ t. reaches interval t x && wanted u) (sym (times_one ts u))
     where
@@ -120,7 +119,7 @@ module _ (first : List Value) where
   pub one_match : (interval : Interval) (ts : List ℕ) (x : ℕ) (wanted : List Value → Bool) (rows : List (List Value))
       (u : List Value) → reaches interval ts x ≡ true → wanted first ≡ true
       → has_row (rows ++ first ∷ []) u
-      ≡ (has_row rows u || (reaches interval (times_in ((first, ts) ∷ []) u) x && wanted u))
+      ≡ (has_row rows u || (reaches interval (list_for ((first, ts) ∷ []) u) x && wanted u))
   one_match interval ts x wanted rows u hits is =
       list_any-append (eq_by_cmp row_cmp u) rows (first ∷ [])
       ∙ ap (λ b. has_row rows u || b) (or-false (eq_by_cmp row_cmp u first)
@@ -131,7 +130,7 @@ module _ (first : List Value) where
 
   pub no_match : (interval : Interval) (ts : List ℕ) (x : ℕ) (wanted : List Value → Bool) (rows : List (List Value))
       (u : List Value) → (reaches interval ts x && wanted first) ≡ false
-      → has_row rows u ≡ (has_row rows u || (reaches interval (times_in ((first, ts) ∷ []) u) x && wanted u))
+      → has_row rows u ≡ (has_row rows u || (reaches interval (list_for ((first, ts) ∷ []) u) x && wanted u))
   no_match interval ts x wanted rows u misses =
       sym (or-false (has_row rows u)) ∙ ap (λ b. has_row rows u || b)
       (sym (and-false (eq_by_cmp row_cmp first u)) ∙ ap (λ b. eq_by_cmp row_cmp first u && b) (sym misses)
@@ -139,7 +138,7 @@ module _ (first : List Value) where
 
   pub one_poured : (o : Option (List ℕ)) (ts : List ℕ) (u : List Value)
       → option_or o (cond (is_at (row_cmp u) first) (filled ts) None)
-      ≡ option_or o (filled (times_in ((first, ts) ∷ []) u))
+      ≡ option_or o (filled (list_for ((first, ts) ∷ []) u))
   one_poured o ts u = ap (option_or o) (by (is_at (row_cmp u) first))
     where
       by : (b : Bool) → cond b (filled ts) None ≡ filled (unwrap_or (cond b (Some ts) None) [])

@@ -13,11 +13,11 @@ use Rattle.mfotl_model.specs.Tables.{all_sized, part}
 use Rattle.mfotl_model.specs.Values.{row_cmp, row_total}
 use Rattle.mfotl_model.specs.declared.interval.Interval.{Interval}
 use Rattle.mfotl_model.specs.declared.value.Value.{Value}
-use Rattle.relations.specs.KeptRows.{RowsAscend, RowsDiffer, filled, kept_for}
+use Rattle.relations.specs.KeptRows.{RowsAscend, RowsDiffer, filled, kept_for, list_for}
 use Rattle.relations.proofs.KeptLemmas.{ascending_differ, differ_tail, each_kept, filled_back, filled_is}
 use Rattle.relations.proofs.KeptLemmas.{none_behind, or_none}
 use Rattle.relations.proofs.MapLemmas.{same_row}
-use Rattle.eval_since.specs.Groups.{hit, times_at, times_in}
+use Rattle.eval_since.specs.Groups.{hit, times_at}
 use Rattle.eval_since.specs.Recalled.{first_times, put_times, recalls, times_for, times_kept}
 use Rattle.eval_since.specs.Times.{reaches}
 use Rattle.eval_since.specs.declared.recalled.KeptRow.{KeptRow}
@@ -33,15 +33,15 @@ first_there k u (e ∷ es) apart stands =
   where
     by : (b : Bool) → is_at (row_cmp k) e.0 ≡ b → first_times es u ≡ filled (times_at es k u)
         → (is_at (row_cmp k) e.0 ≡ false → times_at (e ∷ es) e.0 u ≡ [])
-        → option_or (filled (times_in e.1 u)) (first_times es u)
-        ≡ filled (times_in (unwrap_or (cond b (Some e.1) (lookup (is_at (row_cmp k)) es)) []) u)
+        → option_or (filled (list_for e.1 u)) (first_times es u)
+        ≡ filled (list_for (unwrap_or (cond b (Some e.1) (lookup (is_at (row_cmp k)) es)) []) u)
     by true at rest there =
-        ap (option_or (filled (times_in e.1 u))) (rest
-        ∙ ap (λ o. filled (times_in (unwrap_or o []) u)) (none_behind k e es apart at))
-        ∙ or_none (filled (times_in e.1 u))
+        ap (option_or (filled (list_for e.1 u))) (rest
+        ∙ ap (λ o. filled (list_for (unwrap_or o []) u)) (none_behind k e es apart at))
+        ∙ or_none (filled (list_for e.1 u))
     by false at rest there =
-        let here : times_at (e ∷ es) e.0 u ≡ times_in e.1 u = ap
-        (λ b. times_in (unwrap_or (cond b (Some e.1) (lookup (is_at (row_cmp e.0)) es)) []) u)
+        let here : times_at (e ∷ es) e.0 u ≡ list_for e.1 u = ap
+        (λ b. list_for (unwrap_or (cond b (Some e.1) (lookup (is_at (row_cmp e.0)) es)) []) u)
         ((eq_by_cmp_equiv row_total).refl e.0) in
         ap (λ ts. option_or (filled ts) (first_times es u)) (sym here ∙ there at) ∙ rest
 

@@ -12,21 +12,21 @@ use Rattle.mfotl_model.specs.Values.{row_cmp}
 use Rattle.mfotl_model.specs.declared.value.Value.{Value}
 use Rattle.mfotl_model.specs.declared.value.Value.TheVariants.{Int, Text}
 use Rattle.relations.proofs.MapLemmas.{changed, same_row}
-use Rattle.relations.specs.KeptRows.{RowsDiffer, kept_for}
-use Rattle.eval_since.specs.Groups.{HaveTimes, times_in}
+use Rattle.relations.specs.KeptRows.{RowsDiffer, kept_for, list_for}
+use Rattle.eval_since.specs.Groups.{HaveTimes}
 use Rattle.eval_since.specs.RowKeys.{by_rows, is_int, itself, one_int}
 use Rattle.eval_since.proofs.FilledLemmas.{each_after}
 
 -- where a row isn't found there is nothing to change
 pub none_changed : (h : List ℕ → List ℕ) (row v : List Value) (es : List (List Value × List ℕ)) → h [] ≡ []
     → kept_for es row ≡ None
-    → times_in es v ≡ cond (is_at (row_cmp row) v) (h (times_in es v)) (times_in es v)
+    → list_for es v ≡ cond (is_at (row_cmp row) v) (h (list_for es v)) (list_for es v)
 none_changed h row v es none absent = by (is_at (row_cmp row) v) refl
   where
-    nothing : is_at (row_cmp row) v ≡ true → times_in es v ≡ []
-    nothing e = ap (times_in es) (sym (same_row row v e)) ∙ ap (λ o. unwrap_or o []) absent
+    nothing : is_at (row_cmp row) v ≡ true → list_for es v ≡ []
+    nothing e = ap (list_for es) (sym (same_row row v e)) ∙ ap (λ o. unwrap_or o []) absent
 
-    by : (b : Bool) → is_at (row_cmp row) v ≡ b → times_in es v ≡ cond b (h (times_in es v)) (times_in es v)
+    by : (b : Bool) → is_at (row_cmp row) v ≡ b → list_for es v ≡ cond b (h (list_for es v)) (list_for es v)
     by true e = nothing e ∙ sym none ∙ ap h (sym (nothing e))
     by false e = refl
 
@@ -91,8 +91,8 @@ module _ {K : Type 0} (eq : K → K → Bool) (row_of : K → List Value)
   pub times_changed : (h : List ℕ → List ℕ) (k : K) (m n : List (K × List ℕ)) (w : Option (List ℕ))
       → ((q : K) → lookup (eq q) n ≡ cond (eq k q) w (lookup (eq q) m))
       → unwrap_or w [] ≡ h (unwrap_or (lookup (eq k) m) [])
-      → (v : List Value) → times_in (by_rows row_of n) v
-      ≡ cond (is_at (row_cmp (row_of k)) v) (h (times_in (by_rows row_of m) v)) (times_in (by_rows row_of m) v)
+      → (v : List Value) → list_for (by_rows row_of n) v
+      ≡ cond (is_at (row_cmp (row_of k)) v) (h (list_for (by_rows row_of m) v)) (list_for (by_rows row_of m) v)
   times_changed h k m n w step is v =
       changed [] h (row_of k) v (by_rows row_of m) (by_rows row_of n) w (key_changed eq row_of same k m n w step v)
       (is ∙ ap (λ o. h (unwrap_or o [])) (sym (key_found eq row_of same k m)))
@@ -134,11 +134,11 @@ others_none v [] other = refl
 others_none v (e ∷ es) other =
     ap₂ (λ b o. cond b (Some e.1) o) (not_from v e.0 other) (others_none v es other)
 
-pub no_times : (v : List Value) (es : List (ℤ × List ℕ)) → is_int v ≡ false → times_in (by_rows one_int es) v ≡ []
+pub no_times : (v : List Value) (es : List (ℤ × List ℕ)) → is_int v ≡ false → list_for (by_rows one_int es) v ≡ []
 no_times v es other = ap (λ o. unwrap_or o []) (others_none v es other)
 
 -- and there is nothing to forget
 pub others_stay : (h : List ℕ → List ℕ) (row v : List Value) (es : List (ℤ × List ℕ)) → h [] ≡ []
-    → is_int row ≡ false → times_in (by_rows one_int es) v
-    ≡ cond (is_at (row_cmp row) v) (h (times_in (by_rows one_int es) v)) (times_in (by_rows one_int es) v)
+    → is_int row ≡ false → list_for (by_rows one_int es) v
+    ≡ cond (is_at (row_cmp row) v) (h (list_for (by_rows one_int es) v)) (list_for (by_rows one_int es) v)
 others_stay h row v es none other = none_changed h row v (by_rows one_int es) none (others_none row es other)

@@ -1,26 +1,16 @@
 -- Rows with the times kept for them, in groups by their part at the columns that they are grouped by.
-use Rattle.std.specs.Prelude.{ℕ, ◌<◌, Bool, ◌&&◌, List, [], length}
-use Rattle.std.specs.BTreeMap.{is_at}
-use Rattle.std.specs.Map.{lookup}
-use Rattle.std.specs.Option.{IfSome, unwrap_or}
+use Rattle.std.specs.Prelude.{ℕ, ◌<◌, Bool, ◌&&◌, List, length}
+use Rattle.std.specs.Option.{IfSome}
 use Rattle.std.specs.Ordering.{eq_by_cmp}
 use Rattle.mfotl_model.specs.Values.{row_cmp}
 use Rattle.mfotl_model.specs.declared.interval.Interval.{Interval}
 use Rattle.mfotl_model.specs.declared.value.Value.{Value}
-use Rattle.relations.specs.KeptRows.{kept_for}
+use Rattle.relations.specs.KeptRows.{kept_for, list_for}
 use Rattle.eval_since.specs.Times.{reaches}
-
--- the times that a group keeps for a row
-abbrev pub times_in : List (List Value × List ℕ) → List Value → List ℕ
-times_in group row = unwrap_or (lookup (is_at (row_cmp row)) group) []
-
--- the group of a part
-abbrev pub group_of : List (List Value × List (List Value × List ℕ)) → List Value → List (List Value × List ℕ)
-group_of groups key = unwrap_or (lookup (is_at (row_cmp key)) groups) []
 
 -- the times kept for a row in the group of a part
 abbrev pub times_at : List (List Value × List (List Value × List ℕ)) → List Value → List Value → List ℕ
-times_at groups key row = times_in (group_of groups key) row
+times_at groups key row = list_for (list_for groups key) row
 
 -- each row of a group has a time
 abbrev pub HaveTimes : List (List Value × List ℕ) → Type 0

@@ -3,13 +3,13 @@ ghost use Rattle.std.specs.Prelude.{◌≡◌, ◌||◌, ◌&&◌, ◌==◌, ◌
 ghost use Rattle.std.specs.BTreeMap.{is_at};
 ghost use Rattle.mfotl_model.specs.Values.{row_cmp};
 ghost use Rattle.mfotl_model.specs.declared.value.Value.{Value};
-ghost use Rattle.eval_since.specs.Groups.{HaveTimes, times_in};
+ghost use Rattle.eval_since.specs.Groups.{HaveTimes};
 ghost use Rattle.eval_since.specs.HeldTimes.{held_times};
 ghost use Rattle.mfotl_model.specs.Tables.{has_row, part};
 ghost use Rattle.eval_since.specs.Times.{ArePast, added, reaches, recent};
 ghost use Rattle.std.specs.Option.{option_or};
 ghost use Rattle.mfotl_model.specs.declared.interval.Interval.{Interval};
-ghost use Rattle.relations.specs.KeptRows.{filled, kept_for};
+ghost use Rattle.relations.specs.KeptRows.{filled, kept_for, list_for};
 
 use crate::hashed::Hashed;
 use crate::keys::has_part;
@@ -46,8 +46,8 @@ impl Model for Group {
 
 // A map of one row.
 fn hashed(alloc: Global, row: Row, times: Times) -> Result<Hashed, AllocError>
-    ensures times { IfOk result (λ rows. (v : List Value) → times_in rows v
-        ≡ times_in ((row, times) ∷ []) v) }
+    ensures times { IfOk result (λ rows. (v : List Value) → list_for rows v
+        ≡ list_for ((row, times) ∷ []) v) }
     ensures some { IfOk result (λ rows. 0 < length times → HaveTimes rows) }
 {
     let mut rows = Hashed::new(alloc);
@@ -56,7 +56,7 @@ fn hashed(alloc: Global, row: Row, times: Times) -> Result<Hashed, AllocError>
 }
 
 fn first_time(alloc: Global, row: Row, x: u64, bounded: bool) -> Result<Held, AllocError>
-    ensures times { IfOk result (λ held. (v : List Value) → times_in (held_times held) v
+    ensures times { IfOk result (λ held. (v : List Value) → list_for (held_times held) v
         ≡ cond (is_at (row_cmp row) v) (added bounded [] x) []) }
     ensures some { IfOk result (λ held. HaveTimes (held_times held)) }
 {
@@ -73,10 +73,10 @@ fn other_time(
     x: u64,
     bounded: bool,
 ) -> Result<Held, AllocError>
-    requires { ArePast x (times_in ((first, times) ∷ []) row) }
-    ensures times { IfOk result (λ held. (v : List Value) → times_in (held_times held) v
+    requires { ArePast x (list_for ((first, times) ∷ []) row) }
+    ensures times { IfOk result (λ held. (v : List Value) → list_for (held_times held) v
         ≡ cond (is_at (row_cmp row) v)
-        (added bounded (times_in ((first, times) ∷ []) v) x) (times_in ((first, times) ∷ []) v)) }
+        (added bounded (list_for ((first, times) ∷ []) v) x) (list_for ((first, times) ∷ []) v)) }
     ensures some { IfOk result (λ held.
         HaveTimes ((first, times) ∷ []) → HaveTimes (held_times held)) }
 {
@@ -93,10 +93,10 @@ fn next_time(
     x: u64,
     bounded: bool,
 ) -> Result<Held, AllocError>
-    requires { ArePast x (times_in ((first, times) ∷ []) row) }
-    ensures times { IfOk result (λ held. (v : List Value) → times_in (held_times held) v
+    requires { ArePast x (list_for ((first, times) ∷ []) row) }
+    ensures times { IfOk result (λ held. (v : List Value) → list_for (held_times held) v
         ≡ cond (is_at (row_cmp row) v)
-        (added bounded (times_in ((first, times) ∷ []) v) x) (times_in ((first, times) ∷ []) v)) }
+        (added bounded (list_for ((first, times) ∷ []) v) x) (list_for ((first, times) ∷ []) v)) }
     ensures some { IfOk result (λ held.
         HaveTimes ((first, times) ∷ []) → HaveTimes (held_times held)) }
 {
@@ -108,10 +108,10 @@ fn next_time(
 }
 
 fn with_time(alloc: Global, held: Held, row: Row, x: u64, bounded: bool) -> Result<Held, AllocError>
-    requires { ArePast x (times_in (held_times held) row) }
-    ensures times { IfOk result (λ more. (v : List Value) → times_in (held_times more) v
+    requires { ArePast x (list_for (held_times held) row) }
+    ensures times { IfOk result (λ more. (v : List Value) → list_for (held_times more) v
         ≡ cond (is_at (row_cmp row) v)
-        (added bounded (times_in (held_times held) v) x) (times_in (held_times held) v)) }
+        (added bounded (list_for (held_times held) v) x) (list_for (held_times held) v)) }
     ensures some { IfOk result (λ more. HaveTimes (held_times held) → HaveTimes (held_times more)) }
 {
     match held {
@@ -125,8 +125,8 @@ fn with_time(alloc: Global, held: Held, row: Row, x: u64, bounded: bool) -> Resu
 }
 
 fn same_recent(first: Row, mut times: Times, hi: u64, now: u64) -> Held
-    ensures times { (v : List Value) → times_in (held_times result) v
-        ≡ times_in ((first, recent hi now times) ∷ []) v }
+    ensures times { (v : List Value) → list_for (held_times result) v
+        ≡ list_for ((first, recent hi now times) ∷ []) v }
     ensures some { HaveTimes (held_times result) }
 {
     times.forget(hi, now);
@@ -137,9 +137,9 @@ fn same_recent(first: Row, mut times: Times, hi: u64, now: u64) -> Held
 }
 
 fn one_recent(first: Row, times: Times, row: &Row, hi: u64, now: u64) -> Held
-    ensures times { (v : List Value) → times_in (held_times result) v
+    ensures times { (v : List Value) → list_for (held_times result) v
         ≡ cond (is_at (row_cmp row.now) v)
-        (recent hi now (times_in ((first, times) ∷ []) v)) (times_in ((first, times) ∷ []) v) }
+        (recent hi now (list_for ((first, times) ∷ []) v)) (list_for ((first, times) ∷ []) v) }
     ensures some { HaveTimes ((first, times) ∷ []) → HaveTimes (held_times result) }
 {
     if first == *row {
@@ -149,9 +149,9 @@ fn one_recent(first: Row, times: Times, row: &Row, hi: u64, now: u64) -> Held
 }
 
 fn with_recent(held: Held, row: Row, hi: u64, now: u64) -> Held
-    ensures times { (v : List Value) → times_in (held_times result) v
+    ensures times { (v : List Value) → list_for (held_times result) v
         ≡ cond (is_at (row_cmp row) v)
-        (recent hi now (times_in (held_times held) v)) (times_in (held_times held) v) }
+        (recent hi now (list_for (held_times held) v)) (list_for (held_times held) v) }
     ensures some { HaveTimes (held_times held) → HaveTimes (held_times result) }
 {
     match held {
@@ -165,8 +165,8 @@ fn with_recent(held: Held, row: Row, hi: u64, now: u64) -> Held
 }
 
 fn with_times(alloc: Global, held: Held, row: Row, times: Times) -> Result<Held, AllocError>
-    ensures times { IfOk result (λ more. (v : List Value) → times_in (held_times more) v
-        ≡ cond (is_at (row_cmp row) v) times (times_in (held_times held) v)) }
+    ensures times { IfOk result (λ more. (v : List Value) → list_for (held_times more) v
+        ≡ cond (is_at (row_cmp row) v) times (list_for (held_times held) v)) }
     ensures some { IfOk result (λ more.
         0 < length times → HaveTimes (held_times held) → HaveTimes (held_times more)) }
 {
@@ -185,7 +185,7 @@ fn with_times(alloc: Global, held: Held, row: Row, times: Times) -> Result<Held,
 }
 
 fn row_reaches(first: &Row, times: &Times, row: &Row, interval: &Interval, x: u64) -> bool
-    ensures { result ≡ reaches interval.now (times_in ((first.now, times.now) ∷ []) row.now) x }
+    ensures { result ≡ reaches interval.now (list_for ((first.now, times.now) ∷ []) row.now) x }
 {
     if *first == *row {
         return times.reaches(interval, x);
@@ -202,7 +202,7 @@ fn push_row(
     x: u64,
 ) -> Result<(), AllocError>
     ensures { OnOk result ((u : List Value) → has_row out.new.items u
-        ≡ (has_row out.old.items u || reaches interval.now (times_in ((row.now, times.now) ∷ []) u) x)) }
+        ≡ (has_row out.old.items u || reaches interval.now (list_for ((row.now, times.now) ∷ []) u) x)) }
 {
     if times.reaches(interval, x) {
         out.push(row.copy(alloc)?)?;
@@ -229,10 +229,10 @@ impl Group {
 
     /// The times of a row, with one more.
     pub fn add(&mut self, alloc: Global, row: Row, x: u64, bounded: bool) -> Result<(), AllocError>
-        requires { ArePast x (times_in self.old row) }
-        ensures times { OnOk result ((v : List Value) → times_in self.new v
+        requires { ArePast x (list_for self.old row) }
+        ensures times { OnOk result ((v : List Value) → list_for self.new v
             ≡ cond (is_at (row_cmp row) v)
-            (added bounded (times_in self.old v) x) (times_in self.old v)) }
+            (added bounded (list_for self.old v) x) (list_for self.old v)) }
         ensures some { OnOk result (HaveTimes self.old → HaveTimes self.new) }
     {
         if let Held::Many(rows) = &mut self.held {
@@ -246,9 +246,9 @@ impl Group {
 
     /// Forgets the times of a row that lie further back than `hi`.
     pub fn forget(&mut self, row: Row, hi: u64, now: u64)
-        ensures times { (v : List Value) → times_in self.new v
+        ensures times { (v : List Value) → list_for self.new v
             ≡ cond (is_at (row_cmp row) v)
-            (recent hi now (times_in self.old v)) (times_in self.old v) }
+            (recent hi now (list_for self.old v)) (list_for self.old v) }
         ensures some { HaveTimes self.old → HaveTimes self.new }
     {
         if let Held::Many(rows) = &mut self.held {
@@ -261,7 +261,7 @@ impl Group {
 
     /// Whether the times of a row reach.
     pub fn reaches(&self, row: &Row, interval: &Interval, x: u64) -> bool
-        ensures { result ≡ reaches interval.now (times_in self.now row.now) x }
+        ensures { result ≡ reaches interval.now (list_for self.now row.now) x }
     {
         match &self.held {
             Held::Zero => false,
@@ -279,7 +279,7 @@ impl Group {
         x: u64,
     ) -> Result<(), AllocError>
         ensures { OnOk result ((u : List Value) → has_row out.new.items u
-            ≡ (has_row out.old.items u || reaches interval.now (times_in self.now u) x)) }
+            ≡ (has_row out.old.items u || reaches interval.now (list_for self.now u) x)) }
     {
         match &self.held {
             Held::Zero => Ok(()),
@@ -299,7 +299,7 @@ impl Group {
         keys: &Table,
     ) -> Result<(), AllocError>
         ensures { OnOk result ((u : List Value) → has_row out.new.items u
-            ≡ (has_row out.old.items u || (reaches interval.now (times_in self.now u) x
+            ≡ (has_row out.old.items u || (reaches interval.now (list_for self.now u) x
             && has_row keys.now.rows (part columns.now keys.now.columns u)))) }
     {
         match &self.held {
@@ -316,8 +316,8 @@ impl Group {
 
     /// Puts the times of a row in the place of those that it has.
     pub fn put(&mut self, alloc: Global, row: Row, times: Times) -> Result<(), AllocError>
-        ensures times { OnOk result ((v : List Value) → times_in self.new v
-            ≡ cond (is_at (row_cmp row) v) times (times_in self.old v)) }
+        ensures times { OnOk result ((v : List Value) → list_for self.new v
+            ≡ cond (is_at (row_cmp row) v) times (list_for self.old v)) }
         ensures some { OnOk result (0 < length times → HaveTimes self.old → HaveTimes self.new) }
     {
         let held = mem::replace(&mut self.held, Held::Zero);
@@ -328,7 +328,7 @@ impl Group {
     /// Copies the rows that have times into one that has them in order, but those that it has.
     pub fn pour(&self, alloc: Global, out: &mut OrderedGroup) -> Result<(), AllocError>
         ensures { OnOk result ((u : List Value) → kept_for out.new u
-            ≡ option_or (kept_for out.old u) (filled (times_in self.now u))) }
+            ≡ option_or (kept_for out.old u) (filled (list_for self.now u))) }
     {
         match &self.held {
             Held::Zero => Ok(()),

@@ -5,11 +5,11 @@ ghost use Rattle.std.specs.List.{list_any};
 ghost use Rattle.std.specs.Map.{lookup};
 ghost use Rattle.std.specs.Option.{option_or};
 ghost use Rattle.mfotl_model.specs.declared.interval.Interval.{Interval};
-ghost use Rattle.relations.specs.KeptRows.{RowsDiffer, kept_for};
+ghost use Rattle.relations.specs.KeptRows.{RowsDiffer, kept_for, list_for};
 ghost use Rattle.eval_since.specs.Recalled.{first_times};
 ghost use Rattle.mfotl_model.specs.Values.{row_cmp};
 ghost use Rattle.mfotl_model.specs.declared.value.Value.{Value};
-ghost use Rattle.eval_since.specs.Groups.{NoneEmpty, times_at, times_in};
+ghost use Rattle.eval_since.specs.Groups.{NoneEmpty, times_at};
 ghost use Rattle.mfotl_model.specs.Tables.{has_row, part};
 ghost use Rattle.eval_since.specs.Times.{ArePast, added, reaches, recent};
 
@@ -177,7 +177,7 @@ impl Groups {
     ) -> Result<(), AllocError>
         ensures rows { OnOk result ((u : List Value) → has_row out.new.items u
             ≡ (has_row out.old.items u
-            || list_any (λ e. reaches interval.now (times_in e.1 u) x) self.now)) }
+            || list_any (λ e. reaches interval.now (list_for e.1 u) x) self.now)) }
         ensures differ { RowsDiffer self.now }
     {
         for (key, group) in &self.groups {
@@ -198,7 +198,7 @@ impl Groups {
         keys: &Table,
     ) -> Result<(), AllocError>
         ensures rows { OnOk result ((u : List Value) → has_row out.new.items u
-            ≡ (has_row out.old.items u || list_any (λ e. reaches interval.now (times_in e.1 u) x
+            ≡ (has_row out.old.items u || list_any (λ e. reaches interval.now (list_for e.1 u) x
             && has_row keys.now.rows (part columns.now keys.now.columns u)) self.now)) }
         ensures differ { RowsDiffer self.now }
     {

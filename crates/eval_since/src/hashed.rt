@@ -3,14 +3,14 @@ ghost use Rattle.std.specs.Prelude.{◌≡◌, ◌||◌, ◌&&◌, ◌==◌, ◌
 ghost use Rattle.std.specs.BTreeMap.{is_at};
 ghost use Rattle.mfotl_model.specs.Values.{row_cmp};
 ghost use Rattle.mfotl_model.specs.declared.value.Value.{Value};
-ghost use Rattle.eval_since.specs.Groups.{HaveTimes, times_in};
+ghost use Rattle.eval_since.specs.Groups.{HaveTimes};
 ghost use Rattle.eval_since.specs.HashedTimes.{stored_times};
 ghost use Rattle.eval_since.specs.RowKeys.{by_rows, itself, one_int};
 ghost use Rattle.mfotl_model.specs.Tables.{has_row, part};
 ghost use Rattle.eval_since.specs.Times.{ArePast, added, reaches, recent};
 ghost use Rattle.std.specs.Option.{option_or};
 ghost use Rattle.mfotl_model.specs.declared.interval.Interval.{Interval};
-ghost use Rattle.relations.specs.KeptRows.{filled, kept_for};
+ghost use Rattle.relations.specs.KeptRows.{filled, kept_for, list_for};
 
 use crate::keyed::{KeyedRows, widened};
 use crate::ordered::OrderedGroup;
@@ -47,7 +47,7 @@ impl Model for Hashed {
 
 fn wide(alloc: Global, stored: Stored) -> Result<KeyedRows<Row>, AllocError>
     ensures times { IfOk result (λ rows. (v : List Value) →
-        times_in (by_rows itself rows) v ≡ times_in (stored_times stored) v) }
+        list_for (by_rows itself rows) v ≡ list_for (stored_times stored) v) }
     ensures some { IfOk result (λ rows. HaveTimes (stored_times stored) → HaveTimes (by_rows itself rows)) }
 {
     match stored {
@@ -63,10 +63,10 @@ fn wide_time(
     x: u64,
     bounded: bool,
 ) -> Result<Stored, AllocError>
-    requires { ArePast x (times_in (stored_times stored) row) }
-    ensures times { IfOk result (λ more. (v : List Value) → times_in (stored_times more) v
+    requires { ArePast x (list_for (stored_times stored) row) }
+    ensures times { IfOk result (λ more. (v : List Value) → list_for (stored_times more) v
         ≡ cond (is_at (row_cmp row) v)
-        (added bounded (times_in (stored_times stored) v) x) (times_in (stored_times stored) v)) }
+        (added bounded (list_for (stored_times stored) v) x) (list_for (stored_times stored) v)) }
     ensures some { IfOk result (λ more.
         HaveTimes (stored_times stored) → HaveTimes (stored_times more)) }
 {
@@ -76,8 +76,8 @@ fn wide_time(
 }
 
 fn wide_put(alloc: Global, stored: Stored, row: Row, times: Times) -> Result<Stored, AllocError>
-    ensures times { IfOk result (λ more. (v : List Value) → times_in (stored_times more) v
-        ≡ cond (is_at (row_cmp row) v) times (times_in (stored_times stored) v)) }
+    ensures times { IfOk result (λ more. (v : List Value) → list_for (stored_times more) v
+        ≡ cond (is_at (row_cmp row) v) times (list_for (stored_times stored) v)) }
     ensures some { IfOk result (λ more.
         0 < length times → HaveTimes (stored_times stored) → HaveTimes (stored_times more)) }
 {
@@ -88,9 +88,9 @@ fn wide_put(alloc: Global, stored: Stored, row: Row, times: Times) -> Result<Sto
 
 // A row of other values has no times here.
 fn forget_int(rows: &mut KeyedRows<i64>, row: &Row, hi: u64, now: u64)
-    ensures times { (v : List Value) → times_in (by_rows one_int rows.new) v
+    ensures times { (v : List Value) → list_for (by_rows one_int rows.new) v
         ≡ cond (is_at (row_cmp row.now) v)
-        (recent hi now (times_in (by_rows one_int rows.old) v)) (times_in (by_rows one_int rows.old) v) }
+        (recent hi now (list_for (by_rows one_int rows.old) v)) (list_for (by_rows one_int rows.old) v) }
     ensures some { HaveTimes (by_rows one_int rows.old) → HaveTimes (by_rows one_int rows.new) }
 {
     match int_of(row) {
@@ -119,10 +119,10 @@ impl Hashed {
 
     /// The times of a row, with one more.
     pub fn add(&mut self, alloc: Global, row: Row, x: u64, bounded: bool) -> Result<(), AllocError>
-        requires { ArePast x (times_in self.old row) }
-        ensures times { OnOk result ((v : List Value) → times_in self.new v
+        requires { ArePast x (list_for self.old row) }
+        ensures times { OnOk result ((v : List Value) → list_for self.new v
             ≡ cond (is_at (row_cmp row) v)
-            (added bounded (times_in self.old v) x) (times_in self.old v)) }
+            (added bounded (list_for self.old v) x) (list_for self.old v)) }
         ensures some { OnOk result (HaveTimes self.old → HaveTimes self.new) }
     {
         match &mut self.stored {
@@ -144,9 +144,9 @@ impl Hashed {
 
     /// Forgets the times of a row that lie further back than `hi`.
     pub fn forget(&mut self, row: Row, hi: u64, now: u64)
-        ensures times { (v : List Value) → times_in self.new v
+        ensures times { (v : List Value) → list_for self.new v
             ≡ cond (is_at (row_cmp row) v)
-            (recent hi now (times_in self.old v)) (times_in self.old v) }
+            (recent hi now (list_for self.old v)) (list_for self.old v) }
         ensures some { HaveTimes self.old → HaveTimes self.new }
     {
         match &mut self.stored {
@@ -157,7 +157,7 @@ impl Hashed {
 
     /// Whether the times of a row reach.
     pub fn reaches(&self, row: &Row, interval: &Interval, x: u64) -> bool
-        ensures { result ≡ reaches interval.now (times_in self.now row.now) x }
+        ensures { result ≡ reaches interval.now (list_for self.now row.now) x }
     {
         match &self.stored {
             Stored::Wide(rows) => rows.reaches(row, interval, x),
@@ -177,7 +177,7 @@ impl Hashed {
         x: u64,
     ) -> Result<(), AllocError>
         ensures { OnOk result ((u : List Value) → has_row out.new.items u
-            ≡ (has_row out.old.items u || reaches interval.now (times_in self.now u) x)) }
+            ≡ (has_row out.old.items u || reaches interval.now (list_for self.now u) x)) }
     {
         match &self.stored {
             Stored::Ints(rows) => rows.push_reaching(alloc, out, interval, x),
@@ -196,7 +196,7 @@ impl Hashed {
         keys: &Table,
     ) -> Result<(), AllocError>
         ensures { OnOk result ((u : List Value) → has_row out.new.items u
-            ≡ (has_row out.old.items u || (reaches interval.now (times_in self.now u) x
+            ≡ (has_row out.old.items u || (reaches interval.now (list_for self.now u) x
             && has_row keys.now.rows (part columns.now keys.now.columns u)))) }
     {
         match &self.stored {
@@ -207,8 +207,8 @@ impl Hashed {
 
     /// Puts the times of a row in the place of those that it has.
     pub fn put(&mut self, alloc: Global, row: Row, times: Times) -> Result<(), AllocError>
-        ensures times { OnOk result ((v : List Value) → times_in self.new v
-            ≡ cond (is_at (row_cmp row) v) times (times_in self.old v)) }
+        ensures times { OnOk result ((v : List Value) → list_for self.new v
+            ≡ cond (is_at (row_cmp row) v) times (list_for self.old v)) }
         ensures some { OnOk result (0 < length times → HaveTimes self.old → HaveTimes self.new) }
     {
         match &mut self.stored {
@@ -231,7 +231,7 @@ impl Hashed {
     /// Copies the rows that have times into one that has them in order, but those that it has.
     pub fn pour(&self, alloc: Global, out: &mut OrderedGroup) -> Result<(), AllocError>
         ensures { OnOk result ((u : List Value) → kept_for out.new u
-            ≡ option_or (kept_for out.old u) (filled (times_in self.now u))) }
+            ≡ option_or (kept_for out.old u) (filled (list_for self.now u))) }
     {
         match &self.stored {
             Stored::Ints(rows) => rows.pour(alloc, out),

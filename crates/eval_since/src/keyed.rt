@@ -6,8 +6,8 @@ ghost use Rattle.mfotl_model.specs.Tables.{has_row, part};
 ghost use Rattle.mfotl_model.specs.Values.{row_cmp};
 ghost use Rattle.mfotl_model.specs.declared.interval.Interval.{Interval};
 ghost use Rattle.mfotl_model.specs.declared.value.Value.{Value};
-ghost use Rattle.relations.specs.KeptRows.{filled, kept_for};
-ghost use Rattle.eval_since.specs.Groups.{HaveTimes, times_in};
+ghost use Rattle.relations.specs.KeptRows.{filled, kept_for, list_for};
+ghost use Rattle.eval_since.specs.Groups.{HaveTimes};
 ghost use Rattle.eval_since.specs.RowKeys.{by_rows, itself};
 ghost use Rattle.eval_since.specs.Times.{ArePast, added, reaches, recent};
 
@@ -36,10 +36,10 @@ impl<K: RowKey> Model for KeyedRows<K> {
 
 // A row that is left without times goes.
 fn forget_times<K: RowKey>(rows: &mut HashMap<K, Times>, key: K, hi: u64, now: u64)
-    ensures times { (v : List Value) → times_in (by_rows K.row_of rows.new.entries) v
+    ensures times { (v : List Value) → list_for (by_rows K.row_of rows.new.entries) v
         ≡ cond (is_at (row_cmp (K.row_of key)) v)
-        (recent hi now (times_in (by_rows K.row_of rows.old.entries) v))
-        (times_in (by_rows K.row_of rows.old.entries) v) }
+        (recent hi now (list_for (by_rows K.row_of rows.old.entries) v))
+        (list_for (by_rows K.row_of rows.old.entries) v) }
     ensures some { HaveTimes (by_rows K.row_of rows.old.entries) → HaveTimes (by_rows K.row_of rows.new.entries) }
 {
     let slot = match rows.entry(key) {
@@ -64,7 +64,7 @@ pub(crate) fn widened<K: RowKey>(
     kept: KeyedRows<K>,
 ) -> Result<KeyedRows<Row>, AllocError>
     ensures times { IfOk result (λ wide. (v : List Value) →
-        times_in (by_rows itself wide) v ≡ times_in (by_rows K.row_of kept) v) }
+        list_for (by_rows itself wide) v ≡ list_for (by_rows K.row_of kept) v) }
     ensures some { IfOk result (λ wide. HaveTimes (by_rows K.row_of kept) → HaveTimes (by_rows itself wide)) }
 {
     let mut rows = HashMap::new(alloc);
@@ -91,10 +91,10 @@ impl<K: RowKey> KeyedRows<K> {
 
     /// The times of a row, with one more.
     pub fn add(&mut self, alloc: Global, key: K, x: u64, bounded: bool) -> Result<(), AllocError>
-        requires { ArePast x (times_in (by_rows K.row_of self.old) (K.row_of key)) }
-        ensures times { OnOk result ((v : List Value) → times_in (by_rows K.row_of self.new) v
+        requires { ArePast x (list_for (by_rows K.row_of self.old) (K.row_of key)) }
+        ensures times { OnOk result ((v : List Value) → list_for (by_rows K.row_of self.new) v
             ≡ cond (is_at (row_cmp (K.row_of key)) v)
-            (added bounded (times_in (by_rows K.row_of self.old) v) x) (times_in (by_rows K.row_of self.old) v)) }
+            (added bounded (list_for (by_rows K.row_of self.old) v) x) (list_for (by_rows K.row_of self.old) v)) }
         ensures some { OnOk result (HaveTimes (by_rows K.row_of self.old) → HaveTimes (by_rows K.row_of self.new)) }
     {
         let times = self.rows.entry(key)?.or_insert(Times::new());
@@ -104,9 +104,9 @@ impl<K: RowKey> KeyedRows<K> {
 
     /// Forgets the times of a row that lie further back than `hi`.
     pub fn forget(&mut self, key: K, hi: u64, now: u64)
-        ensures times { (v : List Value) → times_in (by_rows K.row_of self.new) v
+        ensures times { (v : List Value) → list_for (by_rows K.row_of self.new) v
             ≡ cond (is_at (row_cmp (K.row_of key)) v)
-            (recent hi now (times_in (by_rows K.row_of self.old) v)) (times_in (by_rows K.row_of self.old) v) }
+            (recent hi now (list_for (by_rows K.row_of self.old) v)) (list_for (by_rows K.row_of self.old) v) }
         ensures some { HaveTimes (by_rows K.row_of self.old) → HaveTimes (by_rows K.row_of self.new) }
     {
         forget_times(&mut self.rows, key, hi, now);
@@ -114,7 +114,7 @@ impl<K: RowKey> KeyedRows<K> {
 
     /// Whether the times of a row reach.
     pub fn reaches(&self, key: &K, interval: &Interval, x: u64) -> bool
-        ensures { result ≡ reaches interval.now (times_in (by_rows K.row_of self.now) (K.row_of key.now)) x }
+        ensures { result ≡ reaches interval.now (list_for (by_rows K.row_of self.now) (K.row_of key.now)) x }
     {
         match self.rows.get(key) {
             Some(times) => times.reaches(interval, x),
@@ -131,7 +131,7 @@ impl<K: RowKey> KeyedRows<K> {
         x: u64,
     ) -> Result<(), AllocError>
         ensures { OnOk result ((u : List Value) → has_row out.new.items u
-            ≡ (has_row out.old.items u || reaches interval.now (times_in (by_rows K.row_of self.now) u) x)) }
+            ≡ (has_row out.old.items u || reaches interval.now (list_for (by_rows K.row_of self.now) u) x)) }
     {
         for (key, times) in &self.rows {
             if times.reaches(interval, x) {
@@ -152,7 +152,7 @@ impl<K: RowKey> KeyedRows<K> {
         keys: &Table,
     ) -> Result<(), AllocError>
         ensures { OnOk result ((u : List Value) → has_row out.new.items u
-            ≡ (has_row out.old.items u || (reaches interval.now (times_in (by_rows K.row_of self.now) u) x
+            ≡ (has_row out.old.items u || (reaches interval.now (list_for (by_rows K.row_of self.now) u) x
             && has_row keys.now.rows (part columns.now keys.now.columns u)))) }
     {
         for (key, times) in &self.rows {
@@ -165,8 +165,8 @@ impl<K: RowKey> KeyedRows<K> {
 
     /// Puts the times of a row in the place of those that it has.
     pub fn put(&mut self, key: K, times: Times) -> Result<(), AllocError>
-        ensures times { OnOk result ((v : List Value) → times_in (by_rows K.row_of self.new) v
-            ≡ cond (is_at (row_cmp (K.row_of key)) v) times (times_in (by_rows K.row_of self.old) v)) }
+        ensures times { OnOk result ((v : List Value) → list_for (by_rows K.row_of self.new) v
+            ≡ cond (is_at (row_cmp (K.row_of key)) v) times (list_for (by_rows K.row_of self.old) v)) }
         ensures some { OnOk result (0 < length times →
             HaveTimes (by_rows K.row_of self.old) → HaveTimes (by_rows K.row_of self.new)) }
     {
@@ -177,7 +177,7 @@ impl<K: RowKey> KeyedRows<K> {
     /// Copies the rows that have times into one that has them in order, but those that it has.
     pub fn pour(&self, alloc: Global, out: &mut OrderedGroup) -> Result<(), AllocError>
         ensures { OnOk result ((u : List Value) → kept_for out.new u
-            ≡ option_or (kept_for out.old u) (filled (times_in (by_rows K.row_of self.now) u))) }
+            ≡ option_or (kept_for out.old u) (filled (list_for (by_rows K.row_of self.now) u))) }
     {
         for (key, times) in &self.rows {
             out.pour_row(alloc, key.to_row(alloc)?, times)?;

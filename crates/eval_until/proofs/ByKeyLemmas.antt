@@ -14,11 +14,12 @@ use Rattle.mfotl_model.specs.Tables.{has_row, part}
 use Rattle.mfotl_model.specs.Values.{row_cmp, row_total}
 use Rattle.mfotl_model.specs.declared.interval.Interval.{Interval}
 use Rattle.mfotl_model.specs.declared.value.Value.{Value}
+use Rattle.relations.specs.KeptRows.{list_for}
 use Rattle.relations.proofs.MapLemmas.{same_row}
 use Rattle.relations.proofs.TableRows.{has_more}
-use Rattle.eval_until.specs.ByKey.{KeyedRows, Listed, is_listed, rows_at}
+use Rattle.eval_until.specs.ByKey.{KeyedRows, Listed, is_listed}
 use Rattle.eval_until.specs.declared.entries.Entry.{Entry}
-use Rattle.eval_until.specs.Entries.{entries_for, from_place, met_by}
+use Rattle.eval_until.specs.Entries.{from_place, met_by}
 use Rattle.eval_until.specs.Rules.{NoneEmpty}
 use Rattle.eval_until.proofs.EntriesLemmas.{all_from_place}
 
@@ -27,20 +28,20 @@ pub changed_set : (h : Bool → Bool) (key row q u : List Value) (old new : List
     (g e : List (List Value)) (w : Option (List (List Value)))
     → lookup (is_at (row_cmp q)) new ≡ cond (is_at (row_cmp key) q) w (lookup (is_at (row_cmp q)) old)
     → unwrap_or w [] ≡ g
-    → e ≡ rows_at old key
+    → e ≡ list_for old key
     → has_row g u ≡ cond (is_at (row_cmp row) u) (h (has_row e u)) (has_row e u)
-    → has_row (rows_at new q) u ≡ cond (is_at (row_cmp key) q && is_at (row_cmp row) u)
-    (h (has_row (rows_at old q) u)) (has_row (rows_at old q) u)
+    → has_row (list_for new q) u ≡ cond (is_at (row_cmp key) q && is_at (row_cmp row) u)
+    (h (has_row (list_for old q) u)) (has_row (list_for old q) u)
 changed_set h key row q u old new g e w outer is was inner =
     ap (λ o. has_row (unwrap_or o []) u) outer ∙ by (is_at (row_cmp key) q) refl
   where
     by : (b : Bool) → is_at (row_cmp key) q ≡ b
         → has_row (unwrap_or (cond b w (lookup (is_at (row_cmp q)) old)) []) u
-        ≡ cond (b && is_at (row_cmp row) u) (h (has_row (rows_at old q) u)) (has_row (rows_at old q) u)
+        ≡ cond (b && is_at (row_cmp row) u) (h (has_row (list_for old q) u)) (has_row (list_for old q) u)
     by true at =
         ap (λ rows. has_row rows u) is ∙ inner
         ∙ ap (λ rows. cond (is_at (row_cmp row) u) (h (has_row rows u)) (has_row rows u))
-        (was ∙ ap (rows_at old) (same_row key q at))
+        (was ∙ ap (list_for old) (same_row key q at))
     by false at = refl
 
 -- an empty set has no row to lose
@@ -60,8 +61,8 @@ no_rows (x ∷ xs) e = absurd (let w : length (x ∷ xs) ≡ 0 = eqb-true (lengt
 
 -- where a row was put into the set of its part, it is listed, and each other as before
 pub listed_more : (right columns : List ℕ) (row u : List Value) (old new : List (List Value × List (List Value)))
-    → ((q v : List Value) → has_row (rows_at new q) v
-    ≡ cond (is_at (row_cmp (part right columns row)) q && is_at (row_cmp row) v) true (has_row (rows_at old q) v))
+    → ((q v : List Value) → has_row (list_for new q) v
+    ≡ cond (is_at (row_cmp (part right columns row)) q && is_at (row_cmp row) v) true (has_row (list_for old q) v))
     → is_listed right (record { columns = columns; sets = new }) u
     ≡ (is_listed right (record { columns = columns; sets = old }) u || is_at (row_cmp row) u)
 listed_more right columns row u old new step =
@@ -79,45 +80,45 @@ listed_more right columns row u old new step =
 
     by : (b : Bool) → is_at (row_cmp row) u ≡ b → (nat_eq (length columns) 0
         || cond (is_at (row_cmp (part right columns row)) (part right columns u) && b) true
-        (has_row (rows_at old (part right columns u)) u))
-        ≡ ((nat_eq (length columns) 0 || has_row (rows_at old (part right columns u)) u) || b)
+        (has_row (list_for old (part right columns u)) u))
+        ≡ ((nat_eq (length columns) 0 || has_row (list_for old (part right columns u)) u) || b)
     by true at =
-        ap (λ c. nat_eq (length columns) 0 || cond (c && true) true (has_row (rows_at old (part right columns u)) u))
+        ap (λ c. nat_eq (length columns) 0 || cond (c && true) true (has_row (list_for old (part right columns u)) u))
         (ap (λ r. is_at (row_cmp (part right columns row)) (part right columns r)) (sym (same_row row u at))
         ∙ (eq_by_cmp_equiv row_total).refl (part right columns row))
-        ∙ there (nat_eq (length columns) 0) (has_row (rows_at old (part right columns u)) u)
+        ∙ there (nat_eq (length columns) 0) (has_row (list_for old (part right columns u)) u)
     by false at =
-        apart (nat_eq (length columns) 0) (has_row (rows_at old (part right columns u)) u)
+        apart (nat_eq (length columns) 0) (has_row (list_for old (part right columns u)) u)
         (is_at (row_cmp (part right columns row)) (part right columns u))
 
 -- where it was taken out of that set, it isn't
 pub listed_gone : (right columns : List ℕ) (row : List Value) (old new : List (List Value × List (List Value)))
-    → ((q v : List Value) → has_row (rows_at new q) v
-    ≡ cond (is_at (row_cmp (part right columns row)) q && is_at (row_cmp row) v) false (has_row (rows_at old q) v))
+    → ((q v : List Value) → has_row (list_for new q) v
+    ≡ cond (is_at (row_cmp (part right columns row)) q && is_at (row_cmp row) v) false (has_row (list_for old q) v))
     → is_listed right (record { columns = columns; sets = new }) row ≡ nat_eq (length columns) 0
 listed_gone right columns row old new step =
     let k = part right columns row in
     ap (λ b. nat_eq (length columns) 0 || b) (step k row
-    ∙ ap (λ b. cond (b && is_at (row_cmp row) row) false (has_row (rows_at old k) row))
+    ∙ ap (λ b. cond (b && is_at (row_cmp row) row) false (has_row (list_for old k) row))
     ((eq_by_cmp_equiv row_total).refl k)
-    ∙ ap (λ b. cond b false (has_row (rows_at old k) row)) ((eq_by_cmp_equiv row_total).refl row))
+    ∙ ap (λ b. cond b false (has_row (list_for old k) row)) ((eq_by_cmp_equiv row_total).refl row))
     ∙ or-false (nat_eq (length columns) 0)
 
 -- and each other is as before
 pub listed_others : (right columns : List ℕ) (row u : List Value) (old new : List (List Value × List (List Value)))
-    → ((q v : List Value) → has_row (rows_at new q) v
-    ≡ cond (is_at (row_cmp (part right columns row)) q && is_at (row_cmp row) v) false (has_row (rows_at old q) v))
+    → ((q v : List Value) → has_row (list_for new q) v
+    ≡ cond (is_at (row_cmp (part right columns row)) q && is_at (row_cmp row) v) false (has_row (list_for old q) v))
     → is_at (row_cmp row) u ≡ false
     → is_listed right (record { columns = columns; sets = new }) u
     ≡ is_listed right (record { columns = columns; sets = old }) u
 listed_others right columns row u old new step apart =
     ap (λ b. nat_eq (length columns) 0 || b) (step (part right columns u) u
     ∙ ap (λ b. cond (is_at (row_cmp (part right columns row)) (part right columns u) && b) false
-    (has_row (rows_at old (part right columns u)) u)) apart
+    (has_row (list_for old (part right columns u)) u)) apart
     ∙ by (is_at (row_cmp (part right columns row)) (part right columns u)))
   where
-    by : (b : Bool) → cond (b && false) false (has_row (rows_at old (part right columns u)) u)
-        ≡ has_row (rows_at old (part right columns u)) u
+    by : (b : Bool) → cond (b && false) false (has_row (list_for old (part right columns u)) u)
+        ≡ has_row (list_for old (part right columns u)) u
     by true = refl
     by false = refl
 
@@ -166,56 +167,56 @@ each_of b (e ∷ es) is = and_from b (list_all (λ f. b) es) is (each_of b es is
 pub listed_taken : (right : List ℕ) (old new : KeyedRows) (table : List (List Value)) (entry : List Value → Entry)
     (rows more : List (List Value × List Entry))
     → ((u : List Value) → is_listed right new u ≡ (is_listed right old u || has_row table u))
-    → ((u : List Value) → entries_for more u
-    ≡ cond (has_row table u) (entries_for rows u ++ entry u ∷ []) (entries_for rows u))
+    → ((u : List Value) → list_for more u
+    ≡ cond (has_row table u) (list_for rows u ++ entry u ∷ []) (list_for rows u))
     → Listed right old rows → Listed right new more
 listed_taken right old new table entry rows more lists takes listed u =
     ap (list_all (λ e. is_listed right new u)) (takes u) ∙ by (has_row table u) (lists u)
   where
     by : (b : Bool) → is_listed right new u ≡ (is_listed right old u || b)
-        → list_all (λ e. is_listed right new u) (cond b (entries_for rows u ++ entry u ∷ []) (entries_for rows u))
+        → list_all (λ e. is_listed right new u) (cond b (list_for rows u ++ entry u ∷ []) (list_for rows u))
         ≡ true
     by true is =
-        each_of (is_listed right new u) (entries_for rows u ++ entry u ∷ [])
+        each_of (is_listed right new u) (list_for rows u ++ entry u ∷ [])
         (is ∙ or_right (is_listed right old u) true refl)
     by false is =
-        ap (λ b. list_all (λ e. b) (entries_for rows u)) (is ∙ or-false (is_listed right old u)) ∙ listed u
+        ap (λ b. list_all (λ e. b) (list_for rows u)) (is ∙ or-false (is_listed right old u)) ∙ listed u
 
 -- what is left of the entries of some rows, from a position on
 pub listed_thinned : (right : List ℕ) (keyed : KeyedRows) (next : ℕ) (at : List Value → Bool)
     (old new : List (List Value × List Entry))
-    → ((u : List Value) → entries_for new u ≡ cond (at u) (from_place next (entries_for old u)) (entries_for old u))
+    → ((u : List Value) → list_for new u ≡ cond (at u) (from_place next (list_for old u)) (list_for old u))
     → Listed right keyed old → Listed right keyed new
 listed_thinned right keyed next at old new step listed u = ap (list_all (λ e. is_listed right keyed u)) (step u)
     ∙ by (at u)
   where
     by : (b : Bool) → list_all (λ e. is_listed right keyed u)
-        (cond b (from_place next (entries_for old u)) (entries_for old u)) ≡ true
-    by true = all_from_place (λ e. is_listed right keyed u) next (entries_for old u) (listed u)
+        (cond b (from_place next (list_for old u)) (list_for old u)) ≡ true
+    by true = all_from_place (λ e. is_listed right keyed u) next (list_for old u) (listed u)
     by false = listed u
 
 -- after a row of which nothing is kept was taken out
 pub listed_without : (right : List ℕ) (old new : KeyedRows) (rows : List (List Value × List Entry)) (row : List Value)
-    → entries_for rows row ≡ []
+    → list_for rows row ≡ []
     → ((u : List Value) → is_at (row_cmp row) u ≡ false → is_listed right new u ≡ is_listed right old u)
     → Listed right old rows → Listed right new rows
 listed_without right old new rows row none others listed u = by (is_at (row_cmp row) u) refl
   where
-    by : (b : Bool) → is_at (row_cmp row) u ≡ b → list_all (λ e. is_listed right new u) (entries_for rows u) ≡ true
+    by : (b : Bool) → is_at (row_cmp row) u ≡ b → list_all (λ e. is_listed right new u) (list_for rows u) ≡ true
     by true at =
-        ap (list_all (λ e. is_listed right new u)) (ap (entries_for rows) (sym (same_row row u at)) ∙ none)
-    by false at = ap (λ b. list_all (λ e. b) (entries_for rows u)) (others u at) ∙ listed u
+        ap (list_all (λ e. is_listed right new u)) (ap (list_for rows) (sym (same_row row u at)) ∙ none)
+    by false at = ap (λ b. list_all (λ e. b) (list_for rows u)) (others u at) ∙ listed u
 
 -- a row of which nothing is kept needn't be listed
 pub listed_if_kept : (rows : List (List Value × List Entry)) (u : List Value) (b : Bool)
     → (list_any (λ e. eq_by_cmp row_cmp u e.0) rows ≡ true → b ≡ true)
-    → list_all (λ e. b) (entries_for rows u) ≡ true
+    → list_all (λ e. b) (list_for rows u) ≡ true
 listed_if_kept [] u b if_kept = refl
 listed_if_kept (e ∷ es) u b if_kept = by (is_at (row_cmp u) e.0) refl (listed_if_kept es u b)
   where
     by : (c : Bool) → is_at (row_cmp u) e.0 ≡ c
         → ((list_any (λ f. eq_by_cmp row_cmp u f.0) es ≡ true → b ≡ true)
-        → list_all (λ f. b) (entries_for es u) ≡ true)
+        → list_all (λ f. b) (list_for es u) ≡ true)
         → list_all (λ f. b) (unwrap_or (cond c (Some e.1) (lookup (is_at (row_cmp u)) es)) []) ≡ true
     by true at rest =
         each_of b e.1 (if_kept (or_left (eq_by_cmp row_cmp u e.0) (list_any (λ f. eq_by_cmp row_cmp u f.0) es) at))
@@ -234,8 +235,8 @@ list_next row u cur new rest step before =
 pub none_listed : (right : List ℕ) (keyed : KeyedRows) (rows : List (List Value × List Entry)) → keyed.columns ≡ []
     → Listed right keyed rows
 none_listed right keyed rows none u =
-    each_of (is_listed right keyed u) (entries_for rows u)
-    (or_left (nat_eq (length keyed.columns) 0) (has_row (rows_at keyed.sets (part right keyed.columns u)) u)
+    each_of (is_listed right keyed u) (list_for rows u)
+    (or_left (nat_eq (length keyed.columns) 0) (has_row (list_for keyed.sets (part right keyed.columns u)) u)
     (ap (λ (columns : List ℕ). nat_eq (length columns) 0) none))
 
 -- what holds of one of the keys holds of some
@@ -259,30 +260,30 @@ met_listed interval i x b (e ∷ es) met all = (and_parts b (list_all (λ f. b) 
 pub found_met : (interval : Interval) (i x : ℕ) (right columns : List ℕ) (keyed : KeyedRows)
     (rows : List (List Value × List Entry)) (keys : List (List Value)) (u : List Value) → Listed right keyed rows
     → nat_eq (length keyed.columns) 0 ≡ false → columns ≡ keyed.columns → has_row keys (part right columns u) ≡ true
-    → list_any (λ k. has_row (rows_at keyed.sets k) u && met_by interval i x (entries_for rows u)) keys
-    ≡ met_by interval i x (entries_for rows u)
+    → list_any (λ k. has_row (list_for keyed.sets k) u && met_by interval i x (list_for rows u)) keys
+    ≡ met_by interval i x (list_for rows u)
 found_met interval i x right columns keyed rows keys u listed some same asked =
-    any_and_last (met_by interval i x (entries_for rows u)) (λ k. has_row (rows_at keyed.sets k) u) keys
-    ∙ by (met_by interval i x (entries_for rows u)) refl
+    any_and_last (met_by interval i x (list_for rows u)) (λ k. has_row (list_for keyed.sets k) u) keys
+    ∙ by (met_by interval i x (list_for rows u)) refl
   where
-    own : met_by interval i x (entries_for rows u) ≡ true
-        → has_row (rows_at keyed.sets (part right keyed.columns u)) u ≡ true
+    own : met_by interval i x (list_for rows u) ≡ true
+        → has_row (list_for keyed.sets (part right keyed.columns u)) u ≡ true
     own met =
-        sym (ap (λ b. b || has_row (rows_at keyed.sets (part right keyed.columns u)) u) some)
-        ∙ met_listed interval i x (is_listed right keyed u) (entries_for rows u) met (listed u)
+        sym (ap (λ b. b || has_row (list_for keyed.sets (part right keyed.columns u)) u) some)
+        ∙ met_listed interval i x (is_listed right keyed u) (list_for rows u) met (listed u)
 
-    by : (b : Bool) → met_by interval i x (entries_for rows u) ≡ b
-        → (list_any (λ k. has_row (rows_at keyed.sets k) u) keys && b) ≡ b
+    by : (b : Bool) → met_by interval i x (list_for rows u) ≡ b
+        → (list_any (λ k. has_row (list_for keyed.sets k) u) keys && b) ≡ b
     by true met =
-        ap (λ c. c && true) (any_at (λ k. has_row (rows_at keyed.sets k) u) (part right keyed.columns u) keys
+        ap (λ c. c && true) (any_at (λ k. has_row (list_for keyed.sets k) u) (part right keyed.columns u) keys
         (ap (λ cs. has_row keys (part right cs u)) (sym same) ∙ asked) (own met))
-    by false met = and-false (list_any (λ k. has_row (rows_at keyed.sets k) u) keys)
+    by false met = and-false (list_any (λ k. has_row (list_for keyed.sets k) u) keys)
 
 -- what is found meets UNTIL
 pub found_meets : (interval : Interval) (i x : ℕ) (sets : List (List Value × List (List Value)))
     (rows : List (List Value × List Entry)) (keys : List (List Value)) (u : List Value)
-    → list_any (λ k. has_row (rows_at sets k) u && met_by interval i x (entries_for rows u)) keys ≡ true
-    → met_by interval i x (entries_for rows u) ≡ true
+    → list_any (λ k. has_row (list_for sets k) u && met_by interval i x (list_for rows u)) keys ≡ true
+    → met_by interval i x (list_for rows u) ≡ true
 found_meets interval i x sets rows keys u found =
-    (and_parts (list_any (λ k. has_row (rows_at sets k) u) keys) (met_by interval i x (entries_for rows u))
-    (sym (any_and_last (met_by interval i x (entries_for rows u)) (λ k. has_row (rows_at sets k) u) keys) ∙ found)).1
+    (and_parts (list_any (λ k. has_row (list_for sets k) u) keys) (met_by interval i x (list_for rows u))
+    (sym (any_and_last (met_by interval i x (list_for rows u)) (λ k. has_row (list_for sets k) u) keys) ∙ found)).1

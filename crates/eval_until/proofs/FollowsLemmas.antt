@@ -12,11 +12,12 @@ use Rattle.mfotl_model.specs.Tables.{TableOf, all_among, has, has_row, part}
 use Rattle.mfotl_model.specs.Times.{NeverFalls}
 use Rattle.mfotl_model.specs.declared.interval.Interval.{Interval}
 use Rattle.mfotl_model.specs.declared.value.Value.{Value}
+use Rattle.relations.specs.KeptRows.{list_for}
 use Rattle.relations.proofs.OperationLaws.{has_as, part_of_own}
 use Rattle.relations.proofs.PushedLemmas.{stand_push}
 use Rattle.relations.specs.Pushed.{StandFrom, left_holds, turned}
 use Rattle.eval_until.specs.AheadView.{AheadOf, met, run_start}
-use Rattle.eval_until.specs.Entries.{entries_for, met_by}
+use Rattle.eval_until.specs.Entries.{met_by}
 use Rattle.eval_until.specs.Starts.{start_of}
 use Rattle.eval_until.specs.UntilBefore.{until_before, start}
 use Rattle.eval_until.specs.UntilView.{Follows, FollowsLeft, UntilOf, due, past_bound, to_take, took_all}
@@ -48,7 +49,7 @@ begins k t a b v pulled taken starts rows = record {
   times = tt;
   rights = tt;
   window = λ i low.
-      ap (λ es. met_by k.interval i (time_at t i) (entries_for es (map v k.right))) rows
+      ap (λ es. met_by k.interval i (time_at t i) (list_for es (map v k.right))) rows
       ∙ sym (ap (λ p. until_before k.interval t a b p i) taken ∙ none_yet k.interval t a b 0 i (omega arith));
 }
 

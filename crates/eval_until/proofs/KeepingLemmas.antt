@@ -12,15 +12,16 @@ use Rattle.std.specs.Option.{IfSome, unwrap_or}
 use Rattle.mfotl_model.specs.Tables.{all_sized, has_row, part}
 use Rattle.mfotl_model.specs.declared.interval.Interval.{Interval}
 use Rattle.mfotl_model.specs.declared.value.Value.{Value}
+use Rattle.relations.specs.KeptRows.{kept_for, list_for}
 use Rattle.relations.proofs.TableRows.{all_rows, lacks_other}
 use Rattle.relations.specs.Pushed.{turned}
 use Rattle.eval_until.specs.declared.contents.Taken.{Taken}
 use Rattle.eval_until.specs.declared.entries.Entry.{Entry}
-use Rattle.eval_until.specs.Entries.{entries_for, meets, met_by}
+use Rattle.eval_until.specs.Entries.{meets, met_by}
 use Rattle.eval_until.specs.Keeping.{Below, Covered, CoveredStarts, Fresh, IsLater, IsThinned, Keeps, NotAfter}
 use Rattle.eval_until.specs.Keeping.{Queues, Rising, Sized, breaks_before, names}
 use Rattle.eval_until.specs.Rules.{NoneEmpty, PlacesAscend, StartsAbove, Waiting, all_before}
-use Rattle.eval_until.specs.Starts.{kept_start, later_start, start_of, start_taken}
+use Rattle.eval_until.specs.Starts.{later_start, start_of, start_taken}
 use Rattle.eval_until.proofs.EntriesLemmas.{all_thinned, ascend_push, ascend_thinned, none_thinned}
 use Rattle.eval_until.proofs.QueueLemmas.{after_push, breaks_last, breaks_push, broken_fresh, entries_waiting}
 use Rattle.eval_until.proofs.QueueLemmas.{all_kept, covered_kept, fresh_push, names_last, names_push, rising_kept}
@@ -56,8 +57,8 @@ before_is p (e ∷ es) all =
 
 -- before a position is taken, no entry stands there
 pub all_before_taken : (p : ℕ) (rows : List (List Value × List Entry)) → Below p rows → (u : List Value)
-    → all_before p (entries_for rows u) ≡ true
-all_before_taken p rows below u = before_is p (entries_for rows u) (below u)
+    → all_before p (list_for rows u) ≡ true
+all_before_taken p rows below u = before_is p (list_for rows u) (below u)
 
 -- no run begins behind the positions taken
 start_low : (negated : Bool) (p : ℕ) (o : Option ℕ) → IfSome o (λ s. s ≤ p) → unwrap_or o (cond negated 0 p) ≤ p
@@ -86,16 +87,16 @@ module _ (negated : Bool) (right left : List ℕ) (pulled ts : ℕ) (lefts : Lis
     pub sized : all_sized (length right) q.rights.items ≡ true
     pub kept : Keeps negated right pulled q.place starts rows queue
     pub breaks : negated ≡ true → q.breaks.items ≡ lefts
-    pub entries : (u : List Value) → entries_for new u ≡ cond (has_row q.rights.items u)
-        (entries_for rows u ++ record {
+    pub entries : (u : List Value) → list_for new u ≡ cond (has_row q.rights.items u)
+        (list_for rows u ++ record {
           place = q.place;
           start =
               start_of negated q.place starts (part right left u);
           ts = ts;
         } ∷ [])
-        (entries_for rows u)
+        (list_for rows u)
     pub some : NoneEmpty rows → NoneEmpty new
-    pub runs : (w : List Value) → kept_start more w ≡ start_taken negated q.place lefts starts w
+    pub runs : (w : List Value) → kept_for more w ≡ start_taken negated q.place lefts starts w
 
   pub kept_taken : Stepped → Keeps negated right pulled (q.place + 1) more new (queue ++ q ∷ [])
   kept_taken j =
@@ -104,26 +105,26 @@ module _ (negated : Bool) (right left : List ℕ) (pulled ts : ℕ) (lefts : Lis
       record {
         apart = j.kept.apart;
         sized = λ u apart. j.entries u
-            ∙ ap (λ b. cond b (entries_for rows u ++ entry u ∷ []) (entries_for rows u))
+            ∙ ap (λ b. cond b (list_for rows u ++ entry u ∷ []) (list_for rows u))
             (lacks_other (length right) q.rights.items u j.sized apart)
             ∙ j.kept.sized u apart;
         some = j.some j.kept.some;
-        ascend = λ u. either PlacesAscend (has_row q.rights.items u) (entries_for rows u ++ entry u ∷ [])
-            (entries_for rows u) (entries_for new u) (j.entries u)
-            (ascend_push (entries_for rows u) (entry u) (j.kept.ascend u)
+        ascend = λ u. either PlacesAscend (has_row q.rights.items u) (list_for rows u ++ entry u ∷ [])
+            (list_for rows u) (list_for new u) (j.entries u)
+            (ascend_push (list_for rows u) (entry u) (j.kept.ascend u)
             (all_before_taken q.place rows j.kept.below u))
             (j.kept.ascend u);
         below = λ u. either (λ es. list_all (λ e. nat_lt e.place (q.place + 1) && nat_le e.start e.place) es ≡ true)
-            (has_row q.rights.items u) (entries_for rows u ++ entry u ∷ []) (entries_for rows u) (entries_for new u)
+            (has_row q.rights.items u) (list_for rows u ++ entry u ∷ []) (list_for rows u) (list_for new u)
             (j.entries u)
             (let l : start_of negated q.place starts (part right left u) ≤ q.place = start_low negated q.place
-            (kept_start starts (part right left u)) (j.kept.low (part right left u)) in
-            list_all-append (λ e. nat_lt e.place (q.place + 1) && nat_le e.start e.place) (entries_for rows u)
+            (kept_for starts (part right left u)) (j.kept.low (part right left u)) in
+            list_all-append (λ e. nat_lt e.place (q.place + 1) && nat_le e.start e.place) (list_for rows u)
             (entry u ∷ [])
-            ∙ and_from (list_all (λ e. nat_lt e.place (q.place + 1) && nat_le e.start e.place) (entries_for rows u))
+            ∙ and_from (list_all (λ e. nat_lt e.place (q.place + 1) && nat_le e.start e.place) (list_for rows u))
             ((nat_lt q.place (q.place + 1) && nat_le
             (start_of negated q.place starts (part right left u)) q.place) && true)
-            (below_more q.place (entries_for rows u) (j.kept.below u))
+            (below_more q.place (list_for rows u) (j.kept.below u))
             (and_from (nat_lt q.place (q.place + 1) && nat_le
             (start_of negated q.place starts (part right left u)) q.place) true
             (and_from (nat_lt q.place (q.place + 1))
@@ -132,10 +133,10 @@ module _ (negated : Bool) (right left : List ℕ) (pulled ts : ℕ) (lefts : Lis
             (let h : nat_le (start_of negated q.place starts (part right left u)) q.place ≡ true =
             grind (arith, nat_tests) in h))
             refl))
-            (below_more q.place (entries_for rows u) (j.kept.below u));
+            (below_more q.place (list_for rows u) (j.kept.below u));
         low = λ w. taken_low negated (has_row lefts w) q.place (start_of false q.place starts w)
-            (kept_start starts w) (kept_start more w) (j.kept.low w)
-            (start_low false q.place (kept_start starts w) (j.kept.low w)) (j.runs w);
+            (kept_for starts w) (kept_for more w) (j.kept.low w)
+            (start_low false q.place (kept_for starts w) (j.kept.low w)) (j.runs w);
         covered = λ u. by_rows j u (has_row q.rights.items u) refl (j.entries u);
         breaks = λ is w. by_breaks j w is (has_row lefts w) refl (j.runs w);
         rising = rising_push q.place queue q j.kept.rising j.kept.after refl;
@@ -144,39 +145,39 @@ module _ (negated : Bool) (right left : List ℕ) (pulled ts : ℕ) (lefts : Lis
       }
     where
       by_rows : Stepped → (u : List Value) (b : Bool) → has_row q.rights.items u ≡ b
-          → entries_for new u ≡ cond b
-          (entries_for rows u ++ record {
+          → list_for new u ≡ cond b
+          (list_for rows u ++ record {
             place = q.place;
             start =
                 start_of negated q.place starts (part right left u);
             ts = ts;
           } ∷ [])
-          (entries_for rows u)
-          → list_all (λ e. names (queue ++ q ∷ []) u e.place) (entries_for new u) ≡ true
+          (list_for rows u)
+          → list_all (λ e. names (queue ++ q ∷ []) u e.place) (list_for new u) ≡ true
       by_rows j u true has e =
           ap (list_all (λ f. names (queue ++ q ∷ []) u f.place)) e
-          ∙ list_all-append (λ f. names (queue ++ q ∷ []) u f.place) (entries_for rows u)
+          ∙ list_all-append (λ f. names (queue ++ q ∷ []) u f.place) (list_for rows u)
           (record { place = q.place; start = start_of negated q.place starts (part right left u); ts = ts } ∷ [])
-          ∙ and_from (list_all (λ f. names (queue ++ q ∷ []) u f.place) (entries_for rows u))
+          ∙ and_from (list_all (λ f. names (queue ++ q ∷ []) u f.place) (list_for rows u))
           (names (queue ++ q ∷ []) u q.place && true)
-          (names_push queue q u (entries_for rows u) (j.kept.covered u))
+          (names_push queue q u (list_for rows u) (j.kept.covered u))
           (and_from (names (queue ++ q ∷ []) u q.place) true (names_last queue q u has) refl)
       by_rows j u false has e =
           ap (list_all (λ f. names (queue ++ q ∷ []) u f.place)) e
-          ∙ names_push queue q u (entries_for rows u) (j.kept.covered u)
+          ∙ names_push queue q u (list_for rows u) (j.kept.covered u)
 
       by_breaks : Stepped → (w : List Value) → negated ≡ true → (b : Bool) → has_row lefts w ≡ b
-          → kept_start more w ≡ cond negated (cond b (Some (q.place + 1)) (kept_start starts w))
+          → kept_for more w ≡ cond negated (cond b (Some (q.place + 1)) (kept_for starts w))
           (cond b (Some (start_of false q.place starts w)) None)
-          → IfSome (kept_start more w) (λ s. breaks_before (queue ++ q ∷ []) w s ≡ true)
+          → IfSome (kept_for more w) (λ s. breaks_before (queue ++ q ∷ []) w s ≡ true)
       by_breaks j w is true has e =
           subst (λ (o : Option ℕ). IfSome o (λ s. breaks_before (queue ++ q ∷ []) w s ≡ true))
           (sym (e ∙ ap (λ n. cond n (Some (q.place + 1)) (Some (start_of false q.place starts w))) is))
           (breaks_last queue q w (ap (λ rs. has_row rs w) (j.breaks is) ∙ has))
       by_breaks j w is false has e =
           subst (λ (o : Option ℕ). IfSome o (λ s. breaks_before (queue ++ q ∷ []) w s ≡ true))
-          (sym (e ∙ ap (λ n. cond n (kept_start starts w) None) is))
-          (breaks_push queue q w (kept_start starts w) (j.kept.breaks is w))
+          (sym (e ∙ ap (λ n. cond n (kept_for starts w) None) is))
+          (breaks_push queue q w (kept_for starts w) (j.kept.breaks is w))
 
 -- a position without rows needn't go into the queue
 pub kept_queued : (negated : Bool) (right : List ℕ) (pulled taken : ℕ) (starts : List (List Value × ℕ))
@@ -193,8 +194,8 @@ kept_queued negated right pulled taken starts rows queue new q (inr none) kept =
       ascend = kept.ascend;
       below = kept.below;
       low = kept.low;
-      covered = λ u. covered_kept queue q none.1.0 u (entries_for rows u) (kept.covered u);
-      breaks = λ is w. starts_kept queue q none.1.1 w (kept_start starts w) (kept.breaks is w);
+      covered = λ u. covered_kept queue q none.1.0 u (list_for rows u) (kept.covered u);
+      breaks = λ is w. starts_kept queue q none.1.1 w (kept_for starts w) (kept.breaks is w);
       rising = rising_kept queue q kept.rising;
       after = all_kept queue q (λ r. nat_lt r.place taken) kept.after;
       fresh = all_kept queue q (λ r. nat_le pulled r.place) kept.fresh;
@@ -263,9 +264,9 @@ start_later negated next taken i old new l (inr later) =
 pub kept_pulled : (negated : Bool) (right : List ℕ) (pulled taken next : ℕ) (starts more : List (List Value × ℕ))
     (rows new : List (List Value × List Entry)) (queue rest : List Taken)
     → Keeps negated right pulled taken starts rows queue
-    → ((u : List Value) → IsThinned next (entries_for rows u) (entries_for new u))
+    → ((u : List Value) → IsThinned next (list_for rows u) (list_for new u))
     → (NoneEmpty rows → NoneEmpty new)
-    → ((w : List Value) → IsLater negated next (kept_start starts w) (kept_start more w))
+    → ((w : List Value) → IsLater negated next (kept_for starts w) (kept_for more w))
     → Covered rest new
     → (negated ≡ true → CoveredStarts queue starts → CoveredStarts rest more)
     → Rising rest → Fresh next rest → ((p : ℕ) → NotAfter p queue → NotAfter p rest)
@@ -273,12 +274,12 @@ pub kept_pulled : (negated : Bool) (right : List ℕ) (pulled taken next : ℕ) 
 kept_pulled negated right pulled taken next starts more rows new queue rest kept thin some later covered breaks
     rising fresh after = record {
       apart = kept.apart;
-      sized = λ u apart. none_thinned next (entries_for rows u) (entries_for new u) (thin u) (kept.sized u apart);
+      sized = λ u apart. none_thinned next (list_for rows u) (list_for new u) (thin u) (kept.sized u apart);
       some = some kept.some;
-      ascend = λ u. ascend_thinned next (entries_for rows u) (entries_for new u) (thin u) (kept.ascend u);
-      below = λ u. all_thinned (λ e. nat_lt e.place taken && nat_le e.start e.place) next (entries_for rows u)
-          (entries_for new u) (thin u) (kept.below u);
-      low = λ w. later_low negated next taken (kept_start starts w) (kept_start more w) (later w) (kept.low w);
+      ascend = λ u. ascend_thinned next (list_for rows u) (list_for new u) (thin u) (kept.ascend u);
+      below = λ u. all_thinned (λ e. nat_lt e.place taken && nat_le e.start e.place) next (list_for rows u)
+          (list_for new u) (thin u) (kept.below u);
+      low = λ w. later_low negated next taken (kept_for starts w) (kept_for more w) (later w) (kept.low w);
       covered = covered;
       breaks = λ is. breaks is (kept.breaks is);
       rising = rising;
@@ -291,12 +292,12 @@ pub waiting_is : (negated : Bool) (right : List ℕ) (pulled taken : ℕ) (start
     (rows : List (List Value × List Entry)) (queue : List Taken)
     → Keeps negated right pulled taken starts rows queue → Waiting pulled taken rows
 waiting_is negated right pulled taken starts rows queue kept = λ u.
-    entries_waiting pulled taken u queue (entries_for rows u) kept.fresh (kept.covered u) (kept.below u)
+    entries_waiting pulled taken u queue (list_for rows u) kept.fresh (kept.covered u) (kept.below u)
 
 pub above_is : (negated : Bool) (right : List ℕ) (pulled taken : ℕ) (starts : List (List Value × ℕ))
     (rows : List (List Value × List Entry)) (queue : List Taken)
     → Keeps negated right pulled taken starts rows queue → negated ≡ true → StartsAbove pulled starts
-above_is negated right pulled taken starts rows queue kept is = λ w. by w (kept_start starts w) (kept.breaks is w)
+above_is negated right pulled taken starts rows queue kept is = λ w. by w (kept_for starts w) (kept.breaks is w)
   where
     by : (w : List Value) (o : Option ℕ) → IfSome o (λ s. breaks_before queue w s ≡ true)
         → IfSome o (λ s. pulled < s)
@@ -306,13 +307,13 @@ above_is negated right pulled taken starts rows queue kept is = λ w. by w (kept
 -- the rows of which an entry meets have as many values as columns
 pub sized_met : (interval : Interval) (i x n : ℕ) (rows : List (List Value × List Entry)) (out : List (List Value))
     → Sized n rows
-    → ((u : List Value) → has_row out u ≡ true → met_by interval i x (entries_for rows u) ≡ true)
+    → ((u : List Value) → has_row out u ≡ true → met_by interval i x (list_for rows u) ≡ true)
     → all_sized n out ≡ true
 sized_met interval i x n rows out sized met =
     all_rows (λ row. nat_eq (length row) n) out
     (λ row there. by row (nat_eq (length row) n) refl (met row there))
   where
-    by : (row : List Value) (b : Bool) → nat_eq (length row) n ≡ b → met_by interval i x (entries_for rows row) ≡ true
+    by : (row : List Value) (b : Bool) → nat_eq (length row) n ≡ b → met_by interval i x (list_for rows row) ≡ true
         → nat_eq (length row) n ≡ true
     by row true e hit = e
     by row false e hit =

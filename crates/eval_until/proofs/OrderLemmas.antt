@@ -17,11 +17,10 @@ use Rattle.mfotl_model.specs.Values.{row_cmp, row_total}
 use Rattle.mfotl_model.specs.declared.value.Value.{Value}
 use Rattle.mfotl_model.proofs.AscendingLemmas.{sorted_ascending}
 use Rattle.mfotl_model.proofs.RowLemmas.{row_exact}
-use Rattle.relations.specs.KeptRows.{RowsAscend, RowsDiffer, kept_for, last_for}
+use Rattle.relations.specs.KeptRows.{RowsAscend, RowsDiffer, kept_for, last_for, list_for}
 use Rattle.relations.proofs.KeptLemmas.{ascending_differ, last_is, none_behind, or_none}
 use Rattle.relations.proofs.MapLemmas.{same_row}
 use Rattle.eval_until.specs.declared.entries.Entry.{Entry}
-use Rattle.eval_until.specs.Entries.{entries_for}
 use Rattle.eval_until.specs.InOrder.{in_order}
 
 -- one pair more is found, and so is each other
@@ -84,7 +83,7 @@ in_order_ascends es = subst (IsStrictlySortedBy row_cmp) (sym (rows_in_order es)
 
 -- a row's entries stay
 pub entries_in_order : (rows : List (List Value × List Entry)) (u : List Value)
-    → entries_for (in_order rows) u ≡ entries_for rows u
+    → list_for (in_order rows) u ≡ list_for rows u
 entries_in_order rows u = ap (λ o. unwrap_or o []) (kept_in_order rows u)
 
 -- what a row lies before, a row before it lies before

@@ -14,15 +14,14 @@ use Rattle.mfotl_model.specs.Tables.{TableOf, all_apart, has_row}
 use Rattle.mfotl_model.specs.Values.{row_cmp}
 use Rattle.mfotl_model.specs.declared.interval.Interval.{Interval}
 use Rattle.mfotl_model.specs.declared.value.Value.{Value}
-use Rattle.relations.specs.KeptRows.{RowsAscend, kept_for}
+use Rattle.relations.specs.KeptRows.{RowsAscend, kept_for, list_for}
 use Rattle.relations.proofs.KeptLemmas.{each_kept}
 use Rattle.relations.proofs.TestLemmas.{all_weaker}
 use Rattle.eval_until.specs.AheadView.{AheadOf}
-use Rattle.eval_until.specs.Entries.{entries_for, met_by}
+use Rattle.eval_until.specs.Entries.{met_by}
 use Rattle.eval_until.specs.Keeping.{Keeps, Rising, Sized, breaks_before, names}
 use Rattle.eval_until.specs.Recalled.{run_begins, is_recalled}
 use Rattle.eval_until.specs.Rules.{Ascending, NoneEmpty, PlacesAscend, StartsAbove, StartsBelow, Waiting}
-use Rattle.eval_until.specs.Starts.{kept_start}
 use Rattle.eval_until.specs.UntilView.{Follows, FollowsLeft}
 use Rattle.eval_until.specs.declared.contents.Taken.{Taken}
 use Rattle.eval_until.specs.declared.entries.Entry.{Entry}
@@ -65,25 +64,25 @@ any_with c j (e ∷ es) is there = by (nat_eq e.place j) (any_with c j es is) th
 
 -- the rows name the position of each entry that is kept for a row
 named_own : (rows : List (List Value × List Entry)) (u : List Value)
-    → list_all (λ e. is_recalled rows u e.place) (entries_for rows u) ≡ true
+    → list_all (λ e. is_recalled rows u e.place) (list_for rows u) ≡ true
 named_own [] u = refl
 named_own (r ∷ rs) u = by (is_at (row_cmp u) r.0) refl (named_own rs u)
   where
     own : ℕ → Bool
     own j = list_any (λ (e : Entry). nat_eq e.place j && has_row (r.0 ∷ []) u) r.1
 
-    by : (b : Bool) → is_at (row_cmp u) r.0 ≡ b → list_all (λ e. is_recalled rs u e.place) (entries_for rs u) ≡ true
+    by : (b : Bool) → is_at (row_cmp u) r.0 ≡ b → list_all (λ e. is_recalled rs u e.place) (list_for rs u) ≡ true
         → list_all (λ e. is_recalled (r ∷ rs) u e.place) (unwrap_or (cond b (Some r.1) (kept_for rs u)) []) ≡ true
     by true at rest = all_own (is_recalled (r ∷ rs) u) r.1 (λ j there.
         or_left (own j) (is_recalled rs u j)
         (any_with (has_row (r.0 ∷ []) u) j r.1 (or_left (is_at (row_cmp u) r.0) false at) there))
     by false at rest =
         all_weaker (λ (e : Entry). is_recalled rs u e.place) (λ (e : Entry). is_recalled (r ∷ rs) u e.place)
-        (entries_for rs u) (λ e there. or_right (own e.place) (is_recalled rs u e.place) there) rest
+        (list_for rs u) (λ e there. or_right (own e.place) (is_recalled rs u e.place) there) rest
 
 -- the starts break the run of each row before its start
-broken_own : (starts : List (List Value × ℕ)) (w : List Value) → IfSome (kept_start starts w) (λ s. 0 < s)
-    → IfSome (kept_start starts w) (λ s. run_begins starts w s ≡ true)
+broken_own : (starts : List (List Value × ℕ)) (w : List Value) → IfSome (kept_for starts w) (λ s. 0 < s)
+    → IfSome (kept_for starts w) (λ s. run_begins starts w s ≡ true)
 broken_own [] w low = tt
 broken_own (r ∷ rs) w low = by (is_at (row_cmp w) r.0) refl low (broken_own rs w)
   where
@@ -95,19 +94,19 @@ broken_own (r ∷ rs) w low = by (is_at (row_cmp w) r.0) refl low (broken_own rs
     later None there = tt
     later (Some s) there = or_right (own s) (run_begins rs w s) there
 
-    by : (b : Bool) → is_at (row_cmp w) r.0 ≡ b → IfSome (cond b (Some r.1) (kept_start rs w)) (λ s. 0 < s)
-        → (IfSome (kept_start rs w) (λ s. 0 < s) → IfSome (kept_start rs w) (λ s. run_begins rs w s ≡ true))
-        → IfSome (cond b (Some r.1) (kept_start rs w)) (λ s. (own s || run_begins rs w s) ≡ true)
+    by : (b : Bool) → is_at (row_cmp w) r.0 ≡ b → IfSome (cond b (Some r.1) (kept_for rs w)) (λ s. 0 < s)
+        → (IfSome (kept_for rs w) (λ s. 0 < s) → IfSome (kept_for rs w) (λ s. run_begins rs w s ≡ true))
+        → IfSome (cond b (Some r.1) (kept_for rs w)) (λ s. (own s || run_begins rs w s) ≡ true)
     by true at low rest =
         let some : 0 < r.1 = low in
         or_left (own r.1) (run_begins rs w r.1)
         (and_from (nat_eq (r.1 - 1 + 1) r.1) (has_row (r.0 ∷ []) w) (grind (arith, nat_tests))
         (or_left (is_at (row_cmp w) r.0) false at))
-    by false at low rest = later (kept_start rs w) (rest low)
+    by false at low rest = later (kept_for rs w) (rest low)
 
 -- what each row's entries pass, by look-ups
 rows_all : (p : Entry → Bool) (rows : List (List Value × List Entry)) → RowsAscend rows
-    → ((u : List Value) → list_all p (entries_for rows u) ≡ true) → list_all (λ r. list_all p r.1) rows ≡ true
+    → ((u : List Value) → list_all p (list_for rows u) ≡ true) → list_all (λ r. list_all p r.1) rows ≡ true
 rows_all p rows up all = each rows (each_kept (λ u es. list_all p es ≡ true) rows up (λ u es is.
     sym (ap (λ o. list_all p (unwrap_or o [])) is) ∙ all u))
   where
@@ -118,7 +117,7 @@ rows_all p rows up all = each rows (each_kept (λ u es. list_all p es ≡ true) 
     each (r ∷ rs) h = and_from (list_all p r.1) (list_all (λ r. list_all p r.1) rs) h.0 (each rs h.1)
 
 starts_all : (p : ℕ → Bool) (starts : List (List Value × ℕ)) → RowsAscend starts
-    → ((w : List Value) → IfSome (kept_start starts w) (λ s. p s ≡ true)) → list_all (λ r. p r.1) starts ≡ true
+    → ((w : List Value) → IfSome (kept_for starts w) (λ s. p s ≡ true)) → list_all (λ r. p r.1) starts ≡ true
 starts_all p starts up all = each starts (each_kept (λ w s. p s ≡ true) starts up (λ w s is.
     subst (λ (o : Option ℕ). IfSome o (λ s. p s ≡ true)) is (all w)))
   where
@@ -152,24 +151,24 @@ keeps_resumed negated right pulled taken starts rows queue apart sized some wait
       some = some;
       ascend = ascend;
       below = λ u. all_weaker (λ e. nat_le pulled e.place && nat_lt e.place taken && nat_le e.start e.place)
-          (λ e. nat_lt e.place taken && nat_le e.start e.place) (entries_for rows u)
+          (λ e. nat_lt e.place taken && nat_le e.start e.place) (list_for rows u)
           (λ e h. let parts = and_parts (nat_le pulled e.place && nat_lt e.place taken) (nat_le e.start e.place) h in
           and_from (nat_lt e.place taken) (nat_le e.start e.place)
           (and_parts (nat_le pulled e.place) (nat_lt e.place taken) parts.0).1 parts.1) (waiting u);
       low = below;
-      covered = λ u. all_weaker (λ e. is_recalled rows u e.place) (λ e. names queue u e.place) (entries_for rows u)
+      covered = λ u. all_weaker (λ e. is_recalled rows u e.place) (λ e. names queue u e.place) (list_for rows u)
           (λ e there. same u e.place ∙ there) (named_own rows u);
       breaks = λ is w. both_some (λ s. pulled < s) (λ s. run_begins starts w s ≡ true)
-          (λ s. breaks_before queue w s ≡ true) (λ s low there. breaks is w s ∙ there) (kept_start starts w)
+          (λ s. breaks_before queue w s ≡ true) (λ s low there. breaks is w s ∙ there) (kept_for starts w)
           (above is w)
           (broken_own starts w (both_some (λ s. pulled < s) (λ s. pulled < s) (λ s. 0 < s) (λ s low low2. omega arith)
-          (kept_start starts w) (above is w) (above is w)));
+          (kept_for starts w) (above is w) (above is w)));
       rising = rising;
       after = tests (λ p. nat_lt p taken) ∙ and_from (list_all (λ r. list_all (λ e. nat_lt e.place taken) r.1) rows)
           (cond negated (list_all (λ r. nat_lt (r.1 - 1) taken) starts) true)
           (rows_all (λ e. nat_lt e.place taken) rows up (λ u.
           all_weaker (λ e. nat_le pulled e.place && nat_lt e.place taken && nat_le e.start e.place)
-          (λ e. nat_lt e.place taken) (entries_for rows u)
+          (λ e. nat_lt e.place taken) (list_for rows u)
           (λ e h. let parts = and_parts (nat_le pulled e.place && nat_lt e.place taken) (nat_le e.start e.place) h in
           (and_parts (nat_le pulled e.place) (nat_lt e.place taken) parts.0).1) (waiting u)))
           (only negated refl (λ s. nat_lt (s - 1) taken) (λ s low high. grind (arith, nat_tests)));
@@ -177,7 +176,7 @@ keeps_resumed negated right pulled taken starts rows queue apart sized some wait
           (cond negated (list_all (λ r. nat_le pulled (r.1 - 1)) starts) true)
           (rows_all (λ e. nat_le pulled e.place) rows up (λ u.
           all_weaker (λ e. nat_le pulled e.place && nat_lt e.place taken && nat_le e.start e.place)
-          (λ e. nat_le pulled e.place) (entries_for rows u)
+          (λ e. nat_le pulled e.place) (list_for rows u)
           (λ e h. let parts = and_parts (nat_le pulled e.place && nat_lt e.place taken) (nat_le e.start e.place) h in
           (and_parts (nat_le pulled e.place) (nat_lt e.place taken) parts.0).0) (waiting u)))
           (only negated refl (λ s. nat_le pulled (s - 1)) (λ s low high. grind (arith, nat_tests)));
@@ -186,7 +185,7 @@ keeps_resumed negated right pulled taken starts rows queue apart sized some wait
     only : (n : Bool) → negated ≡ n → (p : ℕ → Bool) → ((s : ℕ) → pulled < s → s ≤ taken → p s ≡ true)
         → cond n (list_all (λ (r : List Value × ℕ). p r.1) starts) true ≡ true
     only true is p gives = starts_all p starts (ups is) (λ w.
-        both_some (λ s. pulled < s) (λ s. s ≤ taken) (λ s. p s ≡ true) gives (kept_start starts w) (above is w)
+        both_some (λ s. pulled < s) (λ s. s ≤ taken) (λ s. p s ≡ true) gives (kept_for starts w) (above is w)
         (below w))
     only false is p gives = refl
 
@@ -268,7 +267,7 @@ ascend_as rows new same ascend u = subst PlacesAscend (sym (ap (λ o. unwrap_or 
 
 pub starts_as : (P : ℕ → Type 0) (starts new : List (List Value × ℕ))
     → ((w : List Value) → kept_for new w ≡ kept_for starts w)
-    → ((w : List Value) → IfSome (kept_start starts w) P) → (w : List Value) → IfSome (kept_start new w) P
+    → ((w : List Value) → IfSome (kept_for starts w) P) → (w : List Value) → IfSome (kept_for new w) P
 starts_as P starts new same all w = subst (λ (o : Option ℕ). IfSome o P) (sym (same w)) (all w)
 
 -- what is kept in maps with the same look-ups is kept alike

@@ -17,12 +17,12 @@ use Rattle.mfotl_model.specs.Tables.{has_row}
 use Rattle.mfotl_model.specs.Values.{row_cmp, row_total}
 use Rattle.mfotl_model.specs.declared.interval.Interval.{Interval}
 use Rattle.mfotl_model.specs.declared.value.Value.{Value}
-use Rattle.relations.specs.KeptRows.{RowsDiffer}
+use Rattle.relations.specs.KeptRows.{RowsDiffer, list_for}
 use Rattle.relations.proofs.KeptLemmas.{differ_tail, none_behind}
 use Rattle.relations.proofs.MapLemmas.{same_row}
 use Rattle.relations.proofs.TableRows.{has_more}
 use Rattle.eval_until.specs.declared.entries.Entry.{Entry}
-use Rattle.eval_until.specs.Entries.{entries_for, met_by}
+use Rattle.eval_until.specs.Entries.{met_by}
 use Rattle.eval_until.specs.Starts.{later_start}
 
 -- what holds of each item holds of that at a place
@@ -54,28 +54,28 @@ next_lacks table k x sorted l e =
 pub added_more : (table : List (List Value)) (k : ℕ) (x u : List Value) (entry : List Value → Entry) (e : Entry)
     (old cur new : List (List Value × List Entry)) → k < length table → x ≡ get_or table k x
     → has_row (take k table) x ≡ false → e ≡ entry x
-    → entries_for cur u ≡ cond (has_row (take k table) u) (entries_for old u ++ entry u ∷ []) (entries_for old u)
-    → entries_for new u ≡ cond (is_at (row_cmp x) u) (entries_for cur u ++ e ∷ []) (entries_for cur u)
-    → entries_for new u ≡ cond (has_row (take (k + 1) table) u) (entries_for old u ++ entry u ∷ []) (entries_for old u)
+    → list_for cur u ≡ cond (has_row (take k table) u) (list_for old u ++ entry u ∷ []) (list_for old u)
+    → list_for new u ≡ cond (is_at (row_cmp x) u) (list_for cur u ++ e ∷ []) (list_for cur u)
+    → list_for new u ≡ cond (has_row (take (k + 1) table) u) (list_for old u ++ entry u ∷ []) (list_for old u)
 added_more table k x u entry e old cur new low is lacks made before step =
     step ∙ by (is_at (row_cmp x) u) refl
-    ∙ sym (ap (λ b. cond b (entries_for old u ++ entry u ∷ []) (entries_for old u)) (has_more table k x u low is))
+    ∙ sym (ap (λ b. cond b (list_for old u ++ entry u ∷ []) (list_for old u)) (has_more table k x u low is))
   where
-    there : (b : Bool) → cond (b || true) (entries_for old u ++ entry u ∷ []) (entries_for old u)
-        ≡ entries_for old u ++ entry u ∷ []
+    there : (b : Bool) → cond (b || true) (list_for old u ++ entry u ∷ []) (list_for old u)
+        ≡ list_for old u ++ entry u ∷ []
     there true = refl
     there false = refl
 
     by : (b : Bool) → is_at (row_cmp x) u ≡ b
-        → cond b (entries_for cur u ++ e ∷ []) (entries_for cur u)
-        ≡ cond (has_row (take k table) u || b) (entries_for old u ++ entry u ∷ []) (entries_for old u)
+        → cond b (list_for cur u ++ e ∷ []) (list_for cur u)
+        ≡ cond (has_row (take k table) u || b) (list_for old u ++ entry u ∷ []) (list_for old u)
     by true at =
         ap₂ (λ es f. es ++ f ∷ [])
-        (before ∙ ap (λ b. cond b (entries_for old u ++ entry u ∷ []) (entries_for old u))
+        (before ∙ ap (λ b. cond b (list_for old u ++ entry u ∷ []) (list_for old u))
         (ap (has_row (take k table)) (sym (same_row x u at)) ∙ lacks))
         (made ∙ ap entry (same_row x u at))
         ∙ sym (there (has_row (take k table) u))
-    by false at = before ∙ ap (λ b. cond b (entries_for old u ++ entry u ∷ []) (entries_for old u))
+    by false at = before ∙ ap (λ b. cond b (list_for old u ++ entry u ∷ []) (list_for old u))
         (sym (or-false (has_row (take k table) u)))
 
 -- what the entries of the next row are, before it is added
@@ -194,14 +194,14 @@ start_gone next row w m n s is low step = step ∙ by (is_at (row_cmp row) w) re
 -- what is found among the entries of all rows is what the row's own entries give
 pub hit_is : (interval : Interval) (i x : ℕ) (u : List Value) (es : List (List Value × List Entry))
     → RowsDiffer es
-    → list_any (λ e. eq_by_cmp row_cmp u e.0 && met_by interval i x e.1) es ≡ met_by interval i x (entries_for es u)
+    → list_any (λ e. eq_by_cmp row_cmp u e.0 && met_by interval i x e.1) es ≡ met_by interval i x (list_for es u)
 hit_is interval i x u [] h = refl
 hit_is interval i x u (e ∷ es) h = by (is_at (row_cmp u) e.0) refl
     (hit_is interval i x u es (differ_tail e es h))
   where
     by : (b : Bool) → is_at (row_cmp u) e.0 ≡ b
         → list_any (λ e. eq_by_cmp row_cmp u e.0 && met_by interval i x e.1) es
-        ≡ met_by interval i x (entries_for es u)
+        ≡ met_by interval i x (list_for es u)
         → ((b && met_by interval i x e.1)
         || list_any (λ e. eq_by_cmp row_cmp u e.0 && met_by interval i x e.1) es)
         ≡ met_by interval i x (unwrap_or (cond b (Some e.1) (lookup (is_at (row_cmp u)) es)) [])
@@ -242,6 +242,6 @@ empty_list (x ∷ xs) e = absurd (let w : length (x ∷ xs) ≡ 0 = eqb-true (le
 -- where a row was taken out, nothing is left of it
 pub none_after : (row gone : List Value) (m n : List (List Value × List Entry)) → is_at (row_cmp row) gone ≡ true
     → lookup (is_at (row_cmp gone)) n ≡ cond (is_at (row_cmp row) gone) None (lookup (is_at (row_cmp gone)) m)
-    → entries_for n gone ≡ []
+    → list_for n gone ≡ []
 none_after row gone m n at step =
     ap (λ o. unwrap_or o []) (step ∙ ap (λ b. cond b None (lookup (is_at (row_cmp gone)) m)) at)

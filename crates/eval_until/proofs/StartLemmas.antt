@@ -9,9 +9,8 @@ use Rattle.std.specs.Option.{unwrap_or}
 use Rattle.mfotl_model.specs.Tables.{has_row}
 use Rattle.mfotl_model.specs.Values.{row_cmp, row_total}
 use Rattle.mfotl_model.specs.declared.value.Value.{Value}
-use Rattle.relations.specs.KeptRows.{RowsDiffer}
+use Rattle.relations.specs.KeptRows.{RowsDiffer, kept_for}
 use Rattle.relations.proofs.MapLemmas.{same_row}
-use Rattle.eval_until.specs.Starts.{kept_start}
 
 -- one row has no other beside it
 pub one_differs : (row : List Value) (s : ℕ) → RowsDiffer ((row, s) ∷ [])
@@ -20,20 +19,20 @@ one_differs row s = (tt, tt)
 
 -- what is found of one start
 pub one_found : (row w : List Value) (s : ℕ)
-    → kept_start ((row, s) ∷ []) w ≡ cond (is_at (row_cmp row) w) (Some s) None
+    → kept_for ((row, s) ∷ []) w ≡ cond (is_at (row_cmp row) w) (Some s) None
 one_found row w s = ap (λ b. cond b (Some s) None) ((eq_by_cmp_equiv row_total).symm w row)
 
 -- the one start, put where there was none
 pub one_put : (row w : List Value) (s : ℕ) (none : List (List Value × ℕ)) → none ≡ []
-    → kept_start ((row, s) ∷ []) w ≡ cond (is_at (row_cmp row) w) (Some s) (kept_start none w)
+    → kept_for ((row, s) ∷ []) w ≡ cond (is_at (row_cmp row) w) (Some s) (kept_for none w)
 one_put row w s none e = one_found row w s
-    ∙ ap (λ es. cond (is_at (row_cmp row) w) (Some s) (kept_start es w)) (sym e)
+    ∙ ap (λ es. cond (is_at (row_cmp row) w) (Some s) (kept_for es w)) (sym e)
 
 -- the one start, removed
 pub one_removed : (row lone w : List Value) (s : ℕ) (none : List (List Value × ℕ)) → none ≡ []
     → is_at (row_cmp row) lone ≡ true
-    → kept_start none w ≡ cond (is_at (row_cmp row) w) None (kept_start ((lone, s) ∷ []) w)
-one_removed row lone w s none e at = ap (λ es. kept_start es w) e ∙ by (is_at (row_cmp row) w)
+    → kept_for none w ≡ cond (is_at (row_cmp row) w) None (kept_for ((lone, s) ∷ []) w)
+one_removed row lone w s none e at = ap (λ es. kept_for es w) e ∙ by (is_at (row_cmp row) w)
     ∙ ap (cond (is_at (row_cmp row) w) None) (ap (λ b. cond b (Some s) None) (ap (λ r. is_at (row_cmp r) w)
     (same_row row lone at)) ∙ sym (one_found lone w s))
   where
@@ -43,19 +42,19 @@ one_removed row lone w s none e at = ap (λ es. kept_start es w) e ∙ by (is_at
 
 -- the one start, where another is removed
 pub one_left : (row lone w : List Value) (s : ℕ) → is_at (row_cmp row) lone ≡ false
-    → kept_start ((lone, s) ∷ []) w ≡ cond (is_at (row_cmp row) w) None (kept_start ((lone, s) ∷ []) w)
+    → kept_for ((lone, s) ∷ []) w ≡ cond (is_at (row_cmp row) w) None (kept_for ((lone, s) ∷ []) w)
 one_left row lone w s apart = by (is_at (row_cmp row) w) refl
   where
     by : (b : Bool) → is_at (row_cmp row) w ≡ b
-        → kept_start ((lone, s) ∷ []) w ≡ cond b None (kept_start ((lone, s) ∷ []) w)
+        → kept_for ((lone, s) ∷ []) w ≡ cond b None (kept_for ((lone, s) ∷ []) w)
     by true at = ap (λ b. cond b (Some s) None)
         (ap (λ r. is_at (row_cmp r) lone) (sym (same_row row w at)) ∙ apart)
     by false at = refl
 
 -- the only start, which goes on
 pub only_found : (row lone w : List Value) (s p : ℕ) → is_at (row_cmp row) lone ≡ true
-    → kept_start ((lone, s) ∷ []) w
-    ≡ cond (is_at (row_cmp row) w) (Some (unwrap_or (kept_start ((lone, s) ∷ []) w) p)) None
+    → kept_for ((lone, s) ∷ []) w
+    ≡ cond (is_at (row_cmp row) w) (Some (unwrap_or (kept_for ((lone, s) ∷ []) w) p)) None
 only_found row lone w s p at =
     ap (λ b. cond b (Some s) None) same ∙ by (is_at (row_cmp row) w)
     ∙ ap (λ b. cond (is_at (row_cmp row) w) (Some (unwrap_or (cond b (Some s) None) p)) None) (sym same)
@@ -77,7 +76,7 @@ only_row (r ∷ []) row w one is = (eq_by_cmp_equiv row_total).symm row w ∙ ap
 
 -- a start that is put in place of all
 pub only_put : (row copy w : List Value) (starts : List Value → ℕ) (s : ℕ) → copy ≡ row → s ≡ starts row
-    → kept_start ((copy, s) ∷ []) w ≡ cond (is_at (row_cmp row) w) (Some (starts w)) None
+    → kept_for ((copy, s) ∷ []) w ≡ cond (is_at (row_cmp row) w) (Some (starts w)) None
 only_put row copy w starts s is from = one_found copy w s ∙ ap (λ r. cond (is_at (row_cmp r) w) (Some s) None) is
     ∙ by (is_at (row_cmp row) w) refl
   where

@@ -2,8 +2,9 @@
 use Rattle.std.specs.Prelude.{ℕ, Bool, List}
 use Rattle.mfotl_model.specs.declared.interval.Interval.{Interval}
 use Rattle.mfotl_model.specs.declared.value.Value.{Value}
+use Rattle.relations.specs.KeptRows.{list_for}
 use Rattle.eval_until.specs.declared.entries.Entry.{Entry}
-use Rattle.eval_until.specs.Entries.{entries_for, met_by}
+use Rattle.eval_until.specs.Entries.{met_by}
 use Rattle.eval_until.specs.Starts.{start_of}
 
 -- the operands' columns, whether the left one is negated, how many positions were pulled, of how many the
@@ -21,7 +22,7 @@ pub record AheadOf : Type 0 where
 
 -- whether some entry of a row meets UNTIL at the position i, whose time is x
 abbrev pub met : AheadOf → ℕ → ℕ → List Value → Bool
-met ahead i x u = met_by ahead.interval i x (entries_for ahead.rows u)
+met ahead i x u = met_by ahead.interval i x (list_for ahead.rows u)
 
 -- where the left operand's present run of a row begins
 abbrev pub run_start : AheadOf → List Value → ℕ

@@ -5,20 +5,21 @@ use Rattle.std.specs.List.{list_any, list_all}
 use Rattle.std.specs.Option.{IfSome}
 use Rattle.mfotl_model.specs.Tables.{all_apart, has_row}
 use Rattle.mfotl_model.specs.declared.value.Value.{Value}
+use Rattle.relations.specs.KeptRows.{kept_for, list_for}
 use Rattle.eval_until.specs.declared.contents.Taken.{Taken}
 use Rattle.eval_until.specs.declared.entries.Entry.{Entry}
-use Rattle.eval_until.specs.Entries.{entries_for, from_place}
+use Rattle.eval_until.specs.Entries.{from_place}
 use Rattle.eval_until.specs.Rules.{Ascending, NoneEmpty, StartsBelow}
-use Rattle.eval_until.specs.Starts.{kept_start, later_start}
+use Rattle.eval_until.specs.Starts.{later_start}
 
 -- each row that entries are kept for has n values
 abbrev pub Sized : ℕ → List (List Value × List Entry) → Type 0
-Sized n rows = (u : List Value) → nat_eq (length u) n ≡ false → entries_for rows u ≡ []
+Sized n rows = (u : List Value) → nat_eq (length u) n ≡ false → list_for rows u ≡ []
 
 -- each entry stands before p, and its run doesn't begin behind it
 abbrev pub Below : ℕ → List (List Value × List Entry) → Type 0
 Below p rows = (u : List Value)
-    → list_all (λ e. nat_lt e.place p && nat_le e.start e.place) (entries_for rows u) ≡ true
+    → list_all (λ e. nat_lt e.place p && nat_le e.start e.place) (list_for rows u) ≡ true
 
 -- whether the queue has the row among the right operand's at the position j
 abbrev pub names : List Taken → List Value → ℕ → Bool
@@ -30,12 +31,12 @@ breaks_before queue w s = list_any (λ q. nat_eq (q.place + 1) s && has_row q.br
 
 -- each entry's position stands in the queue, with its row
 abbrev pub Covered : List Taken → List (List Value × List Entry) → Type 0
-Covered queue rows = (u : List Value) → list_all (λ e. names queue u e.place) (entries_for rows u) ≡ true
+Covered queue rows = (u : List Value) → list_all (λ e. names queue u e.place) (list_for rows u) ≡ true
 
 -- so does each start's
 abbrev pub CoveredStarts : List Taken → List (List Value × ℕ) → Type 0
 CoveredStarts queue starts = (w : List Value)
-    → IfSome (kept_start starts w) (λ s. breaks_before queue w s ≡ true)
+    → IfSome (kept_for starts w) (λ s. breaks_before queue w s ≡ true)
 
 -- the queue's positions never fall
 abbrev pub Rising : List Taken → Type 0

@@ -3,15 +3,13 @@ use Rattle.std.specs.Prelude.{◌≡◌, ℕ, ◌<◌, ◌≤◌, Bool, true, �
 use Rattle.std.specs.List.{list_all}
 use Rattle.std.specs.Option.{IfSome}
 use Rattle.mfotl_model.specs.declared.value.Value.{Value}
-use Rattle.relations.specs.KeptRows.{kept_for}
+use Rattle.relations.specs.KeptRows.{kept_for, list_for}
 use Rattle.eval_until.specs.declared.entries.Entry.{Entry}
-use Rattle.eval_until.specs.Entries.{entries_for}
-use Rattle.eval_until.specs.Starts.{kept_start}
 
 -- each entry stands at a position that was taken and not pulled, and its run doesn't begin behind it
 abbrev pub Waiting : ℕ → ℕ → List (List Value × List Entry) → Type 0
 Waiting pulled taken rows = (u : List Value)
-    → list_all (λ e. nat_le pulled e.place && nat_lt e.place taken && nat_le e.start e.place) (entries_for rows u)
+    → list_all (λ e. nat_le pulled e.place && nat_lt e.place taken && nat_le e.start e.place) (list_for rows u)
     ≡ true
 
 -- whether each of the entries stands before a position
@@ -25,7 +23,7 @@ PlacesAscend (e ∷ es) = (list_all (λ f. nat_lt e.place f.place) es ≡ true) 
 
 -- those of each row do
 abbrev pub Ascending : List (List Value × List Entry) → Type 0
-Ascending rows = (u : List Value) → PlacesAscend (entries_for rows u)
+Ascending rows = (u : List Value) → PlacesAscend (list_for rows u)
 
 -- each row that is kept has an entry
 abbrev pub NoneEmpty : List (List Value × List Entry) → Type 0
@@ -33,8 +31,8 @@ NoneEmpty rows = (u : List Value) → IfSome (kept_for rows u) (λ entries. 0 < 
 
 -- no kept start is behind the positions taken
 abbrev pub StartsBelow : ℕ → List (List Value × ℕ) → Type 0
-StartsBelow taken starts = (w : List Value) → IfSome (kept_start starts w) (λ s. s ≤ taken)
+StartsBelow taken starts = (w : List Value) → IfSome (kept_for starts w) (λ s. s ≤ taken)
 
 -- no kept start is at or below the next position to pull, of which it would tell nothing
 abbrev pub StartsAbove : ℕ → List (List Value × ℕ) → Type 0
-StartsAbove pulled starts = (w : List Value) → IfSome (kept_start starts w) (λ s. pulled < s)
+StartsAbove pulled starts = (w : List Value) → IfSome (kept_for starts w) (λ s. pulled < s)

@@ -5,8 +5,9 @@ ghost use Rattle.std.specs.List.{list_any};
 ghost use Rattle.mfotl_model.specs.Tables.{has_row};
 ghost use Rattle.mfotl_model.specs.Values.{row_cmp};
 ghost use Rattle.mfotl_model.specs.declared.value.Value.{Value};
-ghost use Rattle.eval_until.specs.ByKey.{Listed, is_listed, rows_at};
-ghost use Rattle.eval_until.specs.Entries.{entries_for, met_by};
+ghost use Rattle.relations.specs.KeptRows.{list_for};
+ghost use Rattle.eval_until.specs.ByKey.{Listed, is_listed};
+ghost use Rattle.eval_until.specs.Entries.{met_by};
 ghost use Rattle.eval_until.specs.Rules.{NoneEmpty};
 
 use crate::entries::Entries;
@@ -39,8 +40,8 @@ fn put_in(
     key: Row,
     row: Row,
 ) -> Result<(), AllocError>
-    ensures { OnOk result ((q u : List Value) → has_row (rows_at sets.new.entries q) u
-        ≡ cond (is_at (row_cmp key) q && is_at (row_cmp row) u) true (has_row (rows_at sets.old.entries q) u)) }
+    ensures { OnOk result ((q u : List Value) → has_row (list_for sets.new.entries q) u
+        ≡ cond (is_at (row_cmp key) q && is_at (row_cmp row) u) true (has_row (list_for sets.old.entries q) u)) }
 {
     let set = sets.entry(key)?.or_insert(RowSet::new());
     set.add(alloc, row)?;
@@ -49,8 +50,8 @@ fn put_in(
 
 // A set that is left without rows goes.
 fn take_out(sets: &mut HashMap<Row, RowSet>, key: Row, row: &Row)
-    ensures { (q u : List Value) → has_row (rows_at sets.new.entries q) u
-        ≡ cond (is_at (row_cmp key) q && is_at (row_cmp row.now) u) false (has_row (rows_at sets.old.entries q) u) }
+    ensures { (q u : List Value) → has_row (list_for sets.new.entries q) u
+        ≡ cond (is_at (row_cmp key) q && is_at (row_cmp row.now) u) false (has_row (list_for sets.old.entries q) u) }
 {
     let slot = match sets.entry(key) {
         Ok(slot) => slot,
@@ -128,8 +129,8 @@ impl RowsByKey {
         x: u64,
     ) -> Result<(), AllocError>
         ensures { OnOk result ((u : List Value) → has_row out.new.items u ≡ (has_row out.old.items u
-            || (has_row (rows_at self.now.sets key.now) u
-            && met_by interval.now i x (entries_for rows.now.entries u)))) }
+            || (has_row (list_for self.now.sets key.now) u
+            && met_by interval.now i x (list_for rows.now.entries u)))) }
     {
         match self.sets.get(key) {
             Some(set) => set.push_met(alloc, rows, out, interval, i, x),
@@ -150,8 +151,8 @@ impl RowsByKey {
         x: u64,
     ) -> Result<(), AllocError>
         ensures { OnOk result ((u : List Value) → has_row out.new.items u ≡ (has_row out.old.items u
-            || list_any (λ k. has_row (rows_at self.now.sets k) u
-            && met_by interval.now i x (entries_for rows.now.entries u)) keys.now)) }
+            || list_any (λ k. has_row (list_for self.now.sets k) u
+            && met_by interval.now i x (list_for rows.now.entries u)) keys.now)) }
     {
         for key in keys {
             self.push_key(alloc, rows, out, key, interval, i, x)?;

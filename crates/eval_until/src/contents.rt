@@ -2,10 +2,10 @@
 ghost use Rattle.std.specs.Prelude.{◌≡◌, ◌+◌, ◌∷◌, ◌++◌, ◌≤◌, ◌<◌, ◌^◌, [], true, List, OnOk, cond};
 ghost use Rattle.mfotl_model.specs.Tables.{has_row, part};
 ghost use Rattle.mfotl_model.specs.declared.value.Value.{Value};
+ghost use Rattle.relations.specs.KeptRows.{kept_for, list_for};
 ghost use Rattle.eval_until.specs.ByKey.{Listed};
-ghost use Rattle.eval_until.specs.Entries.{entries_for};
 ghost use Rattle.eval_until.specs.Keeping.{Keeps, Queues};
-ghost use Rattle.eval_until.specs.Starts.{kept_start, start_of, start_taken};
+ghost use Rattle.eval_until.specs.Starts.{start_of, start_taken};
 
 use crate::by_key::{RowsByKey, list_rows};
 use crate::entries::Entries;
@@ -94,14 +94,14 @@ pub fn take_position(
     requires columns { rights.columns ≡ right.now }
     requires low { pulled ≤ place }
     requires few { place < 2 ^ 63 }
-    ensures rows { OnOk result ((u : List Value) → entries_for contents.new.rows.entries u
-        ≡ cond (has_row rights.rows u) (entries_for contents.old.rows.entries u ++ record {
+    ensures rows { OnOk result ((u : List Value) → list_for contents.new.rows.entries u
+        ≡ cond (has_row rights.rows u) (list_for contents.old.rows.entries u ++ record {
           place = place;
           start = start_of negated place contents.old.starts (part right.now left.now u);
           ts = ts;
         } ∷ [])
-        (entries_for contents.old.rows.entries u)) }
-    ensures starts { OnOk result ((w : List Value) → kept_start contents.new.starts w
+        (list_for contents.old.rows.entries u)) }
+    ensures starts { OnOk result ((w : List Value) → kept_for contents.new.starts w
         ≡ start_taken negated place lefts.rows contents.old.starts w) }
     ensures kept { OnOk result (
         Keeps negated right.now pulled (place + 1)

@@ -2,11 +2,11 @@
 ghost use Rattle.std.specs.Prelude.{◌≡◌, ◌&&◌, ℕ, true, List, cond};
 ghost use Rattle.mfotl_model.specs.Tables.{has_row};
 ghost use Rattle.mfotl_model.specs.declared.value.Value.{Value};
+ghost use Rattle.relations.specs.KeptRows.{kept_for, list_for};
 ghost use Rattle.eval_until.specs.ByKey.{Listed};
-ghost use Rattle.eval_until.specs.Entries.{entries_for};
 ghost use Rattle.eval_until.specs.Keeping.{Covered, CoveredStarts, Fresh, IsLater, IsThinned, NotAfter, Rising};
 ghost use Rattle.eval_until.specs.Rules.{NoneEmpty};
-ghost use Rattle.eval_until.specs.Starts.{kept_start, later_start};
+ghost use Rattle.eval_until.specs.Starts.{later_start};
 
 use crate::by_key::RowsByKey;
 use crate::contents::Taken;
@@ -21,9 +21,9 @@ use std::collections::{HashMap, VecDeque};
 // a run that began with the position `next` or before tells nothing more; only those of a negated
 // operand may be forgotten, since they are taken to begin with the first position
 fn forget_breaks(starts: &mut StartMap, negated: bool, table: &[Row], next: u64)
-    ensures { (w : List Value) → kept_start starts.new w
-        ≡ cond (negated && has_row table.now w) (later_start next (kept_start starts.old w))
-        (kept_start starts.old w) }
+    ensures { (w : List Value) → kept_for starts.new w
+        ≡ cond (negated && has_row table.now w) (later_start next (kept_for starts.old w))
+        (kept_for starts.old w) }
 {
     if negated {
         forget_starts(starts, table, next);
@@ -44,11 +44,11 @@ pub fn expire(
     requires rows { Covered queue.old.items rows.old.entries }
     requires rising { Rising queue.old.items }
     ensures rows { (u : List Value) →
-        IsThinned next (entries_for rows.old.entries u) (entries_for rows.new.entries u) }
+        IsThinned next (list_for rows.old.entries u) (list_for rows.new.entries u) }
     ensures some { NoneEmpty rows.old.entries → NoneEmpty rows.new.entries }
     ensures listed { Listed right.now by_key.old rows.old.entries → Listed right.now by_key.new rows.new.entries }
     ensures starts { (w : List Value) →
-        IsLater negated next (kept_start starts.old w) (kept_start starts.new w) }
+        IsLater negated next (kept_for starts.old w) (kept_for starts.new w) }
     ensures covered { Covered queue.new.items rows.new.entries }
     ensures breaks { negated ≡ true → CoveredStarts queue.old.items starts.old →
         CoveredStarts queue.new.items starts.new }

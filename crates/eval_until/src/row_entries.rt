@@ -7,10 +7,10 @@ ghost use Rattle.std.specs.Ordering.{eq_by_cmp};
 ghost use Rattle.mfotl_model.specs.Tables.{has_row, part};
 ghost use Rattle.mfotl_model.specs.Values.{row_cmp};
 ghost use Rattle.mfotl_model.specs.declared.value.Value.{Value};
-ghost use Rattle.relations.specs.KeptRows.{RowsDiffer};
+ghost use Rattle.relations.specs.KeptRows.{RowsDiffer, list_for};
 ghost use Rattle.eval_until.specs.ByKey.{Listed};
 ghost use Rattle.eval_until.specs.declared.entries.Entry.{Entry};
-ghost use Rattle.eval_until.specs.Entries.{entries_for, from_place, met_by};
+ghost use Rattle.eval_until.specs.Entries.{from_place, met_by};
 ghost use Rattle.eval_until.specs.Rules.{NoneEmpty, all_before};
 ghost use Rattle.eval_until.specs.Starts.{start_of};
 
@@ -31,10 +31,10 @@ fn add_entry(
     row: Row,
     entry: Entry,
 ) -> Result<(), AllocError>
-    requires { IsTrue (all_before entry.place (entries_for rows.old.entries row)) }
-    ensures entries { OnOk result ((u : List Value) → entries_for rows.new.entries u
-        ≡ cond (is_at (row_cmp row) u) (entries_for rows.old.entries u ++ entry ∷ [])
-        (entries_for rows.old.entries u)) }
+    requires { IsTrue (all_before entry.place (list_for rows.old.entries row)) }
+    ensures entries { OnOk result ((u : List Value) → list_for rows.new.entries u
+        ≡ cond (is_at (row_cmp row) u) (list_for rows.old.entries u ++ entry ∷ [])
+        (list_for rows.old.entries u)) }
     ensures some { OnOk result (NoneEmpty rows.old.entries → NoneEmpty rows.new.entries) }
 {
     let entries = rows.entry(row)?.or_insert(Entries::new());
@@ -56,14 +56,14 @@ pub fn add_rows(
     ts: u64,
 ) -> Result<(), AllocError>
     requires sorted { IsStrictlySortedBy row_cmp table.now }
-    requires before { (u : List Value) → IsTrue (all_before place (entries_for rows.old.entries u)) }
-    ensures entries { OnOk result ((u : List Value) → entries_for rows.new.entries u
-        ≡ cond (has_row table.now u) (entries_for rows.old.entries u ++ record {
+    requires before { (u : List Value) → IsTrue (all_before place (list_for rows.old.entries u)) }
+    ensures entries { OnOk result ((u : List Value) → list_for rows.new.entries u
+        ≡ cond (has_row table.now u) (list_for rows.old.entries u ++ record {
           place = place;
           start = start_of negated place starts.now (part right.now left.now u);
           ts = ts;
         } ∷ [])
-        (entries_for rows.old.entries u)) }
+        (list_for rows.old.entries u)) }
     ensures some { OnOk result (NoneEmpty rows.old.entries → NoneEmpty rows.new.entries) }
 {
     for row in table {
@@ -76,11 +76,11 @@ pub fn add_rows(
 
 // forgets what stands before the position `next`, of one row, which is given where nothing is left of it
 fn forget_row(rows: &mut HashMap<Row, Entries>, row: Row, next: u64) -> Option<Row>
-    ensures entries { (u : List Value) → entries_for rows.new.entries u
-        ≡ cond (is_at (row_cmp row) u) (from_place next (entries_for rows.old.entries u))
-        (entries_for rows.old.entries u) }
+    ensures entries { (u : List Value) → list_for rows.new.entries u
+        ≡ cond (is_at (row_cmp row) u) (from_place next (list_for rows.old.entries u))
+        (list_for rows.old.entries u) }
     ensures some { NoneEmpty rows.old.entries → NoneEmpty rows.new.entries }
-    ensures gone { IfSome result (λ gone. entries_for rows.new.entries gone ≡ []) }
+    ensures gone { IfSome result (λ gone. list_for rows.new.entries gone ≡ []) }
 {
     let slot = match rows.entry(row) {
         Ok(slot) => slot,
@@ -106,7 +106,7 @@ fn forget_row(rows: &mut HashMap<Row, Entries>, row: Row, next: u64) -> Option<R
 
 // A row of which nothing is left needn't be listed any more. Without memory it stays.
 fn unlist(alloc: Global, by_key: &mut RowsByKey, right: &[u32], gone: Option<Row>)
-    ensures { (rows : List (List Value × List Entry)) → IfSome gone (λ row. entries_for rows row ≡ []) →
+    ensures { (rows : List (List Value × List Entry)) → IfSome gone (λ row. list_for rows row ≡ []) →
         Listed right.now by_key.old rows → Listed right.now by_key.new rows }
 {
     if let Some(row) = gone {
@@ -123,9 +123,9 @@ pub fn forget_rows(
     table: Vec<Row>,
     next: u64,
 )
-    ensures entries { (u : List Value) → entries_for rows.new.entries u
-        ≡ cond (has_row table.items u) (from_place next (entries_for rows.old.entries u))
-        (entries_for rows.old.entries u) }
+    ensures entries { (u : List Value) → list_for rows.new.entries u
+        ≡ cond (has_row table.items u) (from_place next (list_for rows.old.entries u))
+        (list_for rows.old.entries u) }
     ensures some { NoneEmpty rows.old.entries → NoneEmpty rows.new.entries }
     ensures listed { Listed right.now by_key.old rows.old.entries → Listed right.now by_key.new rows.new.entries }
 {
@@ -159,7 +159,7 @@ pub fn push_met(
 
 /// Whether some entry of a row meets UNTIL at the position `i`, whose time is `x`.
 pub fn row_met(rows: &HashMap<Row, Entries>, row: &Row, interval: &Interval, i: u64, x: u64) -> bool
-    ensures { result ≡ met_by interval.now i x (entries_for rows.now.entries row.now) }
+    ensures { result ≡ met_by interval.now i x (list_for rows.now.entries row.now) }
 {
     match rows.get(row) {
         Some(entries) => entries.met(interval, i, x),

@@ -5,7 +5,8 @@ ghost use Rattle.std.specs.List.{list_any};
 ghost use Rattle.mfotl_model.specs.Tables.{has_row};
 ghost use Rattle.mfotl_model.specs.Values.{row_cmp};
 ghost use Rattle.mfotl_model.specs.declared.value.Value.{Value};
-ghost use Rattle.eval_until.specs.Entries.{entries_for, met_by};
+ghost use Rattle.relations.specs.KeptRows.{list_for};
+ghost use Rattle.eval_until.specs.Entries.{met_by};
 ghost use Rattle.eval_until.specs.HeldRows.{held_rows};
 
 use crate::entries::Entries;
@@ -116,7 +117,7 @@ fn push_one(
     x: u64,
 ) -> Result<(), AllocError>
     ensures { OnOk result ((u : List Value) → has_row out.new.items u ≡ (has_row out.old.items u
-        || (is_at (row_cmp u) row.now && met_by interval.now i x (entries_for rows.now.entries u)))) }
+        || (is_at (row_cmp u) row.now && met_by interval.now i x (list_for rows.now.entries u)))) }
 {
     if row_met(rows, row, interval, i, x) {
         out.push(row.copy(alloc)?)?;
@@ -134,7 +135,7 @@ fn push_each(
     x: u64,
 ) -> Result<(), AllocError>
     ensures { OnOk result ((u : List Value) → has_row out.new.items u ≡ (has_row out.old.items u
-        || list_any (λ r. is_at (row_cmp u) r && met_by interval.now i x (entries_for rows.now.entries u))
+        || list_any (λ r. is_at (row_cmp u) r && met_by interval.now i x (list_for rows.now.entries u))
         set.now.keys)) }
 {
     for row in set {
@@ -189,7 +190,7 @@ impl RowSet {
         x: u64,
     ) -> Result<(), AllocError>
         ensures { OnOk result ((u : List Value) → has_row out.new.items u ≡ (has_row out.old.items u
-            || (has_row self.now u && met_by interval.now i x (entries_for rows.now.entries u)))) }
+            || (has_row self.now u && met_by interval.now i x (list_for rows.now.entries u)))) }
     {
         match &self.held {
             Held::Zero => Ok(()),

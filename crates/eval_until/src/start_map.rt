@@ -5,7 +5,7 @@ ghost use Rattle.std.specs.Option.{unwrap_or};
 ghost use Rattle.mfotl_model.specs.Values.{row_cmp};
 ghost use Rattle.mfotl_model.specs.declared.value.Value.{Value};
 ghost use Rattle.relations.specs.KeptRows.{RowsAscend, RowsDiffer, kept_for, last_for};
-ghost use Rattle.eval_until.specs.Starts.{kept_start, starts_among};
+ghost use Rattle.eval_until.specs.Starts.{starts_among};
 
 use crate::ordered::ordered_starts;
 use mfotl_model::Row;
@@ -33,8 +33,8 @@ impl Model for StartMap {
 // a lone start goes into the map, where others come
 fn spread(lone: &mut Option<(Row, u64)>, many: &mut HashMap<Row, u64>) -> Result<(), AllocError>
     ensures lone { OnOk result (lone.new ≡ None) }
-    ensures many { OnOk result ((w : List Value) → kept_start many.new.entries w
-        ≡ kept_start (starts_among lone.old many.old.entries) w) }
+    ensures many { OnOk result ((w : List Value) → kept_for many.new.entries w
+        ≡ kept_for (starts_among lone.old many.old.entries) w) }
 {
     let Some((row, start)) = lone.take() else {
         return Ok(());
@@ -73,7 +73,7 @@ impl StartMap {
 
     /// The start of a row, if there is one.
     pub fn get(&self, row: &Row) -> Option<u64>
-        ensures { result ≡ kept_start self.now row.now }
+        ensures { result ≡ kept_for self.now row.now }
     {
         let Some((lone, start)) = &self.lone else {
             return self.many.get(row).copied();
@@ -83,8 +83,8 @@ impl StartMap {
 
     /// The start of a row, in place of the one that it had.
     pub fn insert(&mut self, row: Row, start: u64) -> Result<(), AllocError>
-        ensures { OnOk result ((w : List Value) → kept_start self.new w
-            ≡ cond (is_at (row_cmp row) w) (Some start) (kept_start self.old w)) }
+        ensures { OnOk result ((w : List Value) → kept_for self.new w
+            ≡ cond (is_at (row_cmp row) w) (Some start) (kept_for self.old w)) }
     {
         if self.is_empty() {
             self.lone = Some((row, start));
@@ -97,8 +97,8 @@ impl StartMap {
 
     /// Whether this row's start is the only one.
     pub fn has_only(&self, row: &Row) -> bool
-        ensures { result ≡ true → (w : List Value) (p : ℕ) → kept_start self.now w
-            ≡ cond (is_at (row_cmp row.now) w) (Some (unwrap_or (kept_start self.now w) p)) None }
+        ensures { result ≡ true → (w : List Value) (p : ℕ) → kept_for self.now w
+            ≡ cond (is_at (row_cmp row.now) w) (Some (unwrap_or (kept_for self.now w) p)) None }
     {
         match &self.lone {
             Some((lone, _)) => row == lone,
@@ -118,8 +118,8 @@ impl StartMap {
 
     /// Drops the start of a row.
     pub fn remove(&mut self, row: &Row)
-        ensures { (w : List Value) → kept_start self.new w
-            ≡ cond (is_at (row_cmp row.now) w) None (kept_start self.old w) }
+        ensures { (w : List Value) → kept_for self.new w
+            ≡ cond (is_at (row_cmp row.now) w) None (kept_for self.old w) }
     {
         let Some((lone, _)) = &self.lone else {
             self.many.remove(row);

@@ -4,7 +4,8 @@ ghost use Rattle.std.specs.BTreeMap.{is_at};
 ghost use Rattle.mfotl_model.specs.Tables.{has_row};
 ghost use Rattle.mfotl_model.specs.Values.{row_cmp};
 ghost use Rattle.mfotl_model.specs.declared.value.Value.{Value};
-ghost use Rattle.eval_until.specs.Starts.{kept_start, later_start, start_of, start_taken};
+ghost use Rattle.relations.specs.KeptRows.{kept_for};
+ghost use Rattle.eval_until.specs.Starts.{later_start, start_of, start_taken};
 
 use crate::start_map::StartMap;
 use mfotl_model::Row;
@@ -28,7 +29,7 @@ fn begin_alone(
     row: &Row,
     place: u64,
 ) -> Result<(), AllocError>
-    ensures { OnOk result ((w : List Value) → kept_start starts.new w
+    ensures { OnOk result ((w : List Value) → kept_for starts.new w
         ≡ cond (is_at (row_cmp row.now) w) (Some (start_of false place starts.old w)) None) }
 {
     let start = start_at(starts, false, place, row);
@@ -38,7 +39,7 @@ fn begin_alone(
 
 // Where this row's run is the only one already, nothing changes.
 fn keep_alone(alloc: Global, starts: &mut StartMap, row: &Row, place: u64) -> Result<(), AllocError>
-    ensures { OnOk result ((w : List Value) → kept_start starts.new w
+    ensures { OnOk result ((w : List Value) → kept_for starts.new w
         ≡ cond (is_at (row_cmp row.now) w) (Some (start_of false place starts.old w)) None) }
 {
     if starts.has_only(row) {
@@ -55,7 +56,7 @@ fn kept_starts(
     table: &[Row],
     place: u64,
 ) -> Result<StartMap, AllocError>
-    ensures { IfOk result (λ kept. (w : List Value) → kept_start kept w
+    ensures { IfOk result (λ kept. (w : List Value) → kept_for kept w
         ≡ cond (has_row table.now w) (Some (start_of false place starts.now w)) None) }
 {
     let mut kept = StartMap::new(alloc);
@@ -72,7 +73,7 @@ fn keep_starts(
     table: &[Row],
     place: u64,
 ) -> Result<(), AllocError>
-    ensures { OnOk result ((w : List Value) → kept_start starts.new w
+    ensures { OnOk result ((w : List Value) → kept_for starts.new w
         ≡ cond (has_row table.now w) (Some (start_of false place starts.old w)) None) }
 {
     if table.len() == 1 {
@@ -91,8 +92,8 @@ fn break_starts(
     table: &[Row],
     behind: u64,
 ) -> Result<(), AllocError>
-    ensures { OnOk result ((w : List Value) → kept_start starts.new w
-        ≡ cond (has_row table.now w) (Some behind) (kept_start starts.old w)) }
+    ensures { OnOk result ((w : List Value) → kept_for starts.new w
+        ≡ cond (has_row table.now w) (Some behind) (kept_for starts.old w)) }
 {
     for row in table {
         starts.insert(row.copy(alloc)?, behind)?;
@@ -109,7 +110,7 @@ pub fn apply_left(
     place: u64,
 ) -> Result<(), AllocError>
     requires { place < 2 ^ 63 }
-    ensures { OnOk result ((w : List Value) → kept_start starts.new w
+    ensures { OnOk result ((w : List Value) → kept_for starts.new w
         ≡ start_taken negated place table.now starts.old w) }
 {
     if negated {
@@ -121,9 +122,9 @@ pub fn apply_left(
 
 // forgets the start of one row where it is not behind the position `next`
 fn forget_start(starts: &mut StartMap, row: &Row, next: u64)
-    ensures { (w : List Value) → kept_start starts.new w
-        ≡ cond (is_at (row_cmp row.now) w) (later_start next (kept_start starts.old w))
-        (kept_start starts.old w) }
+    ensures { (w : List Value) → kept_for starts.new w
+        ≡ cond (is_at (row_cmp row.now) w) (later_start next (kept_for starts.old w))
+        (kept_for starts.old w) }
 {
     let Some(start) = starts.get(row) else {
         return;
@@ -135,9 +136,9 @@ fn forget_start(starts: &mut StartMap, row: &Row, next: u64)
 
 /// Forgets the starts of these rows that are not behind the position `next`.
 pub fn forget_starts(starts: &mut StartMap, table: &[Row], next: u64)
-    ensures { (w : List Value) → kept_start starts.new w
-        ≡ cond (has_row table.now w) (later_start next (kept_start starts.old w))
-        (kept_start starts.old w) }
+    ensures { (w : List Value) → kept_for starts.new w
+        ≡ cond (has_row table.now w) (later_start next (kept_for starts.old w))
+        (kept_for starts.old w) }
 {
     for row in table {
         forget_start(starts, row, next);

@@ -12,22 +12,22 @@ use Rattle.mfotl_model.specs.Satisfaction.{time_at}
 use Rattle.mfotl_model.specs.Values.{row_cmp}
 use Rattle.mfotl_model.specs.declared.interval.Interval.{Interval}
 use Rattle.mfotl_model.specs.declared.value.Value.{Value}
-use Rattle.eval_until.specs.Entries.{entries_for, meets, met_by}
+use Rattle.eval_until.specs.Entries.{meets, met_by}
 use Rattle.eval_until.specs.Recalled.{entries_kept, entry_at}
 use Rattle.eval_until.specs.Rules.{Waiting}
 use Rattle.eval_until.specs.declared.entries.Entry.{Entry}
 use Rattle.eval_until.specs.declared.recalled.KeptMarks.{KeptMarks}
 use Rattle.eval_until.specs.declared.recalled.Mark.{Mark}
-use Rattle.relations.specs.KeptRows.{kept_for}
+use Rattle.relations.specs.KeptRows.{kept_for, list_for}
 use Rattle.monitor_state.specs.StateStands.{mark_meets, marks_for, marks_kept}
 
 -- the entries of a row are those of its marks
 pub entries_are : (p : ℕ) (next : List ℕ) (u : List Value) (rows : List KeptMarks)
-    → entries_for (entries_kept p next rows) u ≡ map (entry_at p next) (marks_for rows u)
+    → list_for (entries_kept p next rows) u ≡ map (entry_at p next) (marks_for rows u)
 entries_are p next u [] = refl
 entries_are p next u (k ∷ ks) = by (is_at (row_cmp u) k.row) (entries_are p next u ks)
   where
-    by : (b : Bool) → entries_for (entries_kept p next ks) u ≡ map (entry_at p next) (marks_for ks u)
+    by : (b : Bool) → list_for (entries_kept p next ks) u ≡ map (entry_at p next) (marks_for ks u)
         → unwrap_or (cond b (Some (map (entry_at p next) k.marks.items)) (kept_for (entries_kept p next ks) u)) []
         ≡ map (entry_at p next) (unwrap_or (cond b (Some k.marks.items) (kept_for (marks_kept ks) u)) [])
     by true rest = refl
@@ -54,7 +54,7 @@ meets_alike i j p taken t next known (m ∷ ms) all =
 pub met_is : (i : Interval) (j p taken : ℕ) (t next : List ℕ) (rows : List KeptMarks) (u : List Value)
     → ((q : ℕ) → p ≤ q → q < taken → slice_index next (q - p) ≡ time_at t q)
     → Waiting p taken (entries_kept p next rows)
-    → met_by i j (time_at t j) (entries_for (entries_kept p next rows) u) ≡ list_any (mark_meets i t j)
+    → met_by i j (time_at t j) (list_for (entries_kept p next rows) u) ≡ list_any (mark_meets i t j)
     (marks_for rows u)
 met_is i j p taken t next rows u known waiting =
     ap (met_by i j (time_at t j)) (entries_are p next u rows)

@@ -13,7 +13,7 @@ use Rattle.eval_since.specs.SinceBefore.{since_before}
 use Rattle.eval_since.specs.SinceView.{Follows, SinceOf}
 use Rattle.eval_since.specs.Times.{reaches}
 use Rattle.eval_since.specs.WindowView.{kept_times}
-use Rattle.eval_until.specs.Entries.{entries_for, met_by}
+use Rattle.eval_until.specs.Entries.{met_by}
 use Rattle.eval_until.specs.Recalled.{entries_kept, starts_kept}
 use Rattle.eval_until.specs.Starts.{start_of}
 use Rattle.eval_until.specs.UntilBefore.{until_before}
@@ -21,7 +21,7 @@ use Rattle.eval_until.specs.UntilData.{setting_of, until_of}
 use Rattle.eval_until.specs.UntilView.{Follows as FollowsUntil, FollowsLeft, UntilOf}
 use Rattle.monitorable.specs.CoreForms.{CoreForm, meaning}
 use Rattle.relations.proofs.KeptLemmas.{filled_back}
-use Rattle.relations.specs.KeptRows.{kept_for}
+use Rattle.relations.specs.KeptRows.{kept_for, list_for}
 use Rattle.monitor_state.proofs.ExactLemmas.{reached_within}
 use Rattle.monitor_state.proofs.MarkLemmas.{found_behind, met_is}
 use Rattle.monitor_state.proofs.SinceSteps.{free_operand}
@@ -103,7 +103,7 @@ until_recorded view p i f g s k is stands taken rec =
 
     met_in : Interval → List ℕ → ℕ → List ℕ → Valuation → Bool
     met_in c t j cols v =
-        met_by c j (time_at t j) (entries_for (entries_kept k.kept.pulled s.times k.kept.rows.items) (map v cols))
+        met_by c j (time_at t j) (list_for (entries_kept k.kept.pulled s.times k.kept.rows.items) (map v cols))
 
     known : (t : List ℕ) → Dates view t → (q : ℕ) → k.kept.pulled ≤ q → q < k.kept.taken
         → slice_index s.times (q - k.kept.pulled) ≡ time_at t q

@@ -15,13 +15,14 @@ use Rattle.eval_since.specs.SinceBefore.{since_before}
 use Rattle.eval_since.specs.SinceData.{FollowsData, SinceSetting, setting_of}
 use Rattle.eval_since.specs.SinceView.{SinceOf}
 use Rattle.eval_since.specs.Times.{reaches}
-use Rattle.eval_until.specs.Entries.{entries_for, met_by}
+use Rattle.eval_until.specs.Entries.{met_by}
 use Rattle.eval_until.specs.Recalled.{entries_kept, starts_kept}
 use Rattle.eval_until.specs.Starts.{start_of}
 use Rattle.eval_until.specs.UntilBefore.{until_before}
 use Rattle.eval_until.specs.UntilData.{UntilSetting, setting_of as until_setting_of, until_of}
 use Rattle.eval_until.specs.UntilView.{Follows as FollowsUntil, FollowsLeft, UntilOf, to_take, took_all}
 use Rattle.monitorable.specs.CoreForms.{CoreForm, meaning, Since, Until}
+use Rattle.relations.specs.KeptRows.{list_for}
 use Rattle.relations.specs.Pushed.{StandFrom, left_holds}
 use Rattle.monitor_state.proofs.ExactLemmas.{exact_tell, reached_within}
 use Rattle.monitor_state.proofs.MarkLemmas.{met_is}
@@ -192,7 +193,7 @@ module _ (k : KeptTimes) (i : Interval) (f g : CoreForm) (old new : UntilOf) (d 
               stands.rights;
           window = λ j low.
               ap₂ (λ c cols. met_by c j (time_at t j)
-              (entries_for (entries_kept d.kept.pulled (times_from k d.kept.pulled) d.kept.rows.items) (map v cols)))
+              (list_for (entries_kept d.kept.pulled (times_from k d.kept.pulled) d.kept.rows.items) (map v cols)))
               is.interval is.right
               ∙ met_is i j d.kept.pulled d.kept.taken t (times_from k d.kept.pulled) d.kept.rows.items
               (map v (fv (meaning g))) (λ q behind below. known t dates q behind below) keeps.rule.waiting

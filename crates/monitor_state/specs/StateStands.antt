@@ -3,7 +3,6 @@
 use Rattle.std.specs.Prelude.{◌≡◌, ℕ, ◌+◌, ◌-◌, ◌<◌, ◌≤◌, Bool, true, false, ◌&&◌, cond, min, nat_le, List, [], ◌∷◌}
 use Rattle.std.specs.Prelude.{length, map, drop}
 use Rattle.std.specs.List.{list_any}
-use Rattle.std.specs.Option.{unwrap_or}
 use Rattle.mfotl_model.specs.Exact.{AllExact, Covers, View}
 use Rattle.mfotl_model.specs.FreeVariables.{fv}
 use Rattle.mfotl_model.specs.Intervals.{in_interval}
@@ -28,7 +27,7 @@ use Rattle.eval_until.specs.declared.recalled.Mark.{Mark}
 use Rattle.eval_until.specs.declared.recalled.NextData.{NextData}
 use Rattle.eval_until.specs.declared.recalled.UntilData.{UntilData}
 use Rattle.monitorable.specs.CoreForms.{CoreForm, meaning, Not, And, Or, Previous, Next, Since, Until}
-use Rattle.relations.specs.KeptRows.{kept_for}
+use Rattle.relations.specs.KeptRows.{list_for}
 use Rattle.monitor_state.specs.Nodes.{is_negated, left_operand, nodes_of, operands}
 use Rattle.monitor_state.specs.StateTimes.{earliest}
 use Rattle.monitor_state.specs.Views.{Dates, Tells, reached}
@@ -44,7 +43,7 @@ marks_kept rows = map (λ k. (k.row, k.marks.items)) rows
 
 -- the marks that are kept for a row
 abbrev pub marks_for : List KeptMarks → List Value → List Mark
-marks_for rows u = unwrap_or (kept_for (marks_kept rows) u) []
+marks_for rows u = list_for (marks_kept rows) u
 
 -- whether a mark meets UNTIL at the position j, where the timestamps are t
 abbrev pub mark_meets : Interval → List ℕ → ℕ → Mark → Bool

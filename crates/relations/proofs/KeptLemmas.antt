@@ -14,7 +14,7 @@ use Rattle.std.specs.Ordering.{eq_by_cmp}
 use Rattle.mfotl_model.specs.Values.{row_cmp, row_total}
 use Rattle.mfotl_model.specs.declared.value.Value.{Value}
 use Rattle.relations.proofs.MapLemmas.{same_row}
-use Rattle.relations.specs.KeptRows.{RowsAscend, RowsDiffer, filled, first_filled, kept_for, last_for}
+use Rattle.relations.specs.KeptRows.{RowsAscend, RowsDiffer, filled, first_filled, kept_for, last_for, list_for}
 
 -- rows that ascend differ
 pub ascending_differ : {X : Type 0} (es : List (List Value × X)) → RowsAscend es → RowsDiffer es
@@ -64,12 +64,12 @@ or_none (Some x) = refl
 
 -- the first list of a row is its only one
 pub first_is_only : {X : Type 0} (es : List (List Value × List X)) → RowsDiffer es → (u : List Value)
-    → first_filled es u ≡ filled (unwrap_or (kept_for es u) [])
+    → first_filled es u ≡ filled (list_for es u)
 first_is_only [] apart u = refl
 first_is_only {X} (e ∷ es) apart u =
     by (is_at (row_cmp u) e.0) refl (first_is_only es (differ_tail e es apart) u)
   where
-    by : (b : Bool) → is_at (row_cmp u) e.0 ≡ b → first_filled es u ≡ filled (unwrap_or (kept_for es u) [])
+    by : (b : Bool) → is_at (row_cmp u) e.0 ≡ b → first_filled es u ≡ filled (list_for es u)
         → option_or (cond b (filled e.1) None) (first_filled es u)
         ≡ filled (unwrap_or (cond b (Some e.1) (kept_for es u)) [])
     by true at rest =

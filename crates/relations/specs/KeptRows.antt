@@ -4,7 +4,7 @@ use Rattle.std.specs.BTreeMap.{is_at}
 use Rattle.std.specs.List.{IsDistinct}
 use Rattle.std.specs.List.Sorted.{IsStrictlySortedBy}
 use Rattle.std.specs.Map.{lookup, keys_of}
-use Rattle.std.specs.Option.{option_or}
+use Rattle.std.specs.Option.{option_or, unwrap_or}
 use Rattle.std.specs.Ordering.{eq_by_cmp}
 use Rattle.mfotl_model.specs.Values.{row_cmp}
 use Rattle.mfotl_model.specs.declared.value.Value.{Value}
@@ -12,6 +12,10 @@ use Rattle.mfotl_model.specs.declared.value.Value.{Value}
 -- what is kept for a row, if the row is there
 abbrev pub kept_for : {X : Type 0} → List (List Value × X) → List Value → Option X
 kept_for rows u = lookup (is_at (row_cmp u)) rows
+
+-- the list that is kept for a row, an empty one where the row isn't there
+abbrev pub list_for : {X : Type 0} → List (List Value × List X) → List Value → List X
+list_for rows u = unwrap_or (kept_for rows u) []
 
 -- the rows ascend strictly
 abbrev pub RowsAscend : {X : Type 0} → List (List Value × X) → Type 0

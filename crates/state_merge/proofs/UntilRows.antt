@@ -14,13 +14,11 @@ use Rattle.std.specs.Prelude.{min}
 use Rattle.std.specs.declared.cmp.Ordering.TheVariants.{Less, Equal, Greater}
 use Rattle.mfotl_model.specs.Values.{row_cmp}
 use Rattle.mfotl_model.specs.declared.value.Value.{Value}
-use Rattle.relations.specs.KeptRows.{RowsAscend, kept_for}
+use Rattle.relations.specs.KeptRows.{RowsAscend, kept_for, list_for}
 use Rattle.relations.proofs.KeptLemmas.{each_kept}
-use Rattle.eval_until.specs.Entries.{entries_for}
 use Rattle.eval_until.specs.Keeping.{Sized}
 use Rattle.eval_until.specs.Recalled.{entries_kept, entry_at}
 use Rattle.eval_until.specs.Rules.{Ascending, PlacesAscend, StartsAbove, StartsBelow, Waiting}
-use Rattle.eval_until.specs.Starts.{kept_start}
 use Rattle.eval_until.specs.declared.entries.Entry.{Entry}
 use Rattle.eval_until.specs.declared.recalled.KeptMarks.{KeptMarks}
 use Rattle.eval_until.specs.declared.recalled.Mark.{Mark}
@@ -116,7 +114,7 @@ module _ (pulled : ℕ) (next : List ℕ) where
       → Waiting pulled taken (entries_kept pulled next rows) → Ascending (entries_kept pulled next rows)
       → AllKept (MarksRow n pulled taken) (marks_kept rows)
   marks_rows n taken rows sized some waiting ascend u ms is =
-      let here : entries_for (entries_kept pulled next rows) u ≡ map (entry_at pulled next) ms =
+      let here : list_for (entries_kept pulled next rows) u ≡ map (entry_at pulled next) ms =
       entries_are pulled next u rows ∙ ap (λ o. map (entry_at pulled next) (unwrap_or o [])) is in
       let filled : 0 < length ms =
       found_each (λ (u : List Value) (x : List Mark). 0 < length x) (marks_kept rows) (some_marks rows some) u ms is in
@@ -213,8 +211,8 @@ module _ (negated : Bool) (n pulled taken : ℕ) (starts : List (List Value × �
   start_rows wide below above w s is =
       record {
         wide = found_each (λ w s. length w ≡ n) starts wide w s is;
-        below = if_some (λ s. s ≤ taken) (kept_start starts w) s (below w) is;
-        above = λ e. if_some (λ s. pulled < s) (kept_start starts w) s (above e w) is;
+        below = if_some (λ s. s ≤ taken) (kept_for starts w) s (below w) is;
+        above = λ e. if_some (λ s. pulled < s) (kept_for starts w) s (above e w) is;
       }
 
   module _ (all : AllKept (StartRow negated n pulled taken) starts) where
@@ -222,10 +220,10 @@ module _ (negated : Bool) (n pulled taken : ℕ) (starts : List (List Value × �
     starts_wide up = each_kept (λ w s. length w ≡ n) starts up (λ w s is. (all w s is).wide)
 
     pub starts_below : StartsBelow taken starts
-    starts_below w = some_if (λ s. s ≤ taken) (kept_start starts w) (λ s is. (all w s is).below)
+    starts_below w = some_if (λ s. s ≤ taken) (kept_for starts w) (λ s is. (all w s is).below)
 
     pub starts_above : negated ≡ true → StartsAbove pulled starts
-    starts_above e w = some_if (λ s. pulled < s) (kept_start starts w) (λ s is. (all w s is).above e)
+    starts_above e w = some_if (λ s. pulled < s) (kept_for starts w) (λ s is. (all w s is).above e)
 
 -- the lesser start keeps the rule of its row
 pub start_row_joined : (negated : Bool) (n pulled taken : ℕ) (w : List Value) (x y : ℕ)

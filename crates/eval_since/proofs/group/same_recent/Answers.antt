@@ -1,5 +1,5 @@
 use Rattle.std.proofs.Common.{◌∷◌, [], sym, ap, ◌∙◌}
-use Rattle.eval_since.specs.Groups.{times_in}
+use Rattle.relations.specs.KeptRows.{list_for}
 use Rattle.eval_since.proofs.FilledLemmas.{not_empty, one_has}
 use Rattle.eval_since.proofs.GroupLemmas.{empty_list}
 use Rattle.eval_since.proofs.OneRowLemmas.{none_left}
@@ -8,7 +8,7 @@ use Rattle.eval_since.proofs.group.same_recent.Goals as goal
 pub returns-then-is_empty-clause-times : goal.returns-then-is_empty-clause-times
 returns-then-is_empty-clause-times c = λ v.
     none_left c.args.first v
-    ∙ ap (λ ts. times_in ((c.args.first, ts) ∷ []) v)
+    ∙ ap (λ ts. list_for ((c.args.first, ts) ∷ []) v)
     (empty_list c.forget.new.self (sym c.is_empty.ensures ∙ c.if-is_empty.true) ∙ c.forget.ensures)
 
 pub returns-then-is_empty-clause-some : goal.returns-then-is_empty-clause-some

@@ -1,7 +1,7 @@
 use Rattle.std.proofs.Common.{cond, sym, ◌∙◌}
 use Rattle.std.specs.BTreeMap.{is_at}
 use Rattle.mfotl_model.specs.Values.{row_cmp}
-use Rattle.eval_since.specs.Groups.{times_in}
+use Rattle.relations.specs.KeptRows.{list_for}
 use Rattle.eval_since.specs.HeldTimes.{held_times}
 use Rattle.eval_since.specs.Times.{recent}
 use Rattle.eval_since.proofs.GroupLemmas.{none_recent}
@@ -11,8 +11,8 @@ pub returns-in-Zero-clause-times : goal.returns-in-Zero-clause-times
 returns-in-Zero-clause-times c = λ v.
     none_recent c.args.hi c.args.now c.args.row v
     ∙ (λ i. cond (is_at (row_cmp c.args.row) v)
-    (recent c.args.hi c.args.now (times_in (held_times (sym c.in-Zero.is i)) v))
-    (times_in (held_times (sym c.in-Zero.is i)) v))
+    (recent c.args.hi c.args.now (list_for (held_times (sym c.in-Zero.is i)) v))
+    (list_for (held_times (sym c.in-Zero.is i)) v))
 
 pub returns-in-One-clause-some : goal.returns-in-One-clause-some
 returns-in-One-clause-some c = rw c.in-One.is c.one_recent.ensures.some

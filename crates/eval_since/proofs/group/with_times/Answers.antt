@@ -1,7 +1,7 @@
 use Rattle.std.proofs.Common.{cond, sym, ◌∙◌}
 use Rattle.std.specs.BTreeMap.{is_at}
 use Rattle.mfotl_model.specs.Values.{row_cmp}
-use Rattle.eval_since.specs.Groups.{times_in}
+use Rattle.relations.specs.KeptRows.{list_for}
 use Rattle.eval_since.specs.HeldTimes.{held_times}
 use Rattle.eval_since.proofs.FilledLemmas.{one_had, one_has}
 use Rattle.eval_since.proofs.OneRowLemmas.{times_one}
@@ -10,7 +10,7 @@ use Rattle.eval_since.proofs.group.with_times.Goals as goal
 pub returns-in-Zero-clause-times : goal.returns-in-Zero-clause-times
 returns-in-Zero-clause-times c = λ v.
     times_one c.args.row c.args.times v
-    ∙ (λ i. cond (is_at (row_cmp c.args.row) v) c.args.times (times_in (held_times (sym c.in-Zero.is i)) v))
+    ∙ (λ i. cond (is_at (row_cmp c.args.row) v) c.args.times (list_for (held_times (sym c.in-Zero.is i)) v))
 
 pub returns-in-Zero-clause-some : goal.returns-in-Zero-clause-some
 returns-in-Zero-clause-some c = λ some _. one_has c.args.row c.args.times some

@@ -2,7 +2,7 @@ use Rattle.std.proofs.lemmas.Grind.{common_steps}
 use Rattle.std.proofs.Common.{◌≡◌, [], Some, None, arith, sym, ap, ◌∙◌}
 use Rattle.std.specs.Map.{lookup}
 use Rattle.std.specs.Option.{unwrap_or}
-use Rattle.eval_since.specs.Groups.{times_in}
+use Rattle.relations.specs.KeptRows.{list_for}
 use Rattle.eval_since.specs.RowKeys.{by_rows}
 use Rattle.eval_since.specs.Times.{recent}
 use Rattle.eval_since.proofs.FilledLemmas.{not_empty}
@@ -14,7 +14,7 @@ pub returns-in-Err-clause-times : goal.returns-in-Err-clause-times
 returns-in-Err-clause-times g c = λ v.
     let row_of = g.K.RowKey.row_of in
     let old = c.args.rows.now.entries in
-    ap (λ es. times_in (by_rows row_of es) v) (grind (arith, common_steps, c.entry.follows.holds-at-none))
+    ap (λ es. list_for (by_rows row_of es) v) (grind (arith, common_steps, c.entry.follows.holds-at-none))
     ∙ none_changed (recent c.args.hi c.args.now) (row_of c.args.key) v (by_rows row_of old)
     (recent_none c.args.hi c.args.now)
     (key_found g.K.PartialEq.eq row_of g.met.K.RowKey.same c.args.key old ∙ c.in-Err.ensures.absent)
@@ -81,7 +81,7 @@ returns-in-Vacant-clause-times g c = λ v.
     let old = c.args.rows.now.entries in
     let none : lookup (eq c.args.key) old ≡ None =
     grind (arith, common_steps, c.in-Ok.ensures.found, c.in-Vacant.is) in
-    ap (λ es. times_in (by_rows row_of es) v)
+    ap (λ es. list_for (by_rows row_of es) v)
     (grind (arith, common_steps, c.into_key.ensures.unchanged, c.in-Ok.ensures.unchanged, c.in-Vacant.is))
     ∙ none_changed (recent c.args.hi c.args.now) (row_of c.args.key) v (by_rows row_of old)
     (recent_none c.args.hi c.args.now) (key_found eq row_of g.met.K.RowKey.same c.args.key old ∙ none)

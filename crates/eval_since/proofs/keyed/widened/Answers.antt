@@ -4,8 +4,8 @@ use Rattle.std.specs.Option.{IfSome, unwrap_or}
 use Rattle.mfotl_model.specs.Values.{row_cmp}
 use Rattle.mfotl_model.specs.declared.value.Value.{Value}
 use Rattle.relations.proofs.KeptLemmas.{last_is, or_none}
-use Rattle.relations.specs.KeptRows.{kept_for, last_for}
-use Rattle.eval_since.specs.Groups.{HaveTimes, times_in}
+use Rattle.relations.specs.KeptRows.{kept_for, last_for, list_for}
+use Rattle.eval_since.specs.Groups.{HaveTimes}
 use Rattle.eval_since.specs.RowKeys.{by_rows}
 use Rattle.eval_since.proofs.RowKeyLemmas.{by_themselves, keys_differ}
 use Rattle.eval_since.proofs.keyed.widened.Given as given
@@ -35,7 +35,7 @@ kept g c v =
 
 pub returns-clause-times : goal.returns-clause-times
 returns-clause-times g c = rw (← c.kept.view_is) (λ v.
-    ap (λ es. times_in es v) (by_themselves c.loop-key.rows.entries) ∙ ap (λ o. unwrap_or o []) (kept g c v))
+    ap (λ es. list_for es v) (by_themselves c.loop-key.rows.entries) ∙ ap (λ o. unwrap_or o []) (kept g c v))
 
 pub returns-clause-some : goal.returns-clause-some
 returns-clause-some g c = rw (← c.kept.view_is) (λ have.

@@ -6,8 +6,8 @@ use Rattle.std.specs.Ordering.{eq_by_cmp}
 use Rattle.mfotl_model.specs.Tables.{has_row, part}
 use Rattle.mfotl_model.specs.Values.{row_cmp}
 use Rattle.mfotl_model.specs.declared.value.Value.{Value}
-use Rattle.eval_until.specs.ByKey.{is_listed, rows_at}
-use Rattle.eval_until.specs.Entries.{entries_for}
+use Rattle.relations.specs.KeptRows.{list_for}
+use Rattle.eval_until.specs.ByKey.{is_listed}
 use Rattle.eval_until.specs.declared.entries.Entry.{Entry}
 use Rattle.eval_until.proofs.ByKeyLemmas.{each_of, list_next, listed_if_kept}
 use Rattle.eval_until.proofs.by_key.rows_by_key.Goals as goal
@@ -28,8 +28,8 @@ pub returns-then-is_empty : goal.returns-then-is_empty
 returns-then-is_empty c = λ u.
     let by_key = c.new-by_key.result in
     let right = c.args.right.now in
-    each_of (is_listed right by_key u) (entries_for c.args.rows.now.entries u)
-    (or_left (nat_eq (length by_key.columns) 0) (has_row (rows_at by_key.sets (part right by_key.columns u)) u)
+    each_of (is_listed right by_key u) (list_for c.args.rows.now.entries u)
+    (or_left (nat_eq (length by_key.columns) 0) (has_row (list_for by_key.sets (part right by_key.columns u)) u)
     (ap (λ (columns : List ℕ). nat_eq (length columns) 0) (sym c.columns.ensures)
     ∙ sym c.is_empty.ensures ∙ c.if-is_empty.true))
 

@@ -1,9 +1,8 @@
 use Rattle.std.proofs.Common.{◌≡◌, ◌∷◌, List, subst}
 use Rattle.mfotl_model.specs.Tables.{has_row}
+use Rattle.relations.specs.KeptRows.{kept_for, list_for}
 use Rattle.eval_until.specs.declared.contents.Taken.{Taken}
-use Rattle.eval_until.specs.Entries.{entries_for}
 use Rattle.eval_until.specs.Keeping.{Covered, CoveredStarts, NotAfter, Rising}
-use Rattle.eval_until.specs.Starts.{kept_start}
 use Rattle.eval_until.proofs.EntriesLemmas.{thin_more}
 use Rattle.eval_until.proofs.QueueLemmas.{after_rest, breaks_more, covered_more, fresh_front, front_before, later_more}
 use Rattle.eval_until.proofs.expiry.expire.Goals as goal
@@ -26,18 +25,18 @@ loop-front-preserved c =
     let rows = c.forget_rows.ensures.entries in
     let starts = rw c.as_slice.ensures.value at c.forget_breaks.ensures in
     record {
-      rows = λ u. thin_more c.args.next (entries_for c.args.rows.now.entries u)
-          (entries_for c.loop-front.rows.entries u) (entries_for c.forget_rows.new.rows.entries u)
+      rows = λ u. thin_more c.args.next (list_for c.args.rows.now.entries u)
+          (list_for c.loop-front.rows.entries u) (list_for c.forget_rows.new.rows.entries u)
           (has_row q.rights.items u) (c.loop-front.invariant.rows u) (rows u);
       some = λ before. c.forget_rows.ensures.some (c.loop-front.invariant.some before);
       listed = λ before. c.forget_rows.ensures.listed (c.loop-front.invariant.listed before);
-      starts = λ w. later_more c.args.negated c.args.next (kept_start c.args.starts.now w)
-          (kept_start c.loop-front.starts w) (kept_start c.forget_breaks.new.starts w)
+      starts = λ w. later_more c.args.negated c.args.next (kept_for c.args.starts.now w)
+          (kept_for c.loop-front.starts w) (kept_for c.forget_breaks.new.starts w)
           (has_row q.breaks.items w) (c.loop-front.invariant.starts w) (starts w);
-      covered = λ u. covered_more c.args.next q rest u (entries_for c.loop-front.rows.entries u)
-          (entries_for c.forget_rows.new.rows.entries u) low (covered u) (rows u);
+      covered = λ u. covered_more c.args.next q rest u (list_for c.loop-front.rows.entries u)
+          (list_for c.forget_rows.new.rows.entries u) low (covered u) (rows u);
       breaks = λ negated before w. breaks_more c.args.negated c.args.next q rest w
-          (kept_start c.loop-front.starts w) (kept_start c.forget_breaks.new.starts w) negated low
+          (kept_for c.loop-front.starts w) (kept_for c.forget_breaks.new.starts w) negated low
           (subst (λ (queue : List Taken). CoveredStarts queue c.loop-front.starts) is
           (c.loop-front.invariant.breaks negated before) w) (starts w);
       rising = rising.1;

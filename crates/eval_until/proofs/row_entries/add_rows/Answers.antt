@@ -1,8 +1,8 @@
 use Rattle.std.proofs.Common.{◌∷◌, ◌++◌, [], List, ap, arith, ◌∙◌}
 use Rattle.mfotl_model.specs.Tables.{part}
 use Rattle.mfotl_model.specs.declared.value.Value.{Value}
+use Rattle.relations.specs.KeptRows.{list_for}
 use Rattle.eval_until.specs.declared.entries.Entry.{Entry}
-use Rattle.eval_until.specs.Entries.{entries_for}
 use Rattle.eval_until.specs.Rules.{all_before}
 use Rattle.eval_until.specs.Starts.{start_of}
 use Rattle.eval_until.proofs.RowsLemmas.{added_more, next_lacks, still_old}
@@ -17,11 +17,11 @@ add_entry-requires c =
           (part c.args.right.now c.args.left.now u);
       ts = c.args.ts;
     } in
-    let old = entries_for c.args.rows.now.entries x in
+    let old = list_for c.args.rows.now.entries x in
     let lacks = next_lacks c.args.table.now c.loop-row.row-index x c.requires.sorted (omega arith) c.row-item.is in
-    ap (λ r. all_before c.args.place (entries_for c.loop-row.rows.entries r)) c.in_ok-copy.ensures
+    ap (λ r. all_before c.args.place (list_for c.loop-row.rows.entries r)) c.in_ok-copy.ensures
     ∙ ap (all_before c.args.place) (still_old c.args.table.now c.loop-row.row-index x (old ++ entry x ∷ []) old
-    (entries_for c.loop-row.rows.entries x) lacks (c.loop-row.invariant.entries x))
+    (list_for c.loop-row.rows.entries x) lacks (c.loop-row.invariant.entries x))
     ∙ c.requires.before x
 
 pub loop-row-preserved : goal.loop-row-preserved

@@ -1,8 +1,9 @@
 use Rattle.std.proofs.Common.{rules, ◌≡◌, ◌∷◌, cond, sym, ap, ◌∙◌}
 use Rattle.mfotl_model.specs.Tables.{has_row}
-use Rattle.eval_until.specs.Entries.{entries_for, from_place}
+use Rattle.eval_until.specs.Entries.{from_place}
 use Rattle.std.specs.BTreeMap.{is_at}
 use Rattle.mfotl_model.specs.Values.{row_cmp}
+use Rattle.relations.specs.KeptRows.{list_for}
 use Rattle.eval_until.proofs.ByKeyLemmas.{listed_thinned}
 use Rattle.eval_until.proofs.EntriesLemmas.{from_twice}
 use Rattle.eval_until.proofs.RowsLemmas.{changed_rest}
@@ -13,9 +14,9 @@ loop-row-preserved c =
     let here : c.loop-row.row-iterator.rest.items ≡ c.in-Some.row ∷ c.next.new.self.rest.items = search rules in
     record {
       entries = λ u.
-          let old = entries_for c.loop-row.rows.entries u in
+          let old = list_for c.loop-row.rows.entries u in
           changed_rest (from_place c.args.next) (from_twice c.args.next) c.in-Some.row c.next.new.self.rest.items u old
-          (entries_for c.forget_row-gone.new.rows.entries u) (c.forget_row-gone.ensures.entries u)
+          (list_for c.forget_row-gone.new.rows.entries u) (c.forget_row-gone.ensures.entries u)
           ∙ ap (λ rows. cond (has_row rows u) (from_place c.args.next old) old) (sym here)
           ∙ c.loop-row.invariant.entries u;
       some = λ old. c.forget_row-gone.ensures.some (c.loop-row.invariant.some old);

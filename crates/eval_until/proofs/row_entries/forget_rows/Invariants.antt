@@ -1,17 +1,18 @@
 use Rattle.std.proofs.Common.{◌≡◌, List, cond}
 use Rattle.mfotl_model.specs.Tables.{has_row}
 use Rattle.mfotl_model.specs.declared.value.Value.{Value}
+use Rattle.relations.specs.KeptRows.{list_for}
 use Rattle.eval_until.specs.ByKey.{Listed}
-use Rattle.eval_until.specs.Entries.{entries_for, from_place}
+use Rattle.eval_until.specs.Entries.{from_place}
 use Rattle.eval_until.specs.Rules.{NoneEmpty}
 use Rattle.eval_until.proofs.row_entries.forget_rows.Given as goal
 
 abbrev pub invariant-loop-row : goal.invariant-loop-row
 invariant-loop-row l = record {
   entries : (u : List Value) → cond (has_row l.row-iterator.rest.items u)
-      (from_place l.next (entries_for l.rows.entries u)) (entries_for l.rows.entries u)
-      ≡ cond (has_row l.fn.table.items u) (from_place l.next (entries_for l.fn.rows.entries u))
-      (entries_for l.fn.rows.entries u);
+      (from_place l.next (list_for l.rows.entries u)) (list_for l.rows.entries u)
+      ≡ cond (has_row l.fn.table.items u) (from_place l.next (list_for l.fn.rows.entries u))
+      (list_for l.fn.rows.entries u);
   some : NoneEmpty l.fn.rows.entries → NoneEmpty l.rows.entries;
   listed : Listed l.right l.fn.by_key l.fn.rows.entries → Listed l.right l.by_key l.rows.entries;
 }

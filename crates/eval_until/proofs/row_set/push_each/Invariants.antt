@@ -4,13 +4,14 @@ use Rattle.std.specs.List.{list_any}
 use Rattle.mfotl_model.specs.Tables.{has_row}
 use Rattle.mfotl_model.specs.Values.{row_cmp}
 use Rattle.mfotl_model.specs.declared.value.Value.{Value}
-use Rattle.eval_until.specs.Entries.{entries_for, met_by}
+use Rattle.relations.specs.KeptRows.{list_for}
+use Rattle.eval_until.specs.Entries.{met_by}
 use Rattle.eval_until.proofs.row_set.push_each.Given as goal
 
 -- what was looked at and what is left
 abbrev pub invariant-loop-row : goal.invariant-loop-row
 invariant-loop-row l = (u : List Value) →
     (has_row l.out.items u
-    || list_any (λ r. is_at (row_cmp u) r && met_by l.interval l.i l.x (entries_for l.rows.entries u)) l.row-iterator)
+    || list_any (λ r. is_at (row_cmp u) r && met_by l.interval l.i l.x (list_for l.rows.entries u)) l.row-iterator)
     ≡ (has_row l.fn.out.items u
-    || list_any (λ r. is_at (row_cmp u) r && met_by l.interval l.i l.x (entries_for l.rows.entries u)) l.set.keys)
+    || list_any (λ r. is_at (row_cmp u) r && met_by l.interval l.i l.x (list_for l.rows.entries u)) l.set.keys)

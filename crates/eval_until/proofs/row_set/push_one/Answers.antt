@@ -1,14 +1,15 @@
 use Rattle.std.proofs.Common.{sym, ◌∙◌}
-use Rattle.eval_until.specs.Entries.{entries_for, met_by}
+use Rattle.relations.specs.KeptRows.{list_for}
+use Rattle.eval_until.specs.Entries.{met_by}
 use Rattle.eval_until.proofs.SetLemmas.{fail_left, pass_pushed}
 use Rattle.eval_until.proofs.row_set.push_one.Goals as goal
 
 pub returns-in_ok-push : goal.returns-in_ok-push
 returns-in_ok-push c = rw (c.in_ok-push.ensures.items, c.in_ok-copy.ensures) (λ u.
-    pass_pushed (λ v. met_by c.args.interval.now c.args.i c.args.x (entries_for c.args.rows.now.entries v))
+    pass_pushed (λ v. met_by c.args.interval.now c.args.i c.args.x (list_for c.args.rows.now.entries v))
     c.args.out.now.items c.args.row.now u (sym c.row_met.ensures ∙ c.if-row_met.true))
 
 pub returns-else-row_met : goal.returns-else-row_met
 returns-else-row_met c = λ u.
-    fail_left (λ v. met_by c.args.interval.now c.args.i c.args.x (entries_for c.args.rows.now.entries v))
+    fail_left (λ v. met_by c.args.interval.now c.args.i c.args.x (list_for c.args.rows.now.entries v))
     c.args.out.now.items c.args.row.now u (sym c.row_met.ensures ∙ c.if-row_met.false)

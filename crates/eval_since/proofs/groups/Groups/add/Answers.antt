@@ -1,7 +1,7 @@
 use Rattle.std.proofs.lemmas.Grind.{common_steps}
 use Rattle.std.proofs.Common.{Some, arith, refl, ap₂, ◌∙◌}
 use Rattle.std.specs.Option.{unwrap_or}
-use Rattle.eval_since.specs.Groups.{times_in}
+use Rattle.relations.specs.KeptRows.{list_for}
 use Rattle.eval_since.specs.Times.{added}
 use Rattle.eval_since.proofs.FilledLemmas.{IsFilled, each_after, had_times, row_changed, some_added}
 use Rattle.eval_since.proofs.GroupLemmas.{regrouped}
@@ -25,6 +25,6 @@ returns-clause-some c = rw (← c.self.view_is) (λ all.
     each_after IsFilled c.args.key old _ (Some c.add.new.self)
     (λ q. grind (arith, common_steps, (c.in_ok-self-inside.ensures.update.0 c.add.new.self).0 q)) (
       row_changed (λ ts. added c.args.bounded ts c.args.x) c.args.row group c.add.new.self c.in_ok-add.ensures.times
-          (some_added c.args.bounded (times_in group c.args.row) c.args.x),
+          (some_added c.args.bounded (list_for group c.args.row) c.args.x),
       c.in_ok-add.ensures.some (had_times c.args.key old group is all),
     ) all)

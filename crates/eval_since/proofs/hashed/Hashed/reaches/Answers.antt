@@ -1,5 +1,5 @@
 use Rattle.std.proofs.Common.{sym, ap, ◌∙◌, rules, SFits, to_z-of_z, w64}
-use Rattle.eval_since.specs.Groups.{times_in}
+use Rattle.relations.specs.KeptRows.{list_for}
 use Rattle.eval_since.specs.RowKeys.{by_rows, one_int}
 use Rattle.eval_since.specs.Times.{reaches}
 use Rattle.eval_since.proofs.RowKeyLemmas.{no_times}
@@ -9,7 +9,7 @@ pub returns-in-Some : goal.returns-in-Some
 returns-in-Some c =
     let fits : SFits w64 c.in-Some.number = search rules in
     rw (← c.self.view_is, c.in-Ints.is) (c.reaches-in-Some.ensures
-    ∙ ap (λ r. reaches c.args.interval.now (times_in (by_rows one_int c.in-Ints.rows) r) c.args.x)
+    ∙ ap (λ r. reaches c.args.interval.now (list_for (by_rows one_int c.in-Ints.rows) r) c.args.x)
     (ap one_int (to_z-of_z fits) ∙ sym c.in-Some.ensures))
 
 pub returns-in-None : goal.returns-in-None

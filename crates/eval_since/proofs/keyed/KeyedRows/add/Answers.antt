@@ -1,7 +1,7 @@
 use Rattle.std.proofs.lemmas.Grind.{common_steps}
 use Rattle.std.proofs.Common.{ℕ, ◌<◌, List, length, Some, arith, sym, subst, ap, ap₂, ◌∙◌}
 use Rattle.std.specs.Option.{unwrap_or}
-use Rattle.eval_since.specs.Groups.{times_in}
+use Rattle.relations.specs.KeptRows.{list_for}
 use Rattle.eval_since.specs.RowKeys.{by_rows}
 use Rattle.eval_since.specs.Times.{ArePast, added}
 use Rattle.eval_since.proofs.FilledLemmas.{some_added}
@@ -14,7 +14,7 @@ add-requires g c =
     subst (ArePast c.args.x) (sym (c.or_insert-times.ensures.value
     ∙ ap₂ (λ o d. unwrap_or o d) (c.in_ok-self-inside.ensures.value
     ∙ sym (key_found g.K.PartialEq.eq row_of g.met.K.RowKey.same c.args.key c.self.inside.rows.entries)) c.new.ensures
-    ∙ ap (λ m. times_in (by_rows row_of m) (row_of c.args.key)) c.self.view_is)) c.requires
+    ∙ ap (λ m. list_for (by_rows row_of m) (row_of c.args.key)) c.self.view_is)) c.requires
 
 pub returns-clause-times : goal.returns-clause-times
 returns-clause-times g c = rw (← c.self.view_is) (times_changed g.K.PartialEq.eq g.K.RowKey.row_of g.met.K.RowKey.same

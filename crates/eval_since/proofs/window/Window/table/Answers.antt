@@ -1,9 +1,9 @@
 use Rattle.std.proofs.Common.{◌||◌, ℕ, List, length, sym, ap, ◌∙◌}
 use Rattle.std.specs.List.{list_any}
 use Rattle.mfotl_model.specs.Tables.{all_apart, all_sized, has_row, part}
+use Rattle.relations.specs.KeptRows.{list_for}
 use Rattle.relations.proofs.AscendingRows.{has_ascending}
 use Rattle.eval_since.specs.LeftOperand.{grouping}
-use Rattle.eval_since.specs.Groups.{times_in}
 use Rattle.eval_since.specs.Times.{reaches}
 use Rattle.eval_since.proofs.GroupLemmas.{group_is}
 use Rattle.eval_since.proofs.StepLemmas.{sized_reached}
@@ -22,7 +22,7 @@ from_rows-requires-clause-sized c =
     c.push_reaching.new.out.items
     c.self.invariant.sized
     (λ u there. sym (c.in_ok-push_reaching.ensures.rows u
-    ∙ ap (λ rows. has_row rows u || list_any (λ e. reaches k.interval (times_in e.1 u) k.last) k.contents.groups)
+    ∙ ap (λ rows. has_row rows u || list_any (λ e. reaches k.interval (list_for e.1 u) k.last) k.contents.groups)
     c.new-rows.ensures.items
     ∙ group_is k.interval k.last (part k.right.items (grouping k.left.items k.keys.items) u) u k.contents.groups
     c.push_reaching.ensures.differ
@@ -34,7 +34,7 @@ returns-clause-rows c = rw (← c.self.view_is) (
     λ u. ap (λ rows. has_row rows u) c.from_rows.ensures.rows
     ∙ has_ascending c.push_reaching.new.out.items u
     ∙ c.in_ok-push_reaching.ensures.rows u
-    ∙ ap (λ rows. has_row rows u || list_any (λ e. reaches k.interval (times_in e.1 u) k.last) k.contents.groups)
+    ∙ ap (λ rows. has_row rows u || list_any (λ e. reaches k.interval (list_for e.1 u) k.last) k.contents.groups)
     c.new-rows.ensures.items
     ∙ group_is k.interval k.last (part k.right.items (grouping k.left.items k.keys.items) u) u k.contents.groups
     c.push_reaching.ensures.differ

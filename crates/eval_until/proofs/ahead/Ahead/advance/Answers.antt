@@ -1,7 +1,7 @@
 use Rattle.std.proofs.Common.{◌+◌, cond, nat_le, sym, ap, ◌∙◌}
 use Rattle.std.specs.Option.{unwrap_or}
-use Rattle.eval_until.specs.Entries.{entries_for, met_by}
-use Rattle.eval_until.specs.Starts.{kept_start}
+use Rattle.relations.specs.KeptRows.{kept_for, list_for}
+use Rattle.eval_until.specs.Entries.{met_by}
 use Rattle.eval_until.proofs.EntriesLemmas.{met_thinned}
 use Rattle.eval_until.proofs.KeepingLemmas.{kept_pulled, start_later}
 use Rattle.eval_until.proofs.OrderLemmas.{entries_in_order, kept_in_order}
@@ -23,8 +23,8 @@ pub returns-clause-met : goal.returns-clause-met
 returns-clause-met c = rw (← c.self.view_is) (
     let k = c.self.inside in
     λ i x u low. ap (met_by k.interval i x) (entries_in_order c.expire.new.rows.entries u)
-    ∙ met_thinned k.interval i x (k.pulled + 1) (entries_for k.contents.rows.entries u)
-    (entries_for c.expire.new.rows.entries u) low (c.expire.ensures.rows u)
+    ∙ met_thinned k.interval i x (k.pulled + 1) (list_for k.contents.rows.entries u)
+    (list_for c.expire.new.rows.entries u) low (c.expire.ensures.rows u)
     ∙ ap (met_by k.interval i x) (sym (entries_in_order k.contents.rows.entries u)))
 
 pub returns-clause-start : goal.returns-clause-start
@@ -32,7 +32,7 @@ returns-clause-start c = rw (← c.self.view_is) (
     let k = c.self.inside in
     λ i w low.
     ap (λ o. nat_le (unwrap_or o (cond k.negated 0 k.taken)) i) (kept_in_order c.expire.new.starts w)
-    ∙ start_later k.negated (k.pulled + 1) k.taken i (kept_start k.contents.starts w)
-    (kept_start c.expire.new.starts w) low (c.expire.ensures.starts w)
+    ∙ start_later k.negated (k.pulled + 1) k.taken i (kept_for k.contents.starts w)
+    (kept_for c.expire.new.starts w) low (c.expire.ensures.starts w)
     ∙ ap (λ o. nat_le (unwrap_or o (cond k.negated 0 k.taken)) i)
     (sym (kept_in_order k.contents.starts w)))

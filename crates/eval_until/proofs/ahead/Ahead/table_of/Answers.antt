@@ -2,9 +2,9 @@ use Rattle.std.proofs.Common.{◌≡◌, true, ◌||◌, ◌&&◌, ℕ, List, ar
 use Rattle.std.proofs.lemmas.Grind.{common_steps}
 use Rattle.std.specs.List.{list_any}
 use Rattle.mfotl_model.specs.Tables.{all_apart, all_sized, has_row, part}
+use Rattle.relations.specs.KeptRows.{list_for}
 use Rattle.relations.proofs.AscendingRows.{has_ascending}
-use Rattle.eval_until.specs.ByKey.{rows_at}
-use Rattle.eval_until.specs.Entries.{entries_for, met_by}
+use Rattle.eval_until.specs.Entries.{met_by}
 use Rattle.eval_until.proofs.ByKeyLemmas.{found_meets, found_met}
 use Rattle.eval_until.proofs.KeepingLemmas.{sized_met}
 use Rattle.eval_until.proofs.OrderLemmas.{entries_in_order}
@@ -24,8 +24,8 @@ from_rows-requires-clause-sized c =
     (λ u there. found_meets k.interval c.args.i c.args.x k.contents.by_key.sets k.contents.rows.entries
     c.rows.result.now u
     (sym (c.in_ok-push_found.ensures u
-    ∙ ap (λ rows. has_row rows u || list_any (λ q. has_row (rows_at k.contents.by_key.sets q) u
-    && met_by k.interval c.args.i c.args.x (entries_for k.contents.rows.entries u)) c.rows.result.now)
+    ∙ ap (λ rows. has_row rows u || list_any (λ q. has_row (list_for k.contents.by_key.sets q) u
+    && met_by k.interval c.args.i c.args.x (list_for k.contents.rows.entries u)) c.rows.result.now)
     c.new-found.ensures.items) ∙ there))
 
 pub returns-clause-rows : goal.returns-clause-rows
@@ -35,8 +35,8 @@ returns-clause-rows c = rw (← c.self.view_is) (
     λ u asked. ap (λ rows. has_row rows u) c.from_rows.ensures.rows
     ∙ has_ascending c.push_found.new.out.items u
     ∙ c.in_ok-push_found.ensures u
-    ∙ ap (λ rows. has_row rows u || list_any (λ q. has_row (rows_at k.contents.by_key.sets q) u
-    && met_by k.interval c.args.i c.args.x (entries_for k.contents.rows.entries u)) c.rows.result.now)
+    ∙ ap (λ rows. has_row rows u || list_any (λ q. has_row (list_for k.contents.by_key.sets q) u
+    && met_by k.interval c.args.i c.args.x (list_for k.contents.rows.entries u)) c.rows.result.now)
     c.new-found.ensures.items
     ∙ found_met k.interval c.args.i c.args.x k.right.items c.args.keys.now.columns k.contents.by_key
     k.contents.rows.entries c.rows.result.now u c.self.invariant.listed

@@ -2,9 +2,10 @@ use Rattle.std.proofs.Common.{◌+◌, ◌-◌, cond, nat_le, ◌&&◌, ◌||◌
 use Rattle.std.specs.Option.{unwrap_or}
 use Rattle.mfotl_model.specs.Intervals.{in_interval}
 use Rattle.mfotl_model.specs.Tables.{has_row, part}
+use Rattle.relations.specs.KeptRows.{kept_for, list_for}
 use Rattle.relations.specs.Pushed.{turned}
-use Rattle.eval_until.specs.Entries.{entries_for, met_by}
-use Rattle.eval_until.specs.Starts.{kept_start, start_of}
+use Rattle.eval_until.specs.Entries.{met_by}
+use Rattle.eval_until.specs.Starts.{start_of}
 use Rattle.eval_until.proofs.KeepingLemmas.{met_taken, start_stepped}
 use Rattle.eval_until.proofs.OrderLemmas.{entries_in_order, kept_in_order}
 use Rattle.eval_until.proofs.ahead.Ahead.take.Goals as goal
@@ -14,8 +15,8 @@ returns-in-Ok-clause-met c = rw (← c.self.view_is) (
     let k = c.self.inside in
     λ i x u.
     ap (met_by k.interval i x) (entries_in_order c.take_position-taken.new.contents.rows.entries u)
-    ∙ met_taken k.interval i x (has_row c.args.rights.rows u) (entries_for k.contents.rows.entries u)
-    (entries_for c.take_position-taken.new.contents.rows.entries u)
+    ∙ met_taken k.interval i x (has_row c.args.rights.rows u) (list_for k.contents.rows.entries u)
+    (list_for c.take_position-taken.new.contents.rows.entries u)
     (record {
       place = k.taken;
       start = start_of k.negated k.taken k.contents.starts (part k.right.items k.left.items u);
@@ -36,7 +37,7 @@ returns-in-Ok-clause-start c = rw (← c.self.view_is) (
     (kept_in_order c.take_position-taken.new.contents.starts w)
     ∙ start_stepped k.negated (has_row c.args.lefts.rows w) k.taken
     (start_of k.negated k.taken k.contents.starts w)
-    (kept_start k.contents.starts w) (kept_start c.take_position-taken.new.contents.starts w) refl
+    (kept_for k.contents.starts w) (kept_for c.take_position-taken.new.contents.starts w) refl
     (c.in-Ok.ensures.starts w)
     ∙ ap (λ o. cond (turned k.negated (has_row c.args.lefts.rows w)) (unwrap_or o (cond k.negated 0 k.taken))
     (k.taken + 1)) (sym (kept_in_order k.contents.starts w)))
