@@ -107,9 +107,6 @@ pub front_far : (hi x : ℕ) (queue rest : List Dated) (d f : Dated) → queue �
 front_far hi x queue rest d f is e far = let s : d ≡ f = e
     ∙ ap (λ (q : List Dated). get_or q 0 d) is in subst (λ (k : Dated). hi < x - k.ts) s far
 
-pub not_after_tail : (x : ℕ) (d : Dated) (ds : List Dated) → NotAfter x (d ∷ ds) → NotAfter x ds
-not_after_tail x d ds all = (and_parts (nat_le d.ts x) (list_all (λ e. nat_le e.ts x) ds) all).1
-
 pub not_after_later : (x y : ℕ) (ds : List Dated) → x ≤ y → NotAfter x ds → NotAfter y ds
 not_after_later x y [] l all = refl
 not_after_later x y (d ∷ ds) l all =

@@ -1,5 +1,5 @@
 -- Each row that is kept has a time, and each group a row.
-use Rattle.std.proofs.Common.{◌≡◌, ℕ, ◌<◌, Bool, true, false, cond, nat_eq, List, [], ◌∷◌, ◌++◌, length}
+use Rattle.std.proofs.Common.{◌≡◌, ℕ, ◌<◌, Bool, true, false, cond, List, [], ◌∷◌, ◌++◌, length}
 use Rattle.std.proofs.Common.{Option, Some, None, sym, subst, ap, ◌∙◌, arith}
 use Rattle.std.proofs.lemmas.Map.Entries.{lookup-filter-keys}
 use Rattle.std.specs.BTreeMap.{is_at}
@@ -10,7 +10,7 @@ use Rattle.mfotl_model.specs.Tables.{has_row}
 use Rattle.mfotl_model.specs.Values.{row_cmp, row_total}
 use Rattle.mfotl_model.specs.declared.value.Value.{Value}
 use Rattle.relations.specs.KeptRows.{kept_for, list_for}
-use Rattle.relations.proofs.MapLemmas.{same_row}
+use Rattle.relations.proofs.MapLemmas.{either, same_row}
 use Rattle.eval_since.specs.Groups.{HaveTimes, NoneEmpty}
 use Rattle.eval_since.specs.Times.{added, is_new}
 
@@ -18,37 +18,18 @@ use Rattle.eval_since.specs.Times.{added, is_new}
 abbrev pub IsFilled : List (List Value × List ℕ) → Type 0
 IsFilled group = (0 < length group) × HaveTimes group
 
--- what holds of all that is kept still does after a change at one row
-pub each_after : {X : Type 0} (P : X → Type 0) (row : List Value) (old new : List (List Value × X)) (w : Option X)
-    → ((v : List Value) → kept_for new v ≡ cond (is_at (row_cmp row) v) w (kept_for old v))
-    → IfSome w P → ((v : List Value) → IfSome (kept_for old v) P) → (v : List Value) → IfSome (kept_for new v) P
-each_after {X} P row old new w changes here before v =
-    subst (λ (o : Option X). IfSome o P) (sym (changes v)) (by (is_at (row_cmp row) v))
-  where
-    by : (b : Bool) → IfSome (cond b w (kept_for old v)) P
-    by true = here
-    by false = before v
-
--- and where some of it is left out
+-- what holds of all that is kept still does where some of it is left out
 pub each_left : {X : Type 0} (P : X → Type 0) (stays : List Value → Bool) (old new : List (List Value × X))
     → ((v : List Value) → kept_for new v ≡ cond (stays v) (kept_for old v) None)
     → ((v : List Value) → IfSome (kept_for old v) P) → (v : List Value) → IfSome (kept_for new v) P
 each_left {X} P stays old new is before v =
-    subst (λ (o : Option X). IfSome o P) (sym (is v)) (by (stays v))
-  where
-    by : (b : Bool) → IfSome (cond b (kept_for old v) None) P
-    by true = before v
-    by false = tt
+    either (λ (o : Option X). IfSome o P) (stays v) (kept_for old v) None (kept_for new v) (is v) (before v) tt
 
 pub each_gone : {X : Type 0} (P : X → Type 0) (goes : List Value → Bool) (old new : List (List Value × X))
     → ((v : List Value) → kept_for new v ≡ cond (goes v) None (kept_for old v))
     → ((v : List Value) → IfSome (kept_for old v) P) → (v : List Value) → IfSome (kept_for new v) P
 each_gone {X} P goes old new is before v =
-    subst (λ (o : Option X). IfSome o P) (sym (is v)) (by (goes v))
-  where
-    by : (b : Bool) → IfSome (cond b None (kept_for old v)) P
-    by true = tt
-    by false = before v
+    either (λ (o : Option X). IfSome o P) (goes v) None (kept_for old v) (kept_for new v) (is v) tt (before v)
 
 -- where the groups of other parts are left out
 pub filled_where : (parts : List (List Value)) (old new : List (List Value × List (List Value × List ℕ)))
@@ -83,10 +64,6 @@ some_added bounded (t ∷ ts) x = by (is_new bounded (t ∷ ts) x)
     by : (b : Bool) → 0 < length (cond b ((t ∷ ts) ++ x ∷ []) (t ∷ ts))
     by true = omega arith
     by false = omega arith
-
-pub not_empty : {X : Type 0} (ys : List X) → nat_eq (length ys) 0 ≡ false → 0 < length ys
-not_empty [] e = absurd (let w : true ≡ false = e in cc)
-not_empty (y ∷ ys) e = omega arith
 
 -- a group that has times for a row has a row
 row_there : (group : List (List Value × List ℕ)) (v : List Value) → 0 < length (list_for group v) → 0 < length group

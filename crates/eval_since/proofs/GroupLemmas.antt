@@ -1,6 +1,6 @@
 -- What a change at one row leaves at each row.
-use Rattle.std.proofs.Common.{◌≡◌, ℕ, ◌+◌, ◌<◌, Bool, true, false, cond, nat_eq, ◌&&◌, ◌||◌, List, [], ◌∷◌}
-use Rattle.std.proofs.Common.{length, get_or, take, Option, Some, None, refl, sym, ap, ◌∙◌, arith}
+use Rattle.std.proofs.Common.{◌≡◌, ℕ, ◌+◌, ◌<◌, Bool, true, false, cond, ◌&&◌, ◌||◌, List, [], ◌∷◌}
+use Rattle.std.proofs.Common.{length, get_or, take, Option, Some, None, refl, sym, ap, ◌∙◌}
 use Rattle.std.specs.BTreeMap.{is_at}
 use Rattle.std.specs.List.{list_any, filter}
 use Rattle.std.specs.Map.{lookup}
@@ -8,7 +8,6 @@ use Rattle.std.specs.Option.{unwrap_or}
 use Rattle.std.proofs.Math.Bool.{or-false}
 use Rattle.mfotl_model.specs.Values.{row_cmp, row_total}
 use Rattle.mfotl_model.specs.declared.value.Value.{Value}
-use Rattle.std.proofs.lemmas.Bool.{eqb-true}
 use Rattle.std.proofs.lemmas.Map.Entries.{lookup-filter-keys}
 use Rattle.std.specs.Cmp.{eq_by_cmp_equiv}
 use Rattle.mfotl_model.specs.declared.interval.Interval.{Interval}
@@ -17,16 +16,12 @@ use Rattle.relations.specs.KeptRows.{RowsDiffer, list_for}
 use Rattle.relations.proofs.KeptLemmas.{differ_tail, none_behind}
 use Rattle.relations.proofs.MapLemmas.{same_row}
 use Rattle.relations.proofs.TableRows.{has_more}
-use Rattle.eval_since.specs.Groups.{hit, times_at}
+use Rattle.eval_since.specs.Groups.{times_at}
 use Rattle.eval_since.specs.Times.{reaches, recent}
 
 pub recent_none : (hi x : ℕ) → recent hi x [] ≡ []
 unfolding recent
 recent_none hi x = refl
-
-pub empty_list : {X : Type 0} (ys : List X) → nat_eq (length ys) 0 ≡ true → [] ≡ ys
-empty_list [] e = refl
-empty_list (y ∷ ys) e = absurd (let w : length (y ∷ ys) ≡ 0 = eqb-true (length (y ∷ ys)) 0 e in omega arith)
 
 -- a change at one row of one group
 pub grouped : (h : List ℕ → List ℕ) (key row q v : List Value)
@@ -164,23 +159,6 @@ none_recent hi x row v = by (is_at (row_cmp row) v)
     by : (b : Bool) → [] ≡ cond b (recent hi x []) []
     by true = sym (recent_none hi x)
     by false = refl
-
--- what is found among the entries is what the row's own entry gives
-pub hit_is : (interval : Interval) (x : ℕ) (u : List Value) (es : List (List Value × List ℕ))
-    → RowsDiffer es
-    → list_any (hit interval x u) es ≡ reaches interval (list_for es u) x
-hit_is interval x u [] h = refl
-hit_is interval x u (e ∷ es) h = by (is_at (row_cmp u) e.0) refl
-    (hit_is interval x u es (differ_tail e es h))
-  where
-    by : (b : Bool) → is_at (row_cmp u) e.0 ≡ b → list_any (hit interval x u) es ≡ reaches interval (list_for es u) x
-        → ((b && reaches interval e.1 x) || list_any (hit interval x u) es)
-        ≡ reaches interval (unwrap_or (cond b (Some e.1) (lookup (is_at (row_cmp u)) es)) []) x
-    by true at rest =
-        ap (λ r. reaches interval e.1 x || r) (rest ∙ ap (λ o. reaches interval (unwrap_or o []) x)
-        (none_behind u e es h at))
-        ∙ or-false (reaches interval e.1 x)
-    by false at rest = rest
 
 -- rows stand in the group k alone
 abbrev pub StandsIn : List (List Value × List (List Value × List ℕ)) → List Value → List Value → Type 0

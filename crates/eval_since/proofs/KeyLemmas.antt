@@ -9,9 +9,10 @@ use Rattle.mfotl_model.specs.Values.{row_cmp}
 use Rattle.mfotl_model.specs.declared.interval.Interval.{Interval}
 use Rattle.mfotl_model.specs.declared.value.Value.{Value}
 use Rattle.mfotl_model.proofs.RowLemmas.{any_and_last}
+use Rattle.relations.proofs.KeptLemmas.{any_is, empty_list}
 use Rattle.relations.proofs.MapLemmas.{same_row}
 use Rattle.relations.specs.KeptRows.{RowsDiffer, list_for}
-use Rattle.eval_since.proofs.GroupLemmas.{StandsIn, empty_list, group_is, hit_is}
+use Rattle.eval_since.proofs.GroupLemmas.{StandsIn, group_is}
 use Rattle.eval_since.specs.LeftOperand.{grouping, lead}
 use Rattle.eval_since.specs.Groups.{hit, times_at}
 use Rattle.eval_since.specs.Times.{reaches}
@@ -21,7 +22,7 @@ pub matches_are : (interval : Interval) (x : ℕ) (u : List Value) (wanted : Lis
     (es : List (List Value × List ℕ)) → RowsDiffer es
     → list_any (λ e. hit interval x u e && wanted e.0) es ≡ (reaches interval (list_for es u) x && wanted u)
 matches_are interval x u wanted es differ = each es ∙ any_and_last (wanted u) (hit interval x u) es
-    ∙ ap (λ b. b && wanted u) (hit_is interval x u es differ)
+    ∙ ap (λ b. b && wanted u) (any_is (λ ts. reaches interval ts x) refl u es differ)
   where
     here : (e : List Value × List ℕ) (b : Bool) → is_at (row_cmp u) e.0 ≡ b
         → ((b && reaches interval e.1 x) && wanted e.0) ≡ ((b && reaches interval e.1 x) && wanted u)

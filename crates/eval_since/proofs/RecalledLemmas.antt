@@ -14,14 +14,14 @@ use Rattle.mfotl_model.specs.Values.{row_cmp, row_total}
 use Rattle.mfotl_model.specs.declared.interval.Interval.{Interval}
 use Rattle.mfotl_model.specs.declared.value.Value.{Value}
 use Rattle.relations.specs.KeptRows.{RowsAscend, RowsDiffer, filled, kept_for, list_for}
-use Rattle.relations.proofs.KeptLemmas.{ascending_differ, differ_tail, each_kept, filled_back, filled_is}
+use Rattle.relations.proofs.KeptLemmas.{any_is, ascending_differ, differ_tail, each_kept, filled_back, filled_is}
 use Rattle.relations.proofs.KeptLemmas.{none_behind, or_none}
 use Rattle.relations.proofs.MapLemmas.{same_row}
 use Rattle.eval_since.specs.Groups.{hit, times_at}
 use Rattle.eval_since.specs.Recalled.{first_times, put_times, recalls, times_for, times_kept}
 use Rattle.eval_since.specs.Times.{reaches}
 use Rattle.eval_since.specs.declared.recalled.KeptRow.{KeptRow}
-use Rattle.eval_since.proofs.GroupLemmas.{StandsIn, hit_is, stands_tail}
+use Rattle.eval_since.proofs.GroupLemmas.{StandsIn, stands_tail}
 
 -- where a row stands in one group alone, the first times found are those there
 pub first_there : (k u : List Value) (es : List (List Value × List (List Value × List ℕ)))
@@ -49,7 +49,7 @@ first_there k u (e ∷ es) apart stands =
 pub recalls_is : (interval : Interval) (rows : List KeptRow) (x : ℕ) (u : List Value) → RowsAscend (times_kept rows)
     → recalls interval rows x u ≡ reaches interval (times_for rows u) x
 recalls_is interval rows x u up = pairs rows
-    ∙ hit_is interval x u (times_kept rows) (ascending_differ (times_kept rows) up)
+    ∙ any_is (λ ts. reaches interval ts x) refl u (times_kept rows) (ascending_differ (times_kept rows) up)
   where
     pairs : (ks : List KeptRow) → recalls interval ks x u ≡ list_any (hit interval x u) (times_kept ks)
     pairs [] = refl

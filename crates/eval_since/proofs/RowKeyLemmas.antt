@@ -11,11 +11,11 @@ use Rattle.std.specs.declared.cmp.Ordering.TheVariants.{Less, Equal, Greater}
 use Rattle.mfotl_model.specs.Values.{row_cmp}
 use Rattle.mfotl_model.specs.declared.value.Value.{Value}
 use Rattle.mfotl_model.specs.declared.value.Value.TheVariants.{Int, Text}
+use Rattle.relations.proofs.KeptLemmas.{each_after}
 use Rattle.relations.proofs.MapLemmas.{changed, same_row}
 use Rattle.relations.specs.KeptRows.{RowsDiffer, kept_for, list_for}
 use Rattle.eval_since.specs.Groups.{HaveTimes}
 use Rattle.eval_since.specs.RowKeys.{by_rows, is_int, itself, one_int}
-use Rattle.eval_since.proofs.FilledLemmas.{each_after}
 
 -- where a row isn't found there is nothing to change
 pub none_changed : (h : List ℕ → List ℕ) (row v : List Value) (es : List (List Value × List ℕ)) → h [] ≡ []

@@ -18,8 +18,8 @@ use Rattle.eval_since.proofs.ExpireLemmas.{past_held, past_joined, placed_joined
 use Rattle.eval_since.proofs.ExpireLemmas.{covered_push, rising_push, not_after_later, not_after_push}
 use Rattle.std.specs.List.Sorted.{IsStrictlyIncreasing}
 use Rattle.eval_since.proofs.RuleLemmas.{increasing_more, increasing_none, increasing_thinned, one_more}
+use Rattle.relations.proofs.MapLemmas.{either}
 use Rattle.relations.proofs.TableRows.{all_rows, lacks_other}
-use Rattle.eval_since.proofs.WindowLemmas.{either_list}
 use Rattle.eval_since.proofs.WithinLemmas.{reaches_step, reaches_thinned}
 
 -- where nothing was kept and the row isn't added, nothing is kept
@@ -65,13 +65,13 @@ module _ (interval : Interval) (right left : List ℕ) (goes : List Value → Bo
 
   ascend_held : Joined → Ascending held
   ascend_held j = λ q v.
-      either_list IsStrictlyIncreasing (goes q) (times_at old q v) [] (times_at held q v)
+      either IsStrictlyIncreasing (goes q) (times_at old q v) [] (times_at held q v)
       (j.first q v)
       (j.kept.ascend q v) increasing_none
 
   pub ascend_after : Joined → Ascending new
   ascend_after j = λ q v.
-      either_list IsStrictlyIncreasing (is_at (row_cmp (part right left v)) q && has_row (packed_rows d.rows) v)
+      either IsStrictlyIncreasing (is_at (row_cmp (part right left v)) q && has_row (packed_rows d.rows) v)
       (added (is_some interval.hi) (times_at held q v) d.ts) (times_at held q v) (times_at new q v) (j.second q v)
       (increasing_more (is_some interval.hi) (times_at held q v) d.ts (ascend_held j q v)
       (past_before j.rises j.kept j.first q v))
@@ -79,13 +79,13 @@ module _ (interval : Interval) (right left : List ℕ) (goes : List Value → Bo
 
   alone_held : interval.hi ≡ None → Joined → Alone held
   alone_held e j = λ q v.
-      either_list (λ ys. length ys ≤ 1) (goes q) (times_at old q v) [] (times_at held q v)
+      either (λ ys. length ys ≤ 1) (goes q) (times_at old q v) [] (times_at held q v)
       (j.first q v)
       (j.kept.alone e q v) (omega arith)
 
   alone_after : interval.hi ≡ None → Joined → Alone new
   alone_after e j = λ q v.
-      either_list (λ ys. length ys ≤ 1) (is_at (row_cmp (part right left v)) q && has_row (packed_rows d.rows) v)
+      either (λ ys. length ys ≤ 1) (is_at (row_cmp (part right left v)) q && has_row (packed_rows d.rows) v)
       (added (is_some interval.hi) (times_at held q v) d.ts) (times_at held q v) (times_at new q v) (j.second q v)
       (one_more (is_some interval.hi) (times_at held q v) d.ts (ap is_some e) (alone_held e j q v))
       (alone_held e j q v)

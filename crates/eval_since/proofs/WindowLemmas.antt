@@ -1,6 +1,6 @@
 -- Adding and forgetting a table's rows, one after another; what is kept of each row.
 use Rattle.std.proofs.Common.{◌≡◌, ℕ, ◌+◌, ◌-◌, ◌<◌, ◌≤◌, Bool, true, false, not, cond, nat_eq, nat_le, ◌&&◌, ◌||◌}
-use Rattle.std.proofs.Common.{List, [], ◌∷◌, ◌++◌, length, get_or, slice_index, take, refl, sym, subst, ap, ap₂}
+use Rattle.std.proofs.Common.{List, [], ◌∷◌, ◌++◌, length, get_or, slice_index, take, refl, sym, ap, ap₂}
 use Rattle.std.proofs.Common.{◌∙◌, arith, inl, inr}
 use Rattle.std.proofs.lemmas.Bool.{cases_lt, eq-eqb}
 use Rattle.std.proofs.lemmas.Bool.Decides.{nat_tests}
@@ -116,11 +116,6 @@ past_added bounded ys x past = by (is_new bounded ys x)
     by : (b : Bool) → ArePast x (cond b (ys ++ x ∷ []) ys)
     by true = past_push ys x past
     by false = past
-
--- of two outcomes
-pub either_list : (P : List ℕ → Type 0) (b : Bool) (xs ys zs : List ℕ) → zs ≡ cond b xs ys → P xs → P ys → P zs
-either_list P true xs ys zs e p q = subst P (sym e) p
-either_list P false xs ys zs e p q = subst P (sym e) q
 
 last_is : (ys : List ℕ) (x : ℕ) → slice_index (ys ++ x ∷ []) (length (ys ++ x ∷ []) - 1) ≡ x
 last_is ys x = let n : length (ys ++ x ∷ []) ≡ length ys + 1 = length_push ys x in get_or_push ys x 0

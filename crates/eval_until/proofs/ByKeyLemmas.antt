@@ -16,6 +16,7 @@ use Rattle.mfotl_model.specs.declared.interval.Interval.{Interval}
 use Rattle.mfotl_model.specs.declared.value.Value.{Value}
 use Rattle.relations.specs.KeptRows.{list_for}
 use Rattle.relations.proofs.MapLemmas.{same_row}
+use Rattle.relations.proofs.OperationLaws.{any_at}
 use Rattle.relations.proofs.TableRows.{has_more}
 use Rattle.eval_until.specs.ByKey.{KeyedRows, Listed, is_listed}
 use Rattle.eval_until.specs.declared.entries.Entry.{Entry}
@@ -239,17 +240,6 @@ none_listed right keyed rows none u =
     (or_left (nat_eq (length keyed.columns) 0) (has_row (list_for keyed.sets (part right keyed.columns u)) u)
     (ap (λ (columns : List ℕ). nat_eq (length columns) 0) none))
 
--- what holds of one of the keys holds of some
-any_at : (p : List Value → Bool) (k : List Value) (keys : List (List Value)) → has_row keys k ≡ true → p k ≡ true
-    → list_any p keys ≡ true
-any_at p k [] asked passes = absurd (let w : false ≡ true = asked in cc)
-any_at p k (q ∷ keys) asked passes = by (is_at (row_cmp k) q) refl asked (λ there. any_at p k keys there passes)
-  where
-    by : (b : Bool) → is_at (row_cmp k) q ≡ b → (b || has_row keys k) ≡ true
-        → (has_row keys k ≡ true → list_any p keys ≡ true) → (p q || list_any p keys) ≡ true
-    by true at there rest = or_left (p q) (list_any p keys) (ap p (sym (same_row k q at)) ∙ passes)
-    by false at there rest = or_right (p q) (list_any p keys) (rest there)
-
 -- a row that meets UNTIL is listed
 met_listed : (interval : Interval) (i x : ℕ) (b : Bool) (es : List Entry) → met_by interval i x es ≡ true
     → list_all (λ e. b) es ≡ true → b ≡ true
@@ -275,7 +265,7 @@ found_met interval i x right columns keyed rows keys u listed some same asked =
     by : (b : Bool) → met_by interval i x (list_for rows u) ≡ b
         → (list_any (λ k. has_row (list_for keyed.sets k) u) keys && b) ≡ b
     by true met =
-        ap (λ c. c && true) (any_at (λ k. has_row (list_for keyed.sets k) u) (part right keyed.columns u) keys
+        ap (λ c. c && true) (any_at (λ k. has_row (list_for keyed.sets k) u) keys (part right keyed.columns u)
         (ap (λ cs. has_row keys (part right cs u)) (sym same) ∙ asked) (own met))
     by false met = and-false (list_any (λ k. has_row (list_for keyed.sets k) u) keys)
 

@@ -13,6 +13,7 @@ use Rattle.mfotl_model.specs.Tables.{all_sized, has_row, part}
 use Rattle.mfotl_model.specs.declared.interval.Interval.{Interval}
 use Rattle.mfotl_model.specs.declared.value.Value.{Value}
 use Rattle.relations.specs.KeptRows.{kept_for, list_for}
+use Rattle.relations.proofs.MapLemmas.{either}
 use Rattle.relations.proofs.TableRows.{all_rows, lacks_other}
 use Rattle.relations.specs.Pushed.{turned}
 use Rattle.eval_until.specs.declared.contents.Taken.{Taken}
@@ -26,11 +27,6 @@ use Rattle.eval_until.proofs.EntriesLemmas.{all_thinned, ascend_push, ascend_thi
 use Rattle.eval_until.proofs.QueueLemmas.{after_push, breaks_last, breaks_push, broken_fresh, entries_waiting}
 use Rattle.eval_until.proofs.QueueLemmas.{all_kept, covered_kept, fresh_push, names_last, names_push, rising_kept}
 use Rattle.eval_until.proofs.QueueLemmas.{rising_push, starts_kept}
-
--- of two outcomes
-either : {X : Type 0} (P : X → Type 0) (b : Bool) (x y z : X) → z ≡ cond b x y → P x → P y → P z
-either P true x y z e p q = subst P (sym e) p
-either P false x y z e p q = subst P (sym e) q
 
 below_more : (p : ℕ) (es : List Entry) → list_all (λ e. nat_lt e.place p && nat_le e.start e.place) es ≡ true
     → list_all (λ e. nat_lt e.place (p + 1) && nat_le e.start e.place) es ≡ true

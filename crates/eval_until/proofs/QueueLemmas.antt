@@ -122,9 +122,6 @@ pub front_before : (next : ℕ) (queue rest : List Taken) (q r : Taken) → queu
 front_before next queue rest q r is e low = let s : q ≡ r = e ∙ ap (λ (k : List Taken). get_or k 0 q) is in
     subst (λ (k : Taken). k.place < next) s low
 
-pub after_rest : (p : ℕ) (q : Taken) (qs : List Taken) → NotAfter p (q ∷ qs) → NotAfter p qs
-after_rest p q qs all = (and_parts (nat_lt q.place p) (list_all (λ r. nat_lt r.place p) qs) all).1
-
 -- one position more
 pub after_push : (p : ℕ) (qs : List Taken) (q : Taken) → NotAfter p qs → q.place ≡ p → NotAfter (p + 1) (qs ++ q ∷ [])
 after_push p [] q all e = let h : nat_lt q.place (p + 1) ≡ true = grind (arith, nat_tests) in

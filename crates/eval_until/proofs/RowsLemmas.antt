@@ -1,28 +1,24 @@
 -- Entries of rows and starts of runs, one row of a table after another.
-use Rattle.std.proofs.Common.{◌≡◌, ℕ, zero, suc, ◌+◌, ◌<◌, ◌≤◌, Bool, true, false, cond, nat_eq, ◌&&◌, ◌||◌, nat_le}
+use Rattle.std.proofs.Common.{◌≡◌, ℕ, zero, suc, ◌+◌, ◌<◌, ◌≤◌, Bool, true, false, cond, ◌||◌, nat_le}
 use Rattle.std.proofs.Common.{List, [], ◌∷◌, ◌++◌, Option, Some, None, length, get_or, take, refl, sym, ap, ap₂}
 use Rattle.std.proofs.Common.{◌∙◌, arith, subst}
-use Rattle.std.proofs.lemmas.Bool.{eqb-true}
 use Rattle.std.proofs.lemmas.Bool.Decides.{nat_tests}
 use Rattle.std.proofs.lemmas.Map.Keys.{IsDistinct-from_sorted}
 use Rattle.std.proofs.Math.Bool.{or-false}
 use Rattle.std.specs.BTreeMap.{is_at}
 use Rattle.std.specs.Cmp.{eq_by_cmp_equiv}
-use Rattle.std.specs.List.{AllByRecursion, IsDistinct, list_any}
+use Rattle.std.specs.List.{AllByRecursion, IsDistinct}
 use Rattle.std.specs.List.Sorted.{IsStrictlySortedBy}
 use Rattle.std.specs.Map.{lookup}
-use Rattle.std.specs.Option.{IfSome, unwrap_or}
+use Rattle.std.specs.Option.{unwrap_or}
 use Rattle.std.specs.Ordering.{eq_by_cmp}
 use Rattle.mfotl_model.specs.Tables.{has_row}
 use Rattle.mfotl_model.specs.Values.{row_cmp, row_total}
-use Rattle.mfotl_model.specs.declared.interval.Interval.{Interval}
 use Rattle.mfotl_model.specs.declared.value.Value.{Value}
-use Rattle.relations.specs.KeptRows.{RowsDiffer, list_for}
-use Rattle.relations.proofs.KeptLemmas.{differ_tail, none_behind}
+use Rattle.relations.specs.KeptRows.{list_for}
 use Rattle.relations.proofs.MapLemmas.{same_row}
 use Rattle.relations.proofs.TableRows.{has_more}
 use Rattle.eval_until.specs.declared.entries.Entry.{Entry}
-use Rattle.eval_until.specs.Entries.{met_by}
 use Rattle.eval_until.specs.Starts.{later_start}
 
 -- what holds of each item holds of that at a place
@@ -191,38 +187,6 @@ start_gone next row w m n s is low step = step ∙ by (is_at (row_cmp row) w) re
         ∙ ap (λ r. lookup (is_at (row_cmp r)) m) (same_row row w at))
     by false at = refl
 
--- what is found among the entries of all rows is what the row's own entries give
-pub hit_is : (interval : Interval) (i x : ℕ) (u : List Value) (es : List (List Value × List Entry))
-    → RowsDiffer es
-    → list_any (λ e. eq_by_cmp row_cmp u e.0 && met_by interval i x e.1) es ≡ met_by interval i x (list_for es u)
-hit_is interval i x u [] h = refl
-hit_is interval i x u (e ∷ es) h = by (is_at (row_cmp u) e.0) refl
-    (hit_is interval i x u es (differ_tail e es h))
-  where
-    by : (b : Bool) → is_at (row_cmp u) e.0 ≡ b
-        → list_any (λ e. eq_by_cmp row_cmp u e.0 && met_by interval i x e.1) es
-        ≡ met_by interval i x (list_for es u)
-        → ((b && met_by interval i x e.1)
-        || list_any (λ e. eq_by_cmp row_cmp u e.0 && met_by interval i x e.1) es)
-        ≡ met_by interval i x (unwrap_or (cond b (Some e.1) (lookup (is_at (row_cmp u)) es)) [])
-    by true at rest =
-        ap (λ r. met_by interval i x e.1 || r) (rest ∙ ap (λ o. met_by interval i x (unwrap_or o []))
-        (none_behind u e es h at))
-        ∙ or-false (met_by interval i x e.1)
-    by false at rest = rest
-
--- after a change at one row, a row that is kept has an entry, if it had one, and if what is put there has one
-pub some_changed : (row u : List Value) (m n : List (List Value × List Entry)) (w : Option (List Entry))
-    → lookup (is_at (row_cmp u)) n ≡ cond (is_at (row_cmp row) u) w (lookup (is_at (row_cmp u)) m)
-    → IfSome w (λ es. 0 < length es) → IfSome (lookup (is_at (row_cmp u)) m) (λ es. 0 < length es)
-    → IfSome (lookup (is_at (row_cmp u)) n) (λ es. 0 < length es)
-some_changed row u m n w e new old =
-    subst (λ (o : Option (List Entry)). IfSome o (λ es. 0 < length es)) (sym e) (by (is_at (row_cmp row) u))
-  where
-    by : (b : Bool) → IfSome (cond b w (lookup (is_at (row_cmp u)) m)) (λ es. 0 < length es)
-    by true = new
-    by false = old
-
 -- what was pushed is there
 pub some_pushed : (old new : List Entry) (e : Entry) → new ≡ old ++ e ∷ [] → 0 < length new
 some_pushed old new e is = subst (λ (es : List Entry). 0 < length es) (sym is) (by old)
@@ -230,14 +194,6 @@ some_pushed old new e is = subst (λ (es : List Entry). 0 < length es) (sym is) 
     by : (es : List Entry) → 0 < length (es ++ e ∷ [])
     by [] = omega arith
     by (f ∷ fs) = omega arith
-
-pub some_left : (es : List Entry) → nat_eq (length es) 0 ≡ false → 0 < length es
-some_left [] e = cc
-some_left (x ∷ xs) e = omega arith
-
-pub empty_list : (es : List Entry) → nat_eq (length es) 0 ≡ true → [] ≡ es
-empty_list [] e = refl
-empty_list (x ∷ xs) e = absurd (let w : length (x ∷ xs) ≡ 0 = eqb-true (length (x ∷ xs)) 0 e in omega arith)
 
 -- where a row was taken out, nothing is left of it
 pub none_after : (row gone : List Value) (m n : List (List Value × List Entry)) → is_at (row_cmp row) gone ≡ true

@@ -1,20 +1,30 @@
 -- What is kept for rows that differ: by look-ups, and one after another.
-use Rattle.std.proofs.Common.{◌≡◌, ◌<◌, Bool, true, false, cond, nat_eq, List, [], ◌∷◌, length, Option, Some, None}
-use Rattle.std.proofs.Common.{refl, sym, ap, ◌∙◌, arith}
+use Rattle.std.proofs.Common.{◌≡◌, ◌<◌, Bool, true, false, cond, nat_eq, ◌&&◌, ◌||◌, List, [], ◌∷◌, length, Option}
+use Rattle.std.proofs.Common.{Some, None, refl, sym, ap, ◌∙◌, arith}
 use Rattle.std.proofs.lemmas.Bool.{eqb-true}
 use Rattle.std.proofs.lemmas.Map.{lookup-none}
 use Rattle.std.proofs.lemmas.Map.Entries.{none_past_head}
 use Rattle.std.proofs.lemmas.Map.Keys.{sorted_tail, IsDistinct-from_sorted, IsDistinct-tail}
+use Rattle.std.proofs.Math.Bool.{or-false}
 use Rattle.std.specs.BTreeMap.{is_at}
 use Rattle.std.specs.Cmp.{eq_by_cmp_equiv}
-use Rattle.std.specs.List.{AllByRecursion}
+use Rattle.std.specs.List.{AllByRecursion, list_any}
 use Rattle.std.specs.Map.{keys_of}
 use Rattle.std.specs.Option.{IfSome, is_some, option_or, unwrap_or}
 use Rattle.std.specs.Ordering.{eq_by_cmp}
 use Rattle.mfotl_model.specs.Values.{row_cmp, row_total}
 use Rattle.mfotl_model.specs.declared.value.Value.{Value}
-use Rattle.relations.proofs.MapLemmas.{same_row}
+use Rattle.relations.proofs.MapLemmas.{either, same_row}
 use Rattle.relations.specs.KeptRows.{RowsAscend, RowsDiffer, filled, first_filled, kept_for, last_for, list_for}
+
+-- a list with something, and one with nothing
+pub not_empty : {X : Type 0} (xs : List X) → nat_eq (length xs) 0 ≡ false → 0 < length xs
+not_empty [] e = absurd (let w : true ≡ false = e in cc)
+not_empty (x ∷ xs) e = omega arith
+
+pub empty_list : {X : Type 0} (xs : List X) → nat_eq (length xs) 0 ≡ true → [] ≡ xs
+empty_list [] e = refl
+empty_list (x ∷ xs) e = absurd (let w : length (x ∷ xs) ≡ 0 = eqb-true (length (x ∷ xs)) 0 e in omega arith)
 
 -- rows that ascend differ
 pub ascending_differ : {X : Type 0} (es : List (List Value × X)) → RowsAscend es → RowsDiffer es
@@ -28,6 +38,29 @@ pub none_behind : {X : Type 0} (u : List Value) (e : List Value × X) (es : List
     → is_at (row_cmp u) e.0 ≡ true → kept_for es u ≡ None
 none_behind u e es apart at =
     lookup-none (is_at (row_cmp u)) es (none_past_head (eq_by_cmp_equiv row_total) u e es apart at)
+
+-- what a test finds among the lists of a row is what it says of the row's own list
+pub any_is : {X : Type 0} (p : List X → Bool) → p [] ≡ false → (u : List Value) (es : List (List Value × List X))
+    → RowsDiffer es → list_any (λ e. eq_by_cmp row_cmp u e.0 && p e.1) es ≡ p (list_for es u)
+any_is p none u [] apart = sym none
+any_is {X} p none u (e ∷ es) apart = by (is_at (row_cmp u) e.0) refl (any_is p none u es (differ_tail e es apart))
+  where
+    by : (b : Bool) → is_at (row_cmp u) e.0 ≡ b
+        → list_any (λ f. eq_by_cmp row_cmp u f.0 && p f.1) es ≡ p (list_for es u)
+        → ((b && p e.1) || list_any (λ f. eq_by_cmp row_cmp u f.0 && p f.1) es)
+        ≡ p (unwrap_or (cond b (Some e.1) (kept_for es u)) [])
+    by true at rest =
+        ap (λ r. p e.1 || r) (rest ∙ ap (λ o. p (unwrap_or o [])) (none_behind u e es apart at) ∙ none)
+        ∙ or-false (p e.1)
+    by false at rest = rest
+
+-- what holds of all that is kept still does after a change at one row
+pub each_after : {X : Type 0} (P : X → Type 0) (row : List Value) (old new : List (List Value × X)) (w : Option X)
+    → ((v : List Value) → kept_for new v ≡ cond (is_at (row_cmp row) v) w (kept_for old v))
+    → IfSome w P → ((v : List Value) → IfSome (kept_for old v) P) → (v : List Value) → IfSome (kept_for new v) P
+each_after {X} P row old new w changes here before v =
+    either (λ (o : Option X). IfSome o P) (is_at (row_cmp row) v) w (kept_for old v) (kept_for new v) (changes v) here
+    (before v)
 
 -- what holds of all that look-ups find holds of each row
 pub each_kept : {X : Type 0} (Q : List Value → X → Type 0) (es : List (List Value × X)) → RowsAscend es

@@ -15,6 +15,11 @@ use Rattle.mfotl_model.proofs.RowLemmas.{row_exact}
 pub same_row : (u v : List Value) → is_at (row_cmp u) v ≡ true → u ≡ v
 same_row u v e = row_exact u v ((Equal-is (row_cmp u v)).0 e)
 
+-- of two outcomes
+pub either : {X : Type 0} (P : X → Type 0) (b : Bool) (x y z : X) → z ≡ cond b x y → P x → P y → P z
+either P true x y z e p q = subst P (sym e) p
+either P false x y z e p q = subst P (sym e) q
+
 -- after a change at one key, the value there is changed, and no other
 pub changed : {X : Type 0} (d : X) (h : X → X) (row v : List Value) (m n : List (List Value × X)) (w : Option X)
     → lookup (is_at (row_cmp v)) n ≡ cond (is_at (row_cmp row) v) w (lookup (is_at (row_cmp v)) m)

@@ -139,7 +139,8 @@ pub has_union : (v : Valuation) (columns : List ℕ) (xs ys : List (List Value))
     → has_row (xs ++ ys) (map v columns) ≡ (has_row xs (map v columns) || has_row ys (map v columns))
 has_union v columns xs ys = list_any-append (eq_by_cmp row_cmp (map v columns)) xs ys
 
-any_at : (p : List Value → Bool) (rows : List (List Value)) (q : List Value) → has_row rows q ≡ true → p q ≡ true
+-- what holds of one of the rows holds of some
+pub any_at : (p : List Value → Bool) (rows : List (List Value)) (q : List Value) → has_row rows q ≡ true → p q ≡ true
     → list_any p rows ≡ true
 any_at p [] q m h = cc
 any_at p (row ∷ rows) q m h =

@@ -3,8 +3,9 @@ use Rattle.std.specs.BTreeMap.{is_at}
 use Rattle.mfotl_model.specs.Values.{row_cmp}
 use Rattle.eval_since.specs.Groups.{times_at}
 use Rattle.mfotl_model.specs.Tables.{has_row, part}
+use Rattle.relations.proofs.MapLemmas.{either}
 use Rattle.eval_since.specs.Times.{added, ArePast}
-use Rattle.eval_since.proofs.WindowLemmas.{rows_more, added_twice, past_added, either_list}
+use Rattle.eval_since.proofs.WindowLemmas.{rows_more, added_twice, past_added}
 use Rattle.eval_since.proofs.contents.add_rows.Goals as goal
 
 pub add-requires : goal.add-requires
@@ -12,7 +13,7 @@ add-requires c =
     let q = c.in_ok-key.key in
     let v = c.in_ok-copy.field-0 in
     let old = times_at c.args.groups.now q v in
-    either_list (ArePast c.args.now) (is_at (row_cmp (part c.args.right.now c.args.left.now v)) q
+    either (ArePast c.args.now) (is_at (row_cmp (part c.args.right.now c.args.left.now v)) q
     && has_row (take c.loop-row.row-index c.args.rows.now) v)
     (added c.args.bounded old c.args.now) old (times_at c.loop-row.groups q v) (c.loop-row.invariant.times q v)
     (past_added c.args.bounded old c.args.now (c.requires q v)) (c.requires q v)

@@ -1,5 +1,7 @@
-use Rattle.std.proofs.Common.{◌≡◌, ◌&&◌, ◌∷◌, List, subst, arith}
+use Rattle.std.proofs.Common.{◌≡◌, ◌&&◌, nat_le, ◌∷◌, List, subst, arith}
+use Rattle.std.proofs.lemmas.Bool.{and_parts}
 use Rattle.std.specs.BTreeMap.{is_at}
+use Rattle.std.specs.List.{list_all}
 use Rattle.mfotl_model.specs.Values.{row_cmp}
 use Rattle.eval_since.specs.PackedRows.{packed_rows}
 use Rattle.eval_since.specs.declared.contents.Dated.{Dated}
@@ -7,7 +9,6 @@ use Rattle.eval_since.specs.Groups.{times_at}
 use Rattle.mfotl_model.specs.Tables.{has_row, part}
 use Rattle.eval_since.specs.Windows.{Covered, NotAfter, Rising}
 use Rattle.eval_since.proofs.ExpireLemmas.{thin_more, nothing_thinned, covered_more, fresh_front, front_far}
-use Rattle.eval_since.proofs.ExpireLemmas.{not_after_tail}
 use Rattle.eval_since.proofs.expiry.expire.Goals as goal
 
 pub returns-then-saturating_sub-hi-clause-fresh : goal.returns-then-saturating_sub-hi-clause-fresh
@@ -40,6 +41,6 @@ loop-front-preserved c =
           c.loop-front.groups c.forget_packed.new.groups
           far c.loop-front.invariant.placed (covered q v) (step q v);
       rising = rising.1;
-      after = λ x all. not_after_tail x d rest (subst (λ (queue : List Dated). NotAfter x queue) is
-          (c.loop-front.invariant.after x all));
+      after = λ x all. (and_parts (nat_le d.ts x) (list_all (λ e. nat_le e.ts x) rest)
+          (subst (λ (queue : List Dated). NotAfter x queue) is (c.loop-front.invariant.after x all))).1;
     }

@@ -1,7 +1,7 @@
 use Rattle.std.proofs.Common.{◌∷◌, [], sym, ap, ◌∙◌}
+use Rattle.relations.proofs.KeptLemmas.{empty_list, not_empty}
 use Rattle.relations.specs.KeptRows.{list_for}
-use Rattle.eval_since.proofs.FilledLemmas.{not_empty, one_has}
-use Rattle.eval_since.proofs.GroupLemmas.{empty_list}
+use Rattle.eval_since.proofs.FilledLemmas.{one_has}
 use Rattle.eval_since.proofs.OneRowLemmas.{none_left}
 use Rattle.eval_since.proofs.group.same_recent.Goals as goal
 

@@ -5,9 +5,10 @@ use Rattle.std.specs.Map.{lookup}
 use Rattle.std.specs.BTreeMap.{is_at}
 use Rattle.mfotl_model.specs.Values.{row_cmp}
 use Rattle.eval_since.specs.Times.{recent}
+use Rattle.relations.proofs.KeptLemmas.{each_after, empty_list, not_empty}
 use Rattle.relations.proofs.MapLemmas.{nothing_there}
-use Rattle.eval_since.proofs.FilledLemmas.{IsFilled, each_after, found_filled, not_empty}
-use Rattle.eval_since.proofs.GroupLemmas.{regrouped, empty_list, none_recent}
+use Rattle.eval_since.proofs.FilledLemmas.{IsFilled, found_filled}
+use Rattle.eval_since.proofs.GroupLemmas.{regrouped, none_recent}
 use Rattle.eval_since.proofs.groups.forget_row.Goals as goal
 
 pub returns-in-Err-clause-times : goal.returns-in-Err-clause-times

@@ -1,10 +1,12 @@
-use Rattle.std.proofs.Common.{◌≡◌, ◌∷◌, List, subst}
+use Rattle.std.proofs.Common.{◌≡◌, ◌∷◌, nat_lt, List, subst}
+use Rattle.std.proofs.lemmas.Bool.{and_parts}
+use Rattle.std.specs.List.{list_all}
 use Rattle.mfotl_model.specs.Tables.{has_row}
 use Rattle.relations.specs.KeptRows.{kept_for, list_for}
 use Rattle.eval_until.specs.declared.contents.Taken.{Taken}
 use Rattle.eval_until.specs.Keeping.{Covered, CoveredStarts, NotAfter, Rising}
 use Rattle.eval_until.proofs.EntriesLemmas.{thin_more}
-use Rattle.eval_until.proofs.QueueLemmas.{after_rest, breaks_more, covered_more, fresh_front, front_before, later_more}
+use Rattle.eval_until.proofs.QueueLemmas.{breaks_more, covered_more, fresh_front, front_before, later_more}
 use Rattle.eval_until.proofs.expiry.expire.Goals as goal
 
 pub returns-then-front-next-clause-fresh : goal.returns-then-front-next-clause-fresh
@@ -40,6 +42,6 @@ loop-front-preserved c =
           (subst (λ (queue : List Taken). CoveredStarts queue c.loop-front.starts) is
           (c.loop-front.invariant.breaks negated before) w) (starts w);
       rising = rising.1;
-      after = λ p all. after_rest p q rest (subst (λ (queue : List Taken). NotAfter p queue) is
-          (c.loop-front.invariant.after p all));
+      after = λ p all. (and_parts (nat_lt q.place p) (list_all (λ r. nat_lt r.place p) rest)
+          (subst (λ (queue : List Taken). NotAfter p queue) is (c.loop-front.invariant.after p all))).1;
     }

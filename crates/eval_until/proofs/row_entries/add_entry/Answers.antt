@@ -1,9 +1,10 @@
 use Rattle.std.proofs.lemmas.Grind.{common_steps}
-use Rattle.std.proofs.Common.{arith, [], ◌∷◌, ◌++◌, Some, List, ap, ap₂, ◌∙◌}
+use Rattle.std.proofs.Common.{arith, ◌<◌, [], ◌∷◌, ◌++◌, length, Some, List, ap, ap₂, ◌∙◌}
 use Rattle.std.specs.Option.{unwrap_or}
+use Rattle.relations.proofs.KeptLemmas.{each_after}
 use Rattle.relations.proofs.MapLemmas.{changed}
 use Rattle.eval_until.specs.declared.entries.Entry.{Entry}
-use Rattle.eval_until.proofs.RowsLemmas.{some_changed, some_pushed}
+use Rattle.eval_until.proofs.RowsLemmas.{some_pushed}
 use Rattle.eval_until.proofs.row_entries.add_entry.Goals as goal
 
 pub returns-clause-entries : goal.returns-clause-entries
@@ -14,7 +15,7 @@ returns-clause-entries c = λ u.
     ∙ ap₂ (λ o d. unwrap_or o d) c.in_ok-rows.ensures.value c.new.ensures))
 
 pub returns-clause-some : goal.returns-clause-some
-returns-clause-some c = λ some u.
-    some_changed c.args.row u c.args.rows.now.entries _ (Some c.push.new.self)
-    (grind (arith, common_steps, (c.in_ok-rows.ensures.update.0 c.push.new.self).0 u))
-    (some_pushed c.or_insert-entries.result.now c.push.new.self c.args.entry c.in_ok-push.ensures) (some u)
+returns-clause-some c =
+    each_after (λ (es : List Entry). 0 < length es) c.args.row c.args.rows.now.entries _ (Some c.push.new.self)
+    (λ u. grind (arith, common_steps, (c.in_ok-rows.ensures.update.0 c.push.new.self).0 u))
+    (some_pushed c.or_insert-entries.result.now c.push.new.self c.args.entry c.in_ok-push.ensures)

@@ -1,13 +1,15 @@
 use Rattle.std.proofs.lemmas.Grind.{common_steps}
-use Rattle.std.proofs.Common.{◌≡◌, [], Some, None, true, arith, sym, ap, ◌∙◌}
+use Rattle.std.proofs.Common.{◌≡◌, ◌<◌, List, [], length, Some, None, true, arith, sym, ap, ◌∙◌}
 use Rattle.std.specs.Map.{lookup}
 use Rattle.std.specs.BTreeMap.{is_at}
 use Rattle.std.specs.Option.{unwrap_or}
 use Rattle.mfotl_model.specs.Values.{row_cmp}
+use Rattle.relations.proofs.KeptLemmas.{each_after, empty_list, not_empty}
 use Rattle.relations.proofs.MapLemmas.{changed, nothing_there}
 use Rattle.eval_until.specs.Entries.{from_place}
+use Rattle.eval_until.specs.declared.entries.Entry.{Entry}
 use Rattle.eval_until.proofs.EntriesLemmas.{from_none}
-use Rattle.eval_until.proofs.RowsLemmas.{empty_list, none_after, some_changed, some_left}
+use Rattle.eval_until.proofs.RowsLemmas.{none_after}
 use Rattle.eval_until.proofs.row_entries.forget_row.Goals as goal
 
 pub returns-in-Err-clause-entries : goal.returns-in-Err-clause-entries
@@ -33,16 +35,16 @@ returns-then-is_empty-clause-entries c = λ u.
     ∙ ap (λ o. from_place c.args.next (unwrap_or o [])) is)
 
 pub returns-then-is_empty-clause-some : goal.returns-then-is_empty-clause-some
-returns-then-is_empty-clause-some c = λ some u.
-    some_changed c.args.row u c.args.rows.now.entries _ None
-    (grind (
+returns-then-is_empty-clause-some c =
+    each_after (λ (es : List Entry). 0 < length es) c.args.row c.args.rows.now.entries _ None
+    (λ u. grind (
       arith,
       common_steps,
       c.in-Ok.ensures.removal.0.0 u,
       c.get_mut-entries.ensures.written c.forget.new.self,
       c.remove_entry-gone.ensures.removed,
     ))
-    tt (some u)
+    tt
 
 pub returns-else-is_empty-clause-entries : goal.returns-else-is_empty-clause-entries
 returns-else-is_empty-clause-entries c = λ u.
@@ -58,15 +60,15 @@ returns-else-is_empty-clause-entries c = λ u.
     (c.forget.ensures ∙ ap (λ o. from_place c.args.next (unwrap_or o [])) is)
 
 pub returns-else-is_empty-clause-some : goal.returns-else-is_empty-clause-some
-returns-else-is_empty-clause-some c = λ some u.
-    some_changed c.args.row u c.args.rows.now.entries _ (Some c.forget.new.self)
-    (grind (
+returns-else-is_empty-clause-some c =
+    each_after (λ (es : List Entry). 0 < length es) c.args.row c.args.rows.now.entries _ (Some c.forget.new.self)
+    (λ u. grind (
       arith,
       common_steps,
       (c.in-Ok.ensures.update.0 c.forget.new.self).0 u,
       c.get_mut-entries.ensures.written c.forget.new.self,
     ))
-    (some_left c.forget.new.self (sym c.is_empty.ensures ∙ c.if-is_empty.false)) (some u)
+    (not_empty c.forget.new.self (sym c.is_empty.ensures ∙ c.if-is_empty.false))
 
 pub returns-in-Vacant-clause-entries : goal.returns-in-Vacant-clause-entries
 returns-in-Vacant-clause-entries c = λ u.

@@ -1,9 +1,10 @@
 use Rattle.std.proofs.lemmas.Grind.{common_steps}
 use Rattle.std.proofs.Common.{Some, arith, refl, ap₂, ◌∙◌}
 use Rattle.std.specs.Option.{unwrap_or}
+use Rattle.relations.proofs.KeptLemmas.{each_after}
 use Rattle.relations.specs.KeptRows.{list_for}
 use Rattle.eval_since.specs.Times.{added}
-use Rattle.eval_since.proofs.FilledLemmas.{IsFilled, each_after, had_times, row_changed, some_added}
+use Rattle.eval_since.proofs.FilledLemmas.{IsFilled, had_times, row_changed, some_added}
 use Rattle.eval_since.proofs.GroupLemmas.{regrouped}
 use Rattle.eval_since.proofs.groups.Groups.add.Goals as goal
 

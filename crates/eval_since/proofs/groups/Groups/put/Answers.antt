@@ -1,7 +1,8 @@
 use Rattle.std.proofs.lemmas.Grind.{common_steps}
 use Rattle.std.proofs.Common.{Some, arith, refl, ap₂, ◌∙◌}
 use Rattle.std.specs.Option.{unwrap_or}
-use Rattle.eval_since.proofs.FilledLemmas.{IsFilled, each_after, had_times, row_changed}
+use Rattle.relations.proofs.KeptLemmas.{each_after}
+use Rattle.eval_since.proofs.FilledLemmas.{IsFilled, had_times, row_changed}
 use Rattle.eval_since.proofs.GroupLemmas.{regrouped}
 use Rattle.eval_since.proofs.groups.Groups.put.Goals as goal
 

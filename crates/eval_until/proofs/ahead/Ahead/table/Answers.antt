@@ -1,13 +1,13 @@
-use Rattle.std.proofs.Common.{◌||◌, ◌&&◌, ℕ, List, length, sym, ap, ◌∙◌}
+use Rattle.std.proofs.Common.{◌||◌, ◌&&◌, ℕ, List, length, refl, sym, ap, ◌∙◌}
 use Rattle.std.specs.List.{list_any}
 use Rattle.std.specs.Ordering.{eq_by_cmp}
 use Rattle.mfotl_model.specs.Tables.{all_apart, all_sized, has_row}
 use Rattle.mfotl_model.specs.Values.{row_cmp}
 use Rattle.relations.proofs.AscendingRows.{has_ascending}
+use Rattle.relations.proofs.KeptLemmas.{any_is}
 use Rattle.eval_until.specs.Entries.{met_by}
 use Rattle.eval_until.proofs.KeepingLemmas.{sized_met}
 use Rattle.eval_until.proofs.OrderLemmas.{entries_in_order}
-use Rattle.eval_until.proofs.RowsLemmas.{hit_is}
 use Rattle.eval_until.proofs.ahead.Ahead.table.Goals as goal
 
 pub from_rows-requires-clause-apart : goal.from_rows-requires-clause-apart
@@ -25,7 +25,7 @@ from_rows-requires-clause-sized c =
     ∙ ap (λ rows. has_row rows u
     || list_any (λ e. eq_by_cmp row_cmp u e.0 && met_by k.interval c.args.i c.args.x e.1) k.contents.rows.entries)
     c.new-rows.ensures.items
-    ∙ hit_is k.interval c.args.i c.args.x u k.contents.rows.entries c.push_met.ensures.differ) ∙ there)
+    ∙ any_is (met_by k.interval c.args.i c.args.x) refl u k.contents.rows.entries c.push_met.ensures.differ) ∙ there)
 
 pub returns-clause-rows : goal.returns-clause-rows
 returns-clause-rows c = rw (← c.self.view_is) (
@@ -36,5 +36,5 @@ returns-clause-rows c = rw (← c.self.view_is) (
     ∙ ap (λ rows. has_row rows u
     || list_any (λ e. eq_by_cmp row_cmp u e.0 && met_by k.interval c.args.i c.args.x e.1) k.contents.rows.entries)
     c.new-rows.ensures.items
-    ∙ hit_is k.interval c.args.i c.args.x u k.contents.rows.entries c.push_met.ensures.differ
+    ∙ any_is (met_by k.interval c.args.i c.args.x) refl u k.contents.rows.entries c.push_met.ensures.differ
     ∙ ap (met_by k.interval c.args.i c.args.x) (sym (entries_in_order k.contents.rows.entries u)))
