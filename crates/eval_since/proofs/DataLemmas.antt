@@ -3,6 +3,7 @@ use Rattle.std.proofs.Common.{◌≡◌, ℕ, suc, ◌+◌, ◌-◌, ◌≤◌, 
 use Rattle.std.proofs.Common.{ap, ◌∙◌, slice_get, arith}
 use Rattle.mfotl_model.specs.Satisfaction.{Valuation, truth_at}
 use Rattle.mfotl_model.specs.Tables.{TableOf, all_among, has, has_row, part}
+use Rattle.mfotl_model.specs.Times.{Climbs}
 use Rattle.mfotl_model.specs.declared.interval.Interval.{Interval}
 use Rattle.mfotl_model.specs.declared.value.Value.{Value}
 use Rattle.relations.specs.KeptRows.{RowsAscend}
@@ -11,7 +12,7 @@ use Rattle.eval_since.specs.LeftOperand.{left_has}
 use Rattle.eval_since.specs.Recalled.{recalls, times_for, times_kept}
 use Rattle.eval_since.specs.SinceBefore.{since_before}
 use Rattle.eval_since.specs.SinceData.{FollowsData, newest_of, setting_of}
-use Rattle.eval_since.specs.SinceView.{Climbs, Follows, SinceOf}
+use Rattle.eval_since.specs.SinceView.{Follows, SinceOf}
 use Rattle.eval_since.specs.Times.{reaches}
 use Rattle.eval_since.specs.WindowView.{WindowOf, kept_times, within}
 use Rattle.eval_since.specs.declared.recalled.SinceData.{SinceData}

@@ -8,7 +8,7 @@ use Rattle.mfotl_model.specs.declared.interval.Interval.{Interval}
 use Rattle.mfotl_model.specs.declared.value.Value.{Value}
 use Rattle.eval_since.specs.WindowView.{WindowOf, within}
 use Rattle.eval_since.specs.SinceBefore.{since_before}
-use Rattle.eval_since.specs.SinceView.{Climbs, DueIsSettled, Follows, FollowsRow, SinceOf}
+use Rattle.eval_since.specs.SinceView.{DueIsSettled, Follows, FollowsRow, SinceOf}
 use Rattle.mfotl_model.specs.Tables.{TableOf, all_among, has, has_row, part}
 use Rattle.relations.specs.Pushed.{StandFrom, left_holds, turned}
 use Rattle.relations.proofs.PushedLemmas.{stand_push}
@@ -21,6 +21,7 @@ use Rattle.std.proofs.lemmas.Bool.{and_parts, and_from}
 use Rattle.std.proofs.lemmas.Bool.Decides.{nat_tests}
 use Rattle.std.specs.List.{list_all, range_with_len}
 use Rattle.mfotl_model.specs.Settled.{since_settled}
+use Rattle.mfotl_model.specs.Times.{Climbs}
 use Rattle.mfotl_model.proofs.LogicLemmas.{all_in, all_from}
 
 -- a list of times that climbs does so without its first
@@ -30,10 +31,6 @@ climbs_behind x (r ∷ rs) t y (first, (next, more)) = (omega arith, more)
 
 pub climbs_without_first : (x : ℕ) (all rest : List ℕ) (t y : ℕ) → all ≡ t ∷ rest → Climbs x all y → Climbs x rest y
 climbs_without_first x all rest t y e climbs = climbs_behind x rest t y (subst (λ (q : List ℕ). Climbs x q y) e climbs)
-
-pub climbs_push : (x : ℕ) (ts : List ℕ) (y z : ℕ) → Climbs x ts y → y ≤ z → Climbs x (ts ++ z ∷ []) z
-climbs_push x [] y z h l = (omega arith, omega arith)
-climbs_push x (t ∷ ts) y z h l = (h.0, climbs_push t ts y z h.1 l)
 
 -- one position is pulled
 pub follows_next : (k n : WindowOf) (negated : Bool) (p newest t0 : ℕ) (ts : List ℕ) (l : TableOf)

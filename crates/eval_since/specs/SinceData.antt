@@ -6,12 +6,13 @@ use Rattle.std.specs.List.Sorted.{IsStrictlyIncreasing}
 use Rattle.std.specs.Option.{IfSome}
 use Rattle.mfotl_model.specs.Satisfaction.{Valuation, time_at, truth_at}
 use Rattle.mfotl_model.specs.Tables.{all_sized, has}
+use Rattle.mfotl_model.specs.Times.{Climbs}
 use Rattle.mfotl_model.specs.declared.interval.Interval.{Interval}
 use Rattle.relations.specs.KeptRows.{RowsAscend}
 use Rattle.relations.specs.Pushed.{AreOver, StandFrom, left_holds}
 use Rattle.eval_since.specs.Recalled.{recalls, times_kept}
 use Rattle.eval_since.specs.SinceBefore.{since_before}
-use Rattle.eval_since.specs.SinceView.{Climbs, SinceOf}
+use Rattle.eval_since.specs.SinceView.{SinceOf}
 use Rattle.eval_since.specs.Times.{ArePast}
 use Rattle.eval_since.specs.declared.recalled.SinceData.{SinceData}
 

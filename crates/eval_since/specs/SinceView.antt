@@ -1,5 +1,5 @@
 -- The state of SINCE as contracts see it, and when it is right for a row.
-use Rattle.std.specs.Prelude.{◌≡◌, ℕ, ◌+◌, ◌-◌, ◌<◌, ◌≤◌, Bool, ◌&&◌, nat_lt, List, [], ◌∷◌, length, map, drop}
+use Rattle.std.specs.Prelude.{◌≡◌, ℕ, ◌+◌, ◌-◌, ◌<◌, ◌≤◌, Bool, ◌&&◌, nat_lt, List, ◌∷◌, length, map, drop}
 use Rattle.mfotl_model.specs.Satisfaction.{Valuation, time_at, truth_at}
 use Rattle.mfotl_model.specs.Settled.{since_settled}
 use Rattle.mfotl_model.specs.declared.value.Value.{Value}
@@ -39,11 +39,6 @@ Follows s t a b v = FollowsRow s t a b (map v s.window.right)
 -- whether the next position's time and tables were pushed
 abbrev pub due : SinceOf → Bool
 due s = nat_lt 0 (length s.times) && nat_lt 0 (length s.lefts) && nat_lt 0 (length s.rights)
-
--- the times never fall from x on, up to y
-abbrev pub Climbs : ℕ → List ℕ → ℕ → Type 0
-Climbs x [] y = x ≤ y
-Climbs x (t ∷ ts) y = (x ≤ t) × Climbs t ts y
 
 -- one position was pulled, and its time is the last one now
 pub record Advances (old new : SinceOf) : Type 0 where

@@ -3,6 +3,7 @@ ghost use Rattle.std.specs.Prelude.{◌≡◌, ◌↔◌, ◌+◌, ◌-◌, ◌<
 ghost use Rattle.std.specs.Prelude.{IfOk, IfSome, IsTrue, cond, length, nat_eq, nat_le, nat_lt};
 ghost use Rattle.mfotl_model.specs.Satisfaction.{Valuation};
 ghost use Rattle.mfotl_model.specs.Tables.{all_among, all_apart};
+ghost use Rattle.mfotl_model.specs.Times.{Climbs};
 ghost use Rattle.mfotl_model.specs.declared.value.Value.{Value};
 ghost use Rattle.eval_since.specs.Groups.{NoneEmpty};
 ghost use Rattle.eval_since.specs.LeftOperand.{grouping};
@@ -11,7 +12,7 @@ ghost use Rattle.eval_since.specs.Recalled.{recalls, times_for, times_kept};
 ghost use Rattle.eval_since.specs.WindowView.{kept_times, within};
 ghost use Rattle.eval_since.specs.SinceData.{FollowsData, KeepsRule, newest_of, setting_of};
 ghost use Rattle.eval_since.specs.Windows.{Alone, Ascending, Bounded, Past, Placed};
-ghost use Rattle.eval_since.specs.SinceView.{Climbs, Follows, SinceOf};
+ghost use Rattle.eval_since.specs.SinceView.{Follows, SinceOf};
 
 use crate::latest_time::latest;
 use crate::recalled::SinceData;
@@ -38,8 +39,9 @@ pub struct SinceState {
 impl Model for SinceState {
     ghost use Rattle.std.specs.Prelude.{◌≡◌, ◌≤◌, ◌+◌, ◌^◌, length, true};
     ghost use Rattle.mfotl_model.specs.Tables.{all_among};
+    ghost use Rattle.mfotl_model.specs.Times.{Climbs};
     ghost use Rattle.relations.specs.Pushed.{AreOver};
-    ghost use Rattle.eval_since.specs.SinceView.{Climbs, SinceOf};
+    ghost use Rattle.eval_since.specs.SinceView.{SinceOf};
     ghost use Rattle.eval_since.specs.Windows.{IsBlank};
 
     ghost Value = { SinceOf };

@@ -2,10 +2,11 @@
 use Rattle.std.proofs.Common.{◌≡◌, ◌∙◌, ℕ, zero, suc, ◌+◌, ◌≤◌, ◌<◌, ◌^◌, List, [], ◌∷◌, ◌++◌, length, subst, sym, ap}
 use Rattle.std.proofs.Common.{arith, length-append}
 use Rattle.std.proofs.lemmas.List.{map-append}
+use Rattle.mfotl_model.proofs.TimeLemmas.{climbs_push}
 use Rattle.mfotl_model.specs.Log.{times}
 use Rattle.mfotl_model.specs.Satisfaction.{time_at}
 use Rattle.mfotl_model.specs.Strategies.{Strategy}
-use Rattle.mfotl_model.specs.Times.{NeverFalls}
+use Rattle.mfotl_model.specs.Times.{Climbs, NeverFalls}
 use Rattle.mfotl_model.specs.declared.event.TimePoint.{TimePoint}
 use Rattle.monitorable.specs.CoreForms.{CoreForm}
 use Rattle.rescale_core.proofs.WorldLemmas.{sound_more, spot_more}
@@ -13,9 +14,9 @@ use Rattle.rescale_core.specs.Lines.{Spot, first_spot, spot_after}
 use Rattle.rescale_core.specs.Workers.{IsFor}
 use Rattle.rescale_core.specs.declared.item.Entry.{Entry}
 use Rattle.rescale_core.specs.declared.item.Entry.TheVariants.{Point, Change}
-use Rattle.machine_cases.specs.Scripts.{AreReadable, RisesTo}
+use Rattle.machine_cases.specs.Scripts.{AreReadable}
 
-lowest : (least : ℕ) (ts : List ℕ) (last : ℕ) → RisesTo least ts last → (j : ℕ) → j < length ts → least ≤ time_at ts j
+lowest : (least : ℕ) (ts : List ℕ) (last : ℕ) → Climbs least ts last → (j : ℕ) → j < length ts → least ≤ time_at ts j
 lowest least [] last rises j within = absurd (omega arith)
 lowest least (t ∷ ts) last rises zero within = rises.0
 lowest least (t ∷ ts) last rises (suc j) within =
@@ -23,17 +24,13 @@ lowest least (t ∷ ts) last rises (suc j) within =
     let later : t ≤ time_at ts j = lowest t ts last rises.1 j (omega arith) in
     omega arith
 
-rising : (least : ℕ) (ts : List ℕ) (last : ℕ) → RisesTo least ts last → NeverFalls ts
+rising : (least : ℕ) (ts : List ℕ) (last : ℕ) → Climbs least ts last → NeverFalls ts
 rising least [] last rises i j before within = absurd (omega arith)
 rising least (t ∷ ts) last rises zero zero before within = omega arith
 rising least (t ∷ ts) last rises zero (suc j) before within = lowest t ts last rises.1 j (omega arith)
 rising least (t ∷ ts) last rises (suc i) zero before within = absurd (omega arith)
 rising least (t ∷ ts) last rises (suc i) (suc j) before within =
     rising t ts last rises.1 i j (omega arith) (omega arith)
-
-one_more : (least : ℕ) (ts : List ℕ) (last t : ℕ) → RisesTo least ts last → last ≤ t → RisesTo least (ts ++ t ∷ []) t
-one_more least [] last t rises later = (omega arith, omega arith)
-one_more least (u ∷ us) last t rises later = (rises.0, one_more u us last t rises.1 later)
 
 -- the time-points behind one entry more
 points_more : (s : Strategy) (es : List Entry) (p : TimePoint)
@@ -46,11 +43,11 @@ points_same s es t = ap (λ (a : Spot). a.points) (spot_more (first_spot s) es (
 
 module _ (core : CoreForm) (es : List Entry) (last : ℕ) (is : AreReadable core es last) where
   rises_more : (s : Strategy) (p : TimePoint) → last ≤ p.ts
-      → RisesTo 0 (times ((spot_after (first_spot s) es).points ++ p ∷ [])) p.ts
+      → Climbs 0 (times ((spot_after (first_spot s) es).points ++ p ∷ [])) p.ts
   rises_more s p later =
       let ps = (spot_after (first_spot s) es).points in
-      subst (λ ts. RisesTo 0 ts p.ts) (sym (map-append (λ (q : TimePoint). q.ts) ps (p ∷ [])))
-      (one_more 0 (times ps) last p.ts (is.rises s) later)
+      subst (λ ts. Climbs 0 ts p.ts) (sym (map-append (λ (q : TimePoint). q.ts) ps (p ∷ [])))
+      (climbs_push 0 (times ps) last p.ts (is.rises s) later)
 
   -- a time-point is put behind entries
   pub script_reads : (p : TimePoint) → last ≤ p.ts → length es < 2 ^ 63 → AreReadable core (es ++ Point p ∷ []) p.ts
@@ -59,7 +56,7 @@ module _ (core : CoreForm) (es : List Entry) (last : ℕ) (is : AreReadable core
       room = let few = is.few s in omega arith;
       rising = rising 0 _ p.ts (rises_more s p later);
     });
-    rises = λ s. subst (λ ps. RisesTo 0 (times ps) p.ts) (sym (points_more s es p)) (rises_more s p later);
+    rises = λ s. subst (λ ps. Climbs 0 (times ps) p.ts) (sym (points_more s es p)) (rises_more s p later);
     few = λ s.
         let few = is.few s in
         let points = ap length (points_more s es p) ∙ length-append _ (p ∷ []) in
@@ -71,7 +68,7 @@ module _ (core : CoreForm) (es : List Entry) (last : ℕ) (is : AreReadable core
   pub script_changes : (t : Strategy) → IsFor core t → AreReadable core (es ++ Change t ∷ []) last
   script_changes t fits = record {
     sound = λ s. sound_more core (first_spot s) es (Change t) (is.sound s) fits;
-    rises = λ s. subst (λ ps. RisesTo 0 (times ps) last) (sym (points_same s es t)) (is.rises s);
+    rises = λ s. subst (λ ps. Climbs 0 (times ps) last) (sym (points_same s es t)) (is.rises s);
     few = λ s.
         let few = is.few s in
         let points = ap length (points_same s es t) in

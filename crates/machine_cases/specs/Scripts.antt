@@ -1,18 +1,14 @@
 -- Entries that may be read one after the other.
-use Rattle.std.specs.Prelude.{ℕ, ◌≤◌, List, [], ◌∷◌, length}
+use Rattle.std.specs.Prelude.{ℕ, ◌≤◌, List, length}
 use Rattle.mfotl_model.specs.Log.{times}
 use Rattle.mfotl_model.specs.Strategies.{Strategy}
+use Rattle.mfotl_model.specs.Times.{Climbs}
 use Rattle.monitorable.specs.CoreForms.{CoreForm}
 use Rattle.rescale_core.specs.Lines.{AreSound, first_spot, spot_after}
 use Rattle.rescale_core.specs.declared.item.Entry.{Entry}
 
--- none lies below the one before it, the first not below the least, and the last not above another
-abbrev pub RisesTo : ℕ → List ℕ → ℕ → Type 0
-RisesTo least [] last = least ≤ last
-RisesTo least (t ∷ ts) last = (least ≤ t) × RisesTo t ts last
-
 -- the entries may be read under each first strategy, and no time-point of them is later than `last`
 pub record AreReadable (core : CoreForm) (entries : List Entry) (last : ℕ) : Type 0 where
   pub sound : (s : Strategy) → AreSound core (first_spot s) entries
-  pub rises : (s : Strategy) → RisesTo 0 (times (spot_after (first_spot s) entries).points) last
+  pub rises : (s : Strategy) → Climbs 0 (times (spot_after (first_spot s) entries).points) last
   pub few : (s : Strategy) → length (spot_after (first_spot s) entries).points ≤ length entries

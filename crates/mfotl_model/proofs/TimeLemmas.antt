@@ -1,9 +1,11 @@
 -- Timestamps that never fall, and the distances that an interval has.
-use Rattle.std.proofs.Common.{◌≡◌, ◌≤◌, ◌<◌, ℕ, List, ◌++◌, length, length-append, arith, Some, false, nat_le, ap, ◌∙◌}
+use Rattle.std.proofs.Common.{◌≡◌, ◌≤◌, ◌<◌, ℕ, List, [], ◌∷◌, ◌++◌, length, length-append, arith, Some, false}
+use Rattle.std.proofs.Common.{nat_le, ap, ◌∙◌}
 use Rattle.std.proofs.lemmas.List.{get_or_append_left}
 use Rattle.std.proofs.lemmas.Bool.{and_right, lt-leb}
 use Rattle.mfotl_model.specs.Laws.{FrontNeverFalls}
 use Rattle.mfotl_model.specs.Satisfaction.{time_at}
+use Rattle.mfotl_model.specs.Times.{Climbs}
 use Rattle.mfotl_model.specs.Intervals.{at_most, in_interval}
 use Rattle.mfotl_model.specs.declared.interval.Interval.{Interval}
 
@@ -17,6 +19,11 @@ front_never_falls times more rising i j before within =
     let longer : j < length (times ++ more) = omega (arith, length-append times more) in
     let rises : time_at (times ++ more) i ≤ time_at (times ++ more) j = rising i j before longer in
     omega arith
+
+-- a later timestamp more
+pub climbs_push : (x : ℕ) (ts : List ℕ) (y z : ℕ) → Climbs x ts y → y ≤ z → Climbs x (ts ++ z ∷ []) z
+climbs_push x [] y z h l = (omega arith, omega arith)
+climbs_push x (t ∷ ts) y z h l = (h.0, climbs_push t ts y z h.1 l)
 
 -- past the greatest distance an interval has nothing
 pub too_far : (interval : Interval) (hi d : ℕ) → interval.hi ≡ Some hi → hi < d → in_interval interval d ≡ false

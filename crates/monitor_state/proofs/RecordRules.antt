@@ -5,9 +5,10 @@ use Rattle.std.proofs.lemmas.List.{get_or-drop}
 use Rattle.std.specs.List.{AllByRecursion}
 use Rattle.mfotl_model.specs.Exact.{View}
 use Rattle.mfotl_model.specs.Log.{times}
+use Rattle.mfotl_model.specs.Times.{Climbs}
 use Rattle.mfotl_model.specs.declared.interval.Interval.{Interval}
 use Rattle.eval_since.specs.SinceData.{KeepsRule, KeepsTimes, SinceSetting, newest_of, setting_of}
-use Rattle.eval_since.specs.SinceView.{Climbs, SinceOf}
+use Rattle.eval_since.specs.SinceView.{SinceOf}
 use Rattle.eval_since.specs.declared.recalled.KeptRow.{KeptRow}
 use Rattle.eval_since.specs.declared.recalled.SinceData.{SinceData}
 use Rattle.eval_until.specs.UntilData.{UntilRule, setting_of as until_setting_of, until_of}

@@ -1,7 +1,8 @@
 use Rattle.std.proofs.Common.{◌≤◌, arith, length, map, ap}
 use Rattle.std.proofs.lemmas.List.{length_push}
+use Rattle.mfotl_model.proofs.TimeLemmas.{climbs_push}
 use Rattle.eval_since.specs.SinceView.{SinceOf}
-use Rattle.eval_since.proofs.FollowsLemmas.{climbs_push, follows_time}
+use Rattle.eval_since.proofs.FollowsLemmas.{follows_time}
 use Rattle.eval_since.proofs.since.SinceState.push_time.Goals as goal
 
 pub invariant_of-self-2 : goal.invariant_of-self-2
