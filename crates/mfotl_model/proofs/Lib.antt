@@ -11,4 +11,5 @@ pub mod AtomLemmas
 pub mod RegionLemmas
 pub mod ExactLemmas
 pub mod CountLemmas
+pub mod NumberLemmas
 pub mod ColumnLemmas

@@ -20,6 +20,7 @@ pub mod VerdictText
 pub mod Matching
 pub mod AtomSteps
 pub mod Strategies
+pub mod Numbers
 pub mod Regions
 pub mod Slices
 pub mod Exact

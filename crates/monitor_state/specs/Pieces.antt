@@ -1,6 +1,6 @@
 -- Pieces of states, and what a merge of some of them stands for.
-use Rattle.std.specs.Prelude.{◌≡◌, ◌≢◌, ℕ, ◌+◌, ◌<◌, Option, Some, None, List, [], ◌∷◌}
-use Rattle.std.specs.List.{AllByRecursion, list_any}
+use Rattle.std.specs.Prelude.{◌≡◌, ℕ, ◌+◌, Option, Some, None, List, [], ◌∷◌}
+use Rattle.std.specs.List.{list_any}
 use Rattle.mfotl_model.specs.Exact.{View}
 use Rattle.mfotl_model.specs.Regions.{Region, in_both, near_of}
 use Rattle.mfotl_model.specs.Strategies.{Strategy, workers_of}
@@ -52,12 +52,3 @@ Merges core s s2 k2 log (k ∷ ks) merged =
 abbrev pub Adopts : Option State → State → Option State → Type 0
 Adopts None piece new = new ≡ Some piece
 Adopts (Some state) piece new = (united : State) × (new ≡ Some united) × StateUnion state piece united
-
--- no two of the numbers are the same
-abbrev pub AllDiffer : List ℕ → Type 0
-AllDiffer [] = Unit {0}
-AllDiffer (k ∷ ks) = AllByRecursion (λ j. k ≢ j) ks × AllDiffer ks
-
--- each of the numbers is below n
-abbrev pub AllBelow : ℕ → List ℕ → Type 0
-AllBelow n ks = AllByRecursion (λ k. k < n) ks

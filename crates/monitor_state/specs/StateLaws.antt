@@ -2,12 +2,13 @@
 use Rattle.std.specs.Prelude.{◌≡◌, ℕ, ◌<◌, true, ◌||◌, Option, Some, List, ◌∷◌, length}
 use Rattle.mfotl_model.specs.Exact.{View}
 use Rattle.mfotl_model.specs.FreeVariables.{fv}
+use Rattle.mfotl_model.specs.Numbers.{AllBelow, Apart}
 use Rattle.mfotl_model.specs.Regions.{Passes, Region, in_both, near_of}
 use Rattle.mfotl_model.specs.Satisfaction.{Valuation}
 use Rattle.mfotl_model.specs.Strategies.{Strategy, workers_of}
 use Rattle.mfotl_model.specs.declared.event.TimePoint.{TimePoint}
 use Rattle.monitorable.specs.CoreForms.{CoreForm, meaning}
-use Rattle.monitor_state.specs.Pieces.{Adopts, AllBelow, AllDiffer, Merges, PieceStands, view_of}
+use Rattle.monitor_state.specs.Pieces.{Adopts, Merges, PieceStands, view_of}
 use Rattle.monitor_state.specs.StateCuts.{StateCut}
 use Rattle.monitor_state.specs.StateInside.{StandsInside}
 use Rattle.monitor_state.specs.StateRules.{StateRule}
@@ -63,7 +64,7 @@ abbrev pub AllMerged : Type 0
 AllMerged =
     (core : CoreForm) (s s2 : Strategy) (k2 : ℕ) (log : List TimePoint) (ks : List ℕ) (merged : Option State)
     → ((vs : List ℕ) (v : Valuation) → (k : ℕ) × (k < workers_of s) × (near_of s k vs v ≡ true))
-    → 0 < workers_of s → Merges core s s2 k2 log ks merged → AllDiffer ks → AllBelow (workers_of s) ks
+    → 0 < workers_of s → Merges core s s2 k2 log ks merged → Apart ks → AllBelow (workers_of s) ks
     → length ks ≡ workers_of s
     → (state : State) × (merged ≡ Some state) × StateRule core state
     × StateStands (view_of core (near_of s2 k2) log) core state

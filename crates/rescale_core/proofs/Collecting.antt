@@ -17,7 +17,7 @@ use Rattle.rescale_core.proofs.WorldLemmas.{supplies_pieces}
 use Rattle.rescale_core.proofs.WorldLemmas.{AreChanges, Rises, line_rises, line_changes}
 use Rattle.rescale_core.specs.Lines.{ChangeOfStrategy, Due, first_spot}
 use Rattle.rescale_core.specs.Soundly.{Known, change_of, last_part, KnownRow, last_level, IsSeated, IsSound}
-use Rattle.rescale_core.specs.Phases.{NotIn, Answers}
+use Rattle.rescale_core.specs.Phases.{Answers}
 use Rattle.rescale_core.specs.Workers.{settled_in}
 use Rattle.rescale_core.specs.Handing.{for_place}
 use Rattle.rescale_core.specs.Worlds.{pieces_in, World, Seat, line_in}
@@ -25,8 +25,8 @@ use Rattle.rescale_core.specs.Worlds.{set_seat}
 use Rattle.rescale_core.specs.Worlds.{all_collected, world_after}
 use Rattle.rescale_core.specs.Worlds.{slice_at, rows_in}
 use Rattle.std.specs.List.{AllByRecursion}
+use Rattle.mfotl_model.specs.Numbers.{Apart, NotIn}
 use Rattle.verdict_merge.specs.Gathers.{rows_at}
-use Rattle.verdict_merge.specs.Laws.{Apart}
 use Rattle.monitor_state.specs.declared.state.Piece.{Piece}
 use Rattle.rescale_core.specs.declared.item.Out.{Out}
 use Rattle.verdict_merge.specs.declared.rows.Rows.{Rows}

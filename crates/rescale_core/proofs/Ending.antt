@@ -5,9 +5,9 @@ use Rattle.std.proofs.lemmas.List.{length-map, take_all}
 use Rattle.std.proofs.lemmas.Bool.{cases_lt}
 use Rattle.std.proofs.lemmas.Map.Steps.{le-length_from_below}
 use Rattle.std.specs.List.{list_any}
+use Rattle.mfotl_model.proofs.NumberLemmas.{at_most}
 use Rattle.mfotl_model.specs.Strategies.{workers_of}
 use Rattle.mfotl_model.proofs.LogicLemmas.{filtered_found}
-use Rattle.verdict_merge.proofs.CountLemmas.{at_most}
 use Rattle.verdict_merge.specs.Gathers.{rows_at}
 use Rattle.verdict_merge.specs.declared.rows.Rows.{Rows}
 use Rattle.rescale_core.proofs.Emitting.{DueRow, below_of, due_all}

@@ -1,15 +1,15 @@
 -- What is handed over from the queues fits.
 use Rattle.std.proofs.Common.{◌≡◌, ℕ, zero, suc, ◌+◌, Bool, true, false, cond, ◌&&◌, nat_eq, Option, Some, List, []}
 use Rattle.std.proofs.Common.{◌∷◌, length, map, filter, sym, refl, ap, ◌∙◌, subst, ⊎_elim, eqb-true}
+use Rattle.mfotl_model.specs.Numbers.{Apart, NotIn}
 use Rattle.mfotl_model.specs.Strategies.{Strategy, workers_of}
 use Rattle.rescale_core.proofs.Chains.{Chain}
 use Rattle.rescale_core.proofs.WorldLemmas.{mapped, AreChanges}
 use Rattle.rescale_core.specs.Lines.{ChangeOfStrategy, Due}
 use Rattle.rescale_core.specs.Soundly.{Supplies, Known}
-use Rattle.rescale_core.specs.Phases.{NotIn, PhaseOf, froms_of, IsPieceFor, Meets, phase_after, AllMeet, FitsPhase}
+use Rattle.rescale_core.specs.Phases.{PhaseOf, froms_of, IsPieceFor, Meets, phase_after, AllMeet, FitsPhase}
 use Rattle.rescale_core.specs.Handing.{nth, for_place, item_of}
 use Rattle.std.specs.List.{AllByRecursion}
-use Rattle.verdict_merge.specs.Laws.{Apart}
 use Rattle.monitorable.specs.CoreForms.{CoreForm}
 use Rattle.monitor_state.specs.declared.state.Piece.{Piece}
 use Rattle.rescale_core.specs.declared.item.Item.{Item}

@@ -17,14 +17,13 @@ use Rattle.rescale_core.proofs.WorldLemmas.{spot_more}
 use Rattle.rescale_core.specs.Lines.{Spot, Due, moved, spot_after, first_spot}
 use Rattle.rescale_core.specs.Routing.{IsGatherIn, IsGatherOf, MayAdd}
 use Rattle.rescale_core.specs.Soundly.{IsSound, KnownRow}
-use Rattle.rescale_core.specs.Phases.{NotIn}
 use Rattle.rescale_core.specs.Worlds.{World, IsGathered, not_back, slice_at, spot_in, rows_in, Allowed, world_after}
 use Rattle.std.specs.List.{AllByRecursion, find, list_any}
 use Rattle.verdict_merge.specs.Emitted.{Emits}
 use Rattle.verdict_merge.specs.Gathers.{GatherOf, gathered_rows, complete_ts, is_from, is_generation, rows_at}
 use Rattle.verdict_merge.specs.Gathers.{workers_found, workers_in}
-use Rattle.verdict_merge.specs.Laws.{Apart}
 use Rattle.mfotl_model.specs.Ascending.{ascending}
+use Rattle.mfotl_model.specs.Numbers.{Apart, NotIn}
 use Rattle.mfotl_model.specs.Values.{row_cmp}
 use Rattle.mfotl_model.specs.declared.event.TimePoint.{TimePoint}
 use Rattle.rescale_core.specs.declared.item.Entry.{Entry}

@@ -4,6 +4,7 @@ use Rattle.std.proofs.Common.{length, map, sym, ap, ◌∙◌, subst, arith, len
 use Rattle.std.proofs.lemmas.List.Elements.{filter-append}
 use Rattle.std.proofs.lemmas.List.{length-map, nil_from_length}
 use native.Mathlib.Decide.{ℕ_discrete}
+use Rattle.mfotl_model.proofs.NumberLemmas.{at_most}
 use Rattle.mfotl_model.specs.Strategies.{workers_of}
 use Rattle.rescale_core.proofs.Emitting.{DueRow, below_of, due_all}
 use Rattle.rescale_core.proofs.Fitting.{every_map}
@@ -12,7 +13,6 @@ use Rattle.rescale_core.proofs.Collecting.{collect_sound}
 use Rattle.rescale_core.specs.Lines.{first_spot}
 use Rattle.rescale_core.specs.Soundly.{IsSound}
 use Rattle.rescale_core.specs.Worlds.{World, Step, not_back, rows_in, Allowed, IsGathered, world_after}
-use Rattle.verdict_merge.proofs.CountLemmas.{at_most}
 use Rattle.verdict_merge.specs.Gathers.{rows_at}
 use Rattle.verdict_merge.specs.declared.rows.Rows.{Rows}
 use Rattle.rescale_core.specs.Lines.Due.{Slicing}

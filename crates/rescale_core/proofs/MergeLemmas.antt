@@ -1,6 +1,7 @@
 -- What splitting, adopting and finishing do for a worker.
 use Rattle.std.proofs.Common.{◌≡◌, ℕ, ◌+◌, ◌<◌, ◌≤◌, Option, Some, None, IfSome, List, [], ◌∷◌, length}
 use Rattle.std.proofs.Common.{sym, refl, ap, ◌∙◌, subst, arith}
+use Rattle.mfotl_model.proofs.NumberLemmas.{at_most}
 use Rattle.mfotl_model.specs.FreeVariables.{fv, among}
 use Rattle.mfotl_model.specs.Regions.{near_of}
 use Rattle.mfotl_model.specs.Strategies.{Strategy, workers_of}
@@ -9,7 +10,7 @@ use Rattle.mfotl_model.proofs.LogicLemmas.{among_range}
 use Rattle.monitorable.proofs.SoundLaw.{parts_are_sound}
 use Rattle.monitorable.specs.CoreForms.{CoreForm, meaning}
 use Rattle.monitor_state.specs.MonitorView.{monitor_of}
-use Rattle.monitor_state.specs.Pieces.{AllDiffer, PieceStands, Merges as HasMerged, view_of}
+use Rattle.monitor_state.specs.Pieces.{PieceStands, Merges as HasMerged, view_of}
 use Rattle.monitor_state.specs.Resuming.{SuitsWhole}
 use Rattle.monitor_state.specs.Stands.{Stands}
 use Rattle.monitor_state.specs.declared.monitor.Monitor.{Monitor}
@@ -24,8 +25,6 @@ use Rattle.state_merge.specs.MergingView.{merging_of}
 use Rattle.state_merge.specs.declared.merging.Merging.{Merging}
 use Rattle.state_split.proofs.CutLaw.{strategies_cut}
 use Rattle.state_split.specs.Splits.{AreNumbered, PiecesStand}
-use Rattle.verdict_merge.proofs.CountLemmas.{at_most}
-use Rattle.verdict_merge.specs.Laws.{Apart}
 use Rattle.rescale_core.proofs.SliceLemmas.{region_passes}
 use Rattle.rescale_core.specs.States.{Adopted, CanAdopt, FinishesMerging, IsFull, MergesMore, Splits}
 use Rattle.rescale_core.specs.Workers.{IsFor}
@@ -90,17 +89,13 @@ merges_more old new piece same_core same_count one_more more core s s2 k2 log fr
 
 -- ---- finishing
 
-differ : (ks : List ℕ) → Apart ks → AllDiffer ks
-differ [] apart = tt
-differ (k ∷ ks) apart = (apart.0, differ ks apart.1)
-
 all_adopted : (core : CoreForm) (s : Strategy) (froms : List ℕ) → IsFor core s → Adopted s froms
     → length froms ≡ workers_of s → AllAdopted s froms
 all_adopted core s froms is adopted size =
     record {
       covers = λ vs v. strategy_covers s vs v is.workers.some;
       some = is.workers.some;
-      differ = differ froms adopted.distinct;
+      differ = adopted.distinct;
       below = adopted.near;
       size = size;
     }

@@ -3,6 +3,7 @@ use Rattle.std.proofs.Common.{◌≡◌, ◌≢◌, ℕ, ◌+◌, ◌-◌, ◌<�
 use Rattle.std.proofs.Common.{map, sym, refl, ap, ◌∙◌, subst, arith}
 use Rattle.std.proofs.lemmas.List.{length-map}
 use native.Mathlib.Decide.{ℕ_discrete}
+use Rattle.mfotl_model.specs.Numbers.{NotIn}
 use Rattle.mfotl_model.specs.Strategies.{Strategy, workers_of}
 use Rattle.monitorable.specs.CoreForms.{CoreForm}
 use Rattle.monitorable.specs.Cores.{core_form}
@@ -12,7 +13,7 @@ use Rattle.rescale_core.specs.Lines.{Due, ChangeOfStrategy}
 use Rattle.rescale_core.specs.Lines.Due.{Slicing, Parting, Hole}
 use Rattle.monitor_state.specs.Pieces.{AreCuts, PieceStands}
 use Rattle.rescale_core.specs.States.{Adopted, CanAdopt, IsFull, MergesPieces, MergesMore, Splits}
-use Rattle.rescale_core.specs.Phases.{FitsPhase, AnswersOne, IsPieceFor, Meets, NotIn, Parts, PhaseOf, froms_of}
+use Rattle.rescale_core.specs.Phases.{FitsPhase, AnswersOne, IsPieceFor, Meets, Parts, PhaseOf, froms_of}
 use Rattle.rescale_core.specs.Phases.{phase_after}
 use Rattle.rescale_core.specs.Phases.PhaseOf.{Active, Vacant, Waiting}
 use Rattle.rescale_core.specs.Workers.{IsFor}

@@ -7,17 +7,17 @@ use Rattle.std.proofs.lemmas.List.Elements.{filter-append}
 use Rattle.std.proofs.lemmas.List.{length-map}
 use Rattle.std.proofs.Permutation.{every_append}
 use native.Mathlib.Decide.{ℕ_discrete}
+use Rattle.mfotl_model.specs.Numbers.{Apart, NotIn}
 use Rattle.mfotl_model.specs.Strategies.{Strategy, workers_of}
 use Rattle.rescale_core.proofs.Fitting.{and_right, every_map}
 use Rattle.rescale_core.proofs.WorldLemmas.{AreChanges, Rises}
 use Rattle.rescale_core.specs.Lines.{ChangeOfStrategy, Due}
 use Rattle.rescale_core.specs.Soundly.{Known, last_part}
-use Rattle.rescale_core.specs.Phases.{NotIn, IsPieceFor, AnswersOne, Parts, Answers, rows_for}
+use Rattle.rescale_core.specs.Phases.{IsPieceFor, AnswersOne, Parts, Answers, rows_for}
 use Rattle.rescale_core.specs.Workers.{newly}
 use Rattle.rescale_core.specs.Handing.{for_place}
 use Rattle.rescale_core.specs.Worlds.{pieces_in}
 use Rattle.std.specs.List.{AllByRecursion}
-use Rattle.verdict_merge.specs.Laws.{Apart}
 use Rattle.monitorable.specs.CoreForms.{CoreForm}
 use Rattle.monitor_state.specs.declared.state.Piece.{Piece}
 use Rattle.rescale_core.specs.declared.item.Out.{Out}

@@ -4,10 +4,10 @@ use Rattle.std.proofs.Common.{Option, Some, None, option_map, List, [], ◌∷�
 use Rattle.std.proofs.Common.{◌∙◌, subst, inl, inr, ⊎_elim, arith, eq-eqb, eqb-true, ne_eqb}
 use Rattle.std.proofs.lemmas.List.{length-map, drop_all}
 use Rattle.std.specs.List.{AllByRecursion, range_with_len}
+use Rattle.mfotl_model.proofs.NumberLemmas.{at_most}
 use Rattle.mfotl_model.specs.Strategies.{workers_of}
 use Rattle.monitorable.specs.CoreForms.{CoreForm}
 use Rattle.monitor_state.specs.declared.state.Piece.{Piece}
-use Rattle.verdict_merge.proofs.CountLemmas.{at_most}
 use Rattle.rescale_core.proofs.Fitting.{and_left, every_filter, every_map}
 use Rattle.rescale_core.proofs.WorldLemmas.{AreChanges, behind_change, if_either, line_changes}
 use Rattle.rescale_core.specs.Chances.{Chance, Standing}

@@ -1,7 +1,7 @@
 -- The phases of a worker, what meets what it is due, and what answers that.
 use Rattle.std.specs.Prelude.{◌≡◌, ◌≢◌, ◌⊎◌, ℕ, ◌+◌, ◌<◌, cond, nat_eq, List, [], ◌∷◌, ◌++◌, length, map}
-use Rattle.std.specs.List.{AllByRecursion}
 use Rattle.mfotl_model.specs.Log.{times}
+use Rattle.mfotl_model.specs.Numbers.{NotIn}
 use Rattle.mfotl_model.specs.Satisfaction.{time_at}
 use Rattle.mfotl_model.specs.Strategies.{Strategy, workers_of}
 use Rattle.mfotl_model.specs.declared.event.TimePoint.{TimePoint}
@@ -28,10 +28,6 @@ abbrev pub froms_of : PhaseOf → List ℕ
 froms_of (Active s log) = []
 froms_of Vacant = []
 froms_of (Waiting t froms) = froms
-
--- the number is none of these
-abbrev pub NotIn : ℕ → List ℕ → Type 0
-NotIn x ys = AllByRecursion (λ y. x ≢ y) ys
 
 -- the piece is one of those that the change asks of a worker for worker k
 pub record IsPieceFor (core : CoreForm) (t : ChangeOfStrategy) (k : ℕ) (p : Piece) : Type 0 where

@@ -2,11 +2,11 @@
 use Rattle.std.specs.Prelude.{◌≡◌, ℕ, ◌+◌, ◌<◌, ◌≤◌, cond, nat_eq, Option, Some, None, List, [], ◌∷◌, ◌++◌, length}
 use Rattle.std.specs.Prelude.{filter, map, take}
 use Rattle.std.specs.List.{AllByRecursion}
+use Rattle.mfotl_model.specs.Numbers.{Apart}
 use Rattle.mfotl_model.specs.Strategies.{Strategy, workers_of}
 use Rattle.mfotl_model.specs.declared.event.TimePoint.{TimePoint}
 use Rattle.monitorable.specs.CoreForms.{CoreForm}
 use Rattle.verdict_merge.specs.Gathers.{rows_at}
-use Rattle.verdict_merge.specs.Laws.{Apart}
 use Rattle.verdict_merge.specs.declared.rows.Rows.{Rows}
 use Rattle.rescale_core.specs.Workers.{IsFor, settled_in}
 use Rattle.rescale_core.specs.Lines.{ChangeOfStrategy, Spot, Due, change_at, moved, first_spot, AreSound}

@@ -1,6 +1,6 @@
 -- What splitting a worker's state gives, and what a merge of pieces stands for.
-use Rattle.std.specs.Prelude.{◌≡◌, ℕ, ◌<◌, None, List, ◌∷◌, length}
-use Rattle.std.specs.List.{AllByRecursion}
+use Rattle.std.specs.Prelude.{◌≡◌, ℕ, None, List, ◌∷◌, length}
+use Rattle.mfotl_model.specs.Numbers.{AllBelow, Apart}
 use Rattle.mfotl_model.specs.Strategies.{Strategy, workers_of}
 use Rattle.mfotl_model.specs.declared.event.TimePoint.{TimePoint}
 use Rattle.monitorable.specs.CoreForms.{CoreForm}
@@ -9,7 +9,6 @@ use Rattle.monitor_state.specs.declared.monitor.Monitor.{Monitor}
 use Rattle.monitor_state.specs.declared.state.Piece.{Piece}
 use Rattle.state_merge.specs.MergingView.{merging_of}
 use Rattle.state_merge.specs.declared.merging.Merging.{Merging}
-use Rattle.verdict_merge.specs.Laws.{Apart}
 use Rattle.rescale_core.specs.Monitors.{IsMonitor}
 use Rattle.rescale_core.specs.Workers.{IsFor}
 
@@ -23,7 +22,7 @@ Splits monitor s from s2 generation pieces =
 -- pieces of these workers were adopted, each once
 pub record Adopted (s : Strategy) (froms : List ℕ) : Type 0 where
   pub distinct : Apart froms
-  pub near : AllByRecursion (λ x. x < workers_of s) froms
+  pub near : AllBelow (workers_of s) froms
 
 -- the merge has just the pieces of these workers for worker k2
 pub record MergesPieces (core : CoreForm) (s s2 : Strategy) (k2 : ℕ) (log : List TimePoint) (froms : List ℕ)

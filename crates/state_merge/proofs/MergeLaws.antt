@@ -1,16 +1,16 @@
 -- What is adopted, and what is merged of all pieces.
-use Rattle.std.proofs.Common.{◌≡◌, ◌≢◌, ℕ, ◌≤◌, ◌<◌, Bool, true, false, ◌&&◌, ◌||◌, List, [], ◌∷◌, length, Option, None}
+use Rattle.std.proofs.Common.{◌≡◌, ◌≢◌, ℕ, Bool, true, false, ◌&&◌, ◌||◌, List, [], ◌∷◌, Option, None}
 use Rattle.std.proofs.Common.{Some, refl, sym, subst, ap, ◌∙◌, arith, inl, inr}
 use Rattle.std.proofs.Math.Dec.{eqb}
-use Rattle.std.proofs.lemmas.Bool.{and_from, eqb-true, ne_eqb, or_cases, or_left, or_parts, or_right}
-use Rattle.std.proofs.lemmas.Map.Steps.{length-le_from_distinct_below}
-use Rattle.std.specs.List.{AllByRecursion, IsDistinct, list_any}
+use Rattle.std.proofs.lemmas.Bool.{and_from, eqb-true, or_cases, or_left, or_right}
+use Rattle.std.specs.List.{list_any}
+use Rattle.mfotl_model.proofs.NumberLemmas.{every_there}
 use Rattle.mfotl_model.specs.Regions.{Region, in_both, near_of}
 use Rattle.mfotl_model.specs.Satisfaction.{Valuation}
 use Rattle.mfotl_model.specs.Strategies.{Strategy, workers_of}
 use Rattle.mfotl_model.specs.declared.event.TimePoint.{TimePoint}
 use Rattle.monitorable.specs.CoreForms.{CoreForm}
-use Rattle.monitor_state.specs.Pieces.{Adopts, AllBelow, AllDiffer, Merges, PieceStands, near_some, view_of}
+use Rattle.monitor_state.specs.Pieces.{Adopts, Merges, PieceStands, near_some, view_of}
 use Rattle.monitor_state.specs.StateInside.{StandsInside}
 use Rattle.monitor_state.specs.StateLaws.{AdoptMerges, AllMerged}
 use Rattle.monitor_state.specs.StateRules.{StateRule}
@@ -60,42 +60,6 @@ adopt_merges core s s2 k2 log (j ∷ ks) k old new piece merged stands adopts =
           (λ vs v. spread (near_of s k vs v) (near_some s (j ∷ ks) vs v) (near_of s2 k2 vs v))
           merged.2 stands some.2,
     )
-
--- ---- as many numbers as there are workers, none twice, are all of them
-
-apart : (k : ℕ) (ks : List ℕ) → AllByRecursion (λ j. k ≢ j) ks → AllByRecursion (λ j. eqb k j ≡ false) ks
-apart k [] all = tt
-apart k (j ∷ ks) all = (ne_eqb k j all.0, apart k ks all.1)
-
-distinct : (ks : List ℕ) → AllDiffer ks → IsDistinct eqb ks
-unfolding IsDistinct
-distinct [] all = tt
-distinct (k ∷ ks) all = (apart k ks all.0, distinct ks all.1)
-
-not_among : (k : ℕ) (ks : List ℕ) → list_any (eqb k) ks ≡ false → AllByRecursion (λ j. eqb k j ≡ false) ks
-not_among k [] none = tt
-not_among k (j ∷ ks) none =
-    let parts = or_parts (eqb k j) (list_any (eqb k) ks) none in (parts.0, not_among k ks parts.1)
-
-is_below : (n : ℕ) (ks : List ℕ) → AllBelow n ks → (q : ℕ) → list_any (eqb q) ks ≡ true → q < n
-is_below n [] all q there = absurd (let w : false ≡ true = there in cc)
-is_below n (k ∷ ks) all q there = elim (or_cases (eqb q k) (list_any (eqb q) ks) there) [
-  | inl here ↦ let same : q ≡ k = eqb-true q k here in let low = all.0 in omega arith
-  | inr more ↦ is_below n ks all.1 q more
-]
-
-every_there : (n : ℕ) (ks : List ℕ) → AllDiffer ks → AllBelow n ks → length ks ≡ n → (k : ℕ) → k < n
-    → list_any (eqb k) ks ≡ true
-unfolding IsDistinct
-every_there n ks differ below size k low = by (list_any (eqb k) ks) refl
-  where
-    by : (b : Bool) → list_any (eqb k) ks ≡ b → b ≡ true
-    by true e = refl
-    by false e =
-        let most : length (k ∷ ks) ≤ n =
-        length-le_from_distinct_below (k ∷ ks) n (not_among k ks e, distinct ks differ) (is_below n (k ∷ ks)
-        (low, below)) in
-        absurd (omega arith)
 
 -- what passes at a number passes at one of a list that has it
 found : (p : ℕ → Bool) (k : ℕ) (ks : List ℕ) → p k ≡ true → list_any (eqb k) ks ≡ true → list_any p ks ≡ true

@@ -7,9 +7,9 @@ use Rattle.std.proofs.lemmas.List.{map-append, reverse-append}
 use Rattle.std.proofs.lemmas.List.Folds.{find-append}
 use Rattle.std.specs.List.{AllByRecursion, find}
 use Rattle.std.specs.Option.{option_or}
+use Rattle.mfotl_model.specs.Numbers.{Apart}
 use Rattle.verdict_merge.specs.Gathers.{is_generation, workers_found, workers_in}
 use Rattle.verdict_merge.specs.Generations.{AreBegun}
-use Rattle.verdict_merge.specs.Laws.{Apart}
 use Rattle.verdict_merge.specs.declared.rows.Begun.{Begun}
 
 abbrev numbers : List Begun → List ℕ

@@ -1,4 +1,3 @@
-pub mod CountLemmas
 pub mod MergeLemmas
 pub mod OwnerLemmas
 pub mod MergedLists

@@ -10,12 +10,13 @@ use Rattle.std.specs.Ordering.{eq_by_cmp}
 use Rattle.std.specs.Cmp.{both_ways}
 use native.Mathlib.Decide.{ℕ_discrete}
 use Rattle.mfotl_model.proofs.AscendingLemmas.{any_ascending, sorted_ascending}
+use Rattle.mfotl_model.proofs.NumberLemmas.{at_most, every_there}
 use Rattle.mfotl_model.proofs.RowLemmas.{row_exact}
 use Rattle.mfotl_model.proofs.LogicLemmas.{filtered_found}
 use Rattle.mfotl_model.specs.Ascending.{ascending}
+use Rattle.mfotl_model.specs.Numbers.{NotIn}
 use Rattle.mfotl_model.specs.Values.{row_cmp, row_total}
 use Rattle.mfotl_model.specs.declared.value.Value.{Value}
-use Rattle.verdict_merge.proofs.CountLemmas.{at_most}
 use Rattle.verdict_merge.specs.Gathers.{gathered_rows}
 use Rattle.verdict_merge.specs.Laws.{EveryWorker, IsPartition, OwnersMerge}
 use Rattle.verdict_merge.specs.declared.rows.Rows.{Rows}
@@ -68,13 +69,13 @@ module _ (p : List Value → Bool) where
           at false e next h = next h
 
       found : (k : ℕ) (given : List Rows) → Parts given → list_any p (part k all) ≡ true
-          → (list_any p (gathered_rows given) ≡ true) ⊎ AllByRecursion (λ j. k ≢ j) (workers given)
+          → (list_any p (gathered_rows given) ≡ true) ⊎ NotIn k (workers given)
       found k [] parts h = inr tt
       found k (r ∷ rs) parts h = at (ℕ_discrete k r.worker) (found k rs parts.1 h)
         where
-          at : Dec (k ≡ r.worker) → (list_any p (gathered_rows rs) ≡ true) ⊎ AllByRecursion (λ j. k ≢ j) (workers rs)
+          at : Dec (k ≡ r.worker) → (list_any p (gathered_rows rs) ≡ true) ⊎ NotIn k (workers rs)
               → (list_any p (r.rows ++ gathered_rows rs) ≡ true)
-              ⊎ ((k ≢ r.worker) × AllByRecursion (λ j. k ≢ j) (workers rs))
+              ⊎ ((k ≢ r.worker) × NotIn k (workers rs))
           at (yes e) next =
               let here : list_any p r.rows ≡ true =
               ap (list_any p) parts.0 ∙ subst (λ j. list_any p (part j all) ≡ true) e h in
@@ -103,18 +104,5 @@ owners_merge owner n given all sorted is =
     (in_all (eq_by_cmp row_cmp q) owner all given is.parts) (in_given (eq_by_cmp row_cmp q) owner all n given is))
     row_exact
 
-among : (k : ℕ) (ks : List ℕ) → (list_any (nat_eq k) ks ≡ true) ⊎ AllByRecursion (λ j. k ≢ j) ks
-among k [] = inr tt
-among k (j ∷ js) = at (ℕ_discrete k j) (among k js)
-  where
-    at : Dec (k ≡ j) → (list_any (nat_eq k) js ≡ true) ⊎ AllByRecursion (λ i. k ≢ i) js
-        → ((nat_eq k j || list_any (nat_eq k) js) ≡ true) ⊎ ((k ≢ j) × AllByRecursion (λ i. k ≢ i) js)
-    at (yes e) next = inl (ap (λ b. b || list_any (nat_eq k) js) (eq-eqb k j e))
-    at (no n) (inl t) = inl (ap (λ b. nat_eq k j || b) t ∙ or-true (nat_eq k j))
-    at (no n) (inr none) = inr (n, none)
-
 pub every_worker : EveryWorker
-every_worker count workers apart near whole k low =
-    ⊎_elim (λ e. e)
-    (λ none. absurd (let more = at_most count (k ∷ workers) (none, apart) (low, near) in omega arith))
-    (among k workers)
+every_worker = every_there

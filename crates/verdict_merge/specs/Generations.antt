@@ -1,8 +1,8 @@
 -- What is true of the generations that were begun.
 use Rattle.std.specs.Prelude.{◌<◌, List, map}
 use Rattle.std.specs.List.{AllByRecursion}
+use Rattle.mfotl_model.specs.Numbers.{Apart}
 use Rattle.verdict_merge.specs.declared.rows.Begun.{Begun}
-use Rattle.verdict_merge.specs.Laws.{Apart}
 
 -- no two have the same number, and each has workers
 pub record AreBegun (begun : List Begun) : Type 0 where

@@ -1,8 +1,9 @@
 -- Laws of merged rows.
-use Rattle.std.specs.Prelude.{◌≡◌, ◌≢◌, ℕ, ◌<◌, ⊤, true, nat_eq, List, [], ◌∷◌, length, map, filter, Option}
+use Rattle.std.specs.Prelude.{◌≡◌, ℕ, ◌<◌, true, nat_eq, List, length, map, filter, Option}
 use Rattle.std.specs.List.{AllByRecursion, list_any}
 use Rattle.std.specs.List.Sorted.{IsPermutation, IsStrictlySortedBy}
 use Rattle.mfotl_model.specs.Ascending.{ascending}
+use Rattle.mfotl_model.specs.Numbers.{AllBelow, Apart}
 use Rattle.mfotl_model.specs.Values.{row_cmp}
 use Rattle.mfotl_model.specs.declared.value.Value.{Value}
 use Rattle.verdict_merge.specs.declared.rows.Rows.{Rows}
@@ -16,17 +17,12 @@ PartitionMerges =
     (given : List Rows) (all : List (List Value)) → IsStrictlySortedBy row_cmp all
     → IsPermutation (gathered_rows given) all → ascending row_cmp (gathered_rows given) ≡ all
 
--- no number stands twice
-abbrev pub Apart : List ℕ → Type 0
-Apart [] = ⊤
-Apart (k ∷ ks) = AllByRecursion (λ j. k ≢ j) ks × Apart ks
-
 -- the Rows of so many workers are by owner a partition of a list: each worker's Rows are there once, with the
 -- rows of the list that the worker owns
 pub record IsPartition (owner : List Value → ℕ) (count : ℕ) (given : List Rows) (all : List (List Value)) : Type 0 where
   pub owned : AllByRecursion (λ row. owner row < count) all
   pub parts : AllByRecursion (λ (r : Rows). r.rows ≡ filter (λ row. nat_eq (owner row) r.worker) all) given
-  pub near : AllByRecursion (λ k. k < count) (map (λ (r : Rows). r.worker) given)
+  pub near : AllBelow count (map (λ (r : Rows). r.worker) given)
   pub apart : Apart (map (λ (r : Rows). r.worker) given)
   pub whole : length (map (λ (r : Rows). r.worker) given) ≡ count
 
@@ -39,8 +35,8 @@ OwnersMerge =
 -- so many Rows of workers below a number as the number, no worker's twice, are the Rows of every one of them
 abbrev pub EveryWorker : Type 0
 EveryWorker =
-    (count : ℕ) (workers : List ℕ) → Apart workers → AllByRecursion (λ k. k < count) workers
-    → length workers ≡ count → (k : ℕ) → k < count → list_any (nat_eq k) workers ≡ true
+    (count : ℕ) (workers : List ℕ) → Apart workers → AllBelow count workers → length workers ≡ count
+    → (k : ℕ) → k < count → list_any (nat_eq k) workers ≡ true
 
 -- what was gathered settles what comes out, and what is gathered then
 abbrev pub EmitsOne : Type 0
