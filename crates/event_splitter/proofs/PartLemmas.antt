@@ -21,7 +21,8 @@ use Rattle.mfotl_model.specs.Tables.{valuation}
 use Rattle.mfotl_model.specs.declared.event.Event.{Event}
 use Rattle.mfotl_model.specs.declared.event.TimePoint.{TimePoint}
 use Rattle.mfotl_model.specs.declared.term.Atom.{Atom as OneAtom}
-use Rattle.event_splitter.specs.Parts.{given_to, with_event}
+use Rattle.slice_strategy.specs.Sharing.{given_to}
+use Rattle.event_splitter.specs.Parts.{with_event}
 use Rattle.event_splitter.specs.Readings.{is_near, reading_of, readings_of, some_near}
 
 module _ (free : List ℕ) (near : Region) (passes : Passes free near) where
@@ -76,7 +77,7 @@ abbrev pub part_of : (ℕ → Region) → List OneAtom → ℕ → List Event �
 part_of near atoms ts events k = record { ts = ts; db = slice (near k) atoms (ascending event_cmp events) }
 
 given_range : (test : ℕ → Bool) (event : Event) (f : ℕ → TimePoint) (y n : ℕ)
-    → given_to test event y (map f (range_with_len y n))
+    → given_to (with_event event) test y (map f (range_with_len y n))
     ≡ map (λ k. cond (test k) (with_event event (f k)) (f k)) (range_with_len y n)
 given_range test event f y zero = refl
 given_range test event f y (suc n) =
@@ -85,7 +86,7 @@ given_range test event f y (suc n) =
 -- the parts with one event more
 pub parts_more : (free : List ℕ) (near : ℕ → Region) → ((k : ℕ) → Passes free (near k))
     → (n ts : ℕ) (atoms : List OneAtom) (events : List Event) (event : Event)
-    → given_to (λ k. some_near (readings_of atoms event) (near k)) event 0
+    → given_to (with_event event) (λ k. some_near (readings_of atoms event) (near k)) 0
     (map (part_of near atoms ts events) (range_with_len 0 n))
     ≡ map (part_of near atoms ts (events ++ event ∷ [])) (range_with_len 0 n)
 parts_more free near passes n ts atoms events event =

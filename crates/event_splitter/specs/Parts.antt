@@ -1,6 +1,6 @@
 -- The parts of a time-point for workers.
 use Rattle.std.specs.BTreeSet.{insert_key}
-use Rattle.std.specs.Prelude.{ℕ, ◌+◌, Bool, List, [], ◌∷◌, map, if◌then◌else◌}
+use Rattle.std.specs.Prelude.{ℕ, List, map}
 use Rattle.std.specs.List.{range_with_len}
 use Rattle.mfotl_model.specs.Events.{event_cmp}
 use Rattle.mfotl_model.specs.Regions.{Region}
@@ -20,9 +20,3 @@ parts_for n near atoms point = map (λ k. part_for (near k) atoms point) (range_
 -- the time-point with one event more
 abbrev pub with_event : Event → TimePoint → TimePoint
 with_event event point = record { ts = point.ts; db = insert_key event_cmp point.db event }
-
--- the event put into those of the parts whose numbers, counted from y, pass the test
-abbrev pub given_to : (ℕ → Bool) → Event → ℕ → List TimePoint → List TimePoint
-given_to test event y [] = []
-given_to test event y (part ∷ parts) =
-    (if test y then with_event event part else part) ∷ given_to test event (y + 1) parts

@@ -1,5 +1,5 @@
 -- What events give to atoms, and the workers that it is near to.
-use Rattle.std.specs.Prelude.{◌≡◌, ℕ, ◌<◌, ◌≤◌, Bool, true, List, map, Option, Some, None, IfSome, min}
+use Rattle.std.specs.Prelude.{ℕ, Bool, List, map, Option, Some, None, min}
 use Rattle.std.specs.List.{filter, flat_map, list_any}
 use Rattle.mfotl_model.specs.FreeVariables.{variable_in}
 use Rattle.mfotl_model.specs.Matching.{is_match, reads}
@@ -8,7 +8,6 @@ use Rattle.mfotl_model.specs.Tables.{valuation}
 use Rattle.mfotl_model.specs.declared.event.Event.{Event}
 use Rattle.mfotl_model.specs.declared.term.Atom.{Atom as OneAtom}
 use Rattle.mfotl_model.specs.declared.value.Value.{Value}
-use Rattle.slice_strategy.specs.Slicers.{NoneFrom, end_of}
 
 -- the variables of an atom, as often as they stand there, and the value of each
 pub record ReadingOf : Type 0 where
@@ -34,12 +33,6 @@ is_near near r = near r.columns (valuation r.columns r.row)
 -- whether something that the event gives is near
 abbrev pub some_near : List ReadingOf → Region → Bool
 some_near readings near = list_any (is_near near) readings
-
--- what was found is the first number from `from` on, below count, that passes the test; None where none does
-pub record IsFirst (test : ℕ → Bool) (from count : ℕ) (found : Option ℕ) : Type 0 where
-  pub reached : IfSome found (λ k. (from ≤ k) × (k < count))
-  pub passes : IfSome found (λ k. test k ≡ true)
-  pub first : NoneFrom from (end_of count found) test
 
 -- the lesser of what was found
 abbrev pub earlier : Option ℕ → Option ℕ → Option ℕ

@@ -2,7 +2,8 @@
 ghost use Rattle.std.specs.Prelude.{◌≡◌, IfOk};
 ghost use Rattle.std.specs.List.{flat_map};
 ghost use Rattle.mfotl_model.specs.FreeVariables.{variable_in};
-ghost use Rattle.event_splitter.specs.Readings.{IsFirst, is_near, reading_of, readings_of};
+ghost use Rattle.slice_strategy.specs.Sharing.{IsFirst};
+ghost use Rattle.event_splitter.specs.Readings.{is_near, reading_of, readings_of};
 
 use mfotl_model::{Atom, Event, Partial, Row, Term};
 use slice_strategy::Slicer;

@@ -2,9 +2,10 @@
 ghost use Rattle.std.specs.Prelude.{◌≡◌, ◌≤◌, [], OnOk, length, ℕ};
 ghost use Rattle.mfotl_model.specs.Ascending.{ascending};
 ghost use Rattle.mfotl_model.specs.Events.{event_cmp};
-ghost use Rattle.event_splitter.specs.Parts.{given_to, parts_for};
-ghost use Rattle.event_splitter.specs.Readings.{IsFirst, earlier, readings_of, some_near};
+ghost use Rattle.event_splitter.specs.Parts.{parts_for, with_event};
+ghost use Rattle.event_splitter.specs.Readings.{earlier, readings_of, some_near};
 ghost use Rattle.slice_strategy.specs.Limits.{max_workers};
+ghost use Rattle.slice_strategy.specs.Sharing.{IsFirst, given_to};
 
 use crate::reading::{Reading, readings};
 use mfotl_model::{Atom, Event, TimePoint};
@@ -45,7 +46,7 @@ fn spread<S: Slicer>(
     requires each { length parts.old ≡ S.count slicer.now }
     requires few { S.count slicer.now ≤ max_workers }
     ensures { OnOk result (parts.new
-        ≡ given_to (λ k. some_near readings.now (S.region slicer.now k)) event.now 0 parts.old) }
+        ≡ given_to (with_event event.now) (λ k. some_near readings.now (S.region slicer.now k)) 0 parts.old) }
 {
     let mut from = 0;
     while let Some(k) = next_worker(slicer, from, readings) {
@@ -65,7 +66,8 @@ fn give<S: Slicer>(
     requires each { length parts.old ≡ S.count slicer.now }
     requires few { S.count slicer.now ≤ max_workers }
     ensures { OnOk result (parts.new
-        ≡ given_to (λ k. some_near (readings_of atoms.now event.now) (S.region slicer.now k)) event.now 0 parts.old) }
+        ≡ given_to (with_event event.now) (λ k. some_near (readings_of atoms.now event.now) (S.region slicer.now k)) 0
+        parts.old) }
 {
     let readings = readings(alloc, atoms, event)?;
     spread(alloc, slicer, event, readings.as_slice(), parts)

@@ -18,3 +18,4 @@ pub mod ChangeParts
 pub mod ChangeMoves
 pub mod ChangeCauseLaw
 pub mod ChangeTextLaws
+pub mod SharingLemmas

@@ -1,6 +1,7 @@
 pub mod Limits
 pub mod Entries
 pub mod Slicers
+pub mod Sharing
 pub mod Nearest
 pub mod SlicerLemmas
 pub mod Grammar

@@ -1,138 +1,30 @@
 -- Elements dealt among workers: one by one, and a list of them.
-use Rattle.std.proofs.Common.{◌≡◌, ◌∙◌, ap, sym, subst, refl, arith, ℕ, zero, suc, ◌+◌, ◌<◌, ◌≤◌, Bool, true, false}
-use Rattle.std.proofs.Common.{◌&&◌, cond, nat_lt, inl, inr, ◌⊎◌, List, [], ◌∷◌, ◌++◌}
+use Rattle.std.proofs.Common.{◌≡◌, ◌∙◌, ap, sym, subst, refl, arith, ℕ, zero, suc, ◌+◌, ◌<◌, Bool, true, false}
+use Rattle.std.proofs.Common.{cond, List, [], ◌∷◌, ◌++◌}
 use Rattle.std.proofs.Common.{length, set, get_or, map, replicate}
 use Rattle.std.proofs.Common.{append_assoc, append-nil, length-append}
-use Rattle.std.proofs.lemmas.Bool.{cases_lt}
 use Rattle.std.proofs.lemmas.List.{get_or-map, length-map, map-append, map-set}
-use Rattle.std.proofs.lemmas.Bool.Decides.{nat_tests}
-use Rattle.std.proofs.Math.Bool.{and-false, and-true}
 use Rattle.std.specs.List.{filter, zip}
 use Rattle.relations.proofs.PushedLemmas.{stand_push}
 use Rattle.relations.specs.Pushed.{StandFrom}
+use Rattle.slice_strategy.proofs.SharingLemmas.{given_next, given_none, given_size, up_to}
+use Rattle.slice_strategy.specs.Sharing.{given_to}
 use Rattle.slice_strategy.specs.Slicers.{NoneFrom}
-use Rattle.state_split.specs.Shares.{OneEach, each_longer, given_to}
+use Rattle.state_split.specs.Shares.{OneEach, each_longer, with_last}
 
 -- ---- one element, to one worker after another
 
--- only those below `from` are asked
-abbrev pub up_to : (ℕ → Bool) → ℕ → ℕ → Bool
-up_to test from k = test k && nat_lt k from
+-- none was found
+pub given_nothing : {X : Type 0} (give : X → X) (test : ℕ → Bool) (count : ℕ) (xs : List X) → length xs ≡ count
+    → NoneFrom 0 count test → xs ≡ given_to give test 0 xs
+given_nothing give test count xs size none =
+    given_none give test 0 xs (λ k up low. none k up (omega (arith, size)))
 
 module _ {X : Type 0} (x : X) where
-  given_alike : (p q : ℕ → Bool) (y : ℕ) (shares : List (List X))
-      → ((k : ℕ) → y ≤ k → k < y + length shares → p k ≡ q k) → given_to p x y shares ≡ given_to q x y shares
-  given_alike p q y [] same = refl
-  given_alike p q y (share ∷ shares) same =
-      ap (λ b. cond b (share ++ x ∷ []) share ∷ given_to p x (y + 1) shares) (same y (omega arith) (omega arith))
-      ∙ ap (λ rest. cond (q y) (share ++ x ∷ []) share ∷ rest)
-      (given_alike p q (y + 1) shares (λ k up low. same k (omega (arith, up)) (omega (arith, low))))
-
-  given_none : (p : ℕ → Bool) (y : ℕ) (shares : List (List X))
-      → ((k : ℕ) → y ≤ k → k < y + length shares → p k ≡ false) → shares ≡ given_to p x y shares
-  given_none p y [] never = refl
-  given_none p y (share ∷ shares) never =
-      ap (λ rest. share ∷ rest)
-      (given_none p (y + 1) shares (λ k up low. never k (omega (arith, up)) (omega (arith, low))))
-      ∙ ap (λ b. cond b (share ++ x ∷ []) share ∷ given_to p x (y + 1) shares)
-      (sym (never y (omega arith) (omega arith)))
-
-  -- one share more is given the element
-  given_at : (p q : ℕ → Bool) (y i : ℕ) (shares : List (List X)) (other : List X) → i < length shares
-      → p (y + i) ≡ false → q (y + i) ≡ true
-      → ((k : ℕ) → y ≤ k → k < y + length shares → (k ≡ y + i → ⊥) → p k ≡ q k)
-      → set (given_to p x y shares) i (get_or (given_to p x y shares) i other ++ x ∷ []) ≡ given_to q x y shares
-  given_at p q y i [] other low no_p is_q same = absurd (omega arith)
-  given_at p q y zero (share ∷ shares) other low no_p is_q same =
-      let here : y + 0 ≡ y = omega arith in
-      ap (λ b. (cond b (share ++ x ∷ []) share ++ x ∷ []) ∷ given_to p x (y + 1) shares) (ap p (sym here) ∙ no_p)
-      ∙ ap (λ b. cond b (share ++ x ∷ []) share ∷ given_to p x (y + 1) shares) (sym is_q ∙ ap q here)
-      ∙ ap (λ rest. cond (q y) (share ++ x ∷ []) share ∷ rest)
-      (given_alike p q (y + 1) shares (λ k up k_low.
-      same k (omega (arith, up)) (omega (arith, k_low)) (λ e. absurd (omega (arith, e, up)))))
-  given_at p q y (suc i) (share ∷ shares) other low no_p is_q same =
-      let next : y + suc i ≡ y + 1 + i = omega arith in
-      ap (λ b. cond b (share ++ x ∷ []) share
-      ∷ set (given_to p x (y + 1) shares) i (get_or (given_to p x (y + 1) shares) i other ++ x ∷ []))
-      (same y (omega arith) (omega arith) (λ e. absurd (omega (arith, e))))
-      ∙ ap (λ rest. cond (q y) (share ++ x ∷ []) share ∷ rest)
-      (given_at p q (y + 1) i shares other (omega (arith, low)) (sym (ap p next) ∙ no_p) (sym (ap q next) ∙ is_q)
-      (λ k up k_low apart. same k (omega (arith, up)) (omega (arith, k_low)) (λ e. apart (e ∙ next))))
-
-  -- none below the first is given it
-  pub given_start : (test : ℕ → Bool) (first : ℕ) (shares : List (List X)) → NoneFrom 0 first test
-      → shares ≡ given_to (up_to test first) x 0 shares
-  given_start test first shares none =
-      given_none (up_to test first) 0 shares (λ k up low. by k (cases_lt k first))
-    where
-      by : (k : ℕ) → (k < first) ⊎ (first ≤ k) → up_to test first k ≡ false
-      by k (inl before) = ap (λ b. b && nat_lt k first) (none k (omega arith) before)
-      by k (inr behind) =
-          let above : nat_lt k first ≡ false = grind (arith, nat_tests) in
-          ap (λ b. test k && b) above ∙ and-false (test k)
-
-  -- the worker that was found is given it, and none from there up to the next one
-  pub given_next : (test : ℕ → Bool) (k next : ℕ) (shares : List (List X)) (other : List X) → k < length shares
-      → k < next → test k ≡ true → NoneFrom (k + 1) next test
-      → set (given_to (up_to test k) x 0 shares) k (get_or (given_to (up_to test k) x 0 shares) k other ++ x ∷ [])
-      ≡ given_to (up_to test next) x 0 shares
-  given_next test k next shares other low up is none =
-      given_at (up_to test k) (up_to test next) 0 k shares other low out inside same
-    where
-      out : up_to test k (0 + k) ≡ false
-      out =
-          let above : nat_lt (0 + k) k ≡ false = grind (arith, nat_tests) in
-          ap (λ b. test (0 + k) && b) above ∙ and-false (test (0 + k))
-
-      inside : up_to test next (0 + k) ≡ true
-      inside =
-          let below : nat_lt (0 + k) next ≡ true = grind (arith, nat_tests) in
-          let here : 0 + k ≡ k = omega arith in
-          ap (λ b. test (0 + k) && b) below ∙ and-true (test (0 + k)) ∙ ap test here ∙ is
-
-      same : (j : ℕ) → 0 ≤ j → j < 0 + length shares → (j ≡ 0 + k → ⊥) → up_to test k j ≡ up_to test next j
-      same j bottom top apart =
-          elim (cases_lt j k) [
-            | inl before ↦
-                let one : nat_lt j k ≡ true = grind (arith, nat_tests) in
-                let two : nat_lt j next ≡ true = grind (arith, nat_tests) in
-                ap (λ b. test j && b) (one ∙ sym two)
-            | inr behind ↦ later j apart behind (cases_lt j next)
-          ]
-        where
-          later : (j : ℕ) → (j ≡ 0 + k → ⊥) → k ≤ j → (j < next) ⊎ (next ≤ j) → up_to test k j ≡ up_to test next j
-          later j apart behind (inl before) =
-              let above : k + 1 ≤ j = omega (arith, apart) in
-              let nothing = none j above before in
-              ap (λ b. b && nat_lt j k) nothing ∙ sym (ap (λ b. b && nat_lt j next) nothing)
-          later j apart behind (inr past) =
-              let one : nat_lt j k ≡ false = grind (arith, nat_tests) in
-              let two : nat_lt j next ≡ false = grind (arith, nat_tests) in
-              ap (λ b. test j && b) (one ∙ sym two)
-
-  -- all workers were asked
-  pub given_end : (test : ℕ → Bool) (end : ℕ) (shares : List (List X)) → length shares ≤ end
-      → given_to (up_to test end) x 0 shares ≡ given_to test x 0 shares
-  given_end test end shares past =
-      given_alike (up_to test end) test 0 shares (λ k up low.
-      let one : nat_lt k end ≡ true = grind (arith, nat_tests) in
-      ap (λ b. test k && b) one ∙ and-true (test k))
-
-  -- none was found
-  pub given_nothing : (test : ℕ → Bool) (count : ℕ) (shares : List (List X)) → length shares ≡ count
-      → NoneFrom 0 count test → shares ≡ given_to test x 0 shares
-  given_nothing test count shares size none =
-      given_none test 0 shares (λ k up low. none k up (omega (arith, size)))
-
-  pub given_size : (test : ℕ → Bool) (y : ℕ) (shares : List (List X))
-      → length (given_to test x y shares) ≡ length shares
-  given_size test y [] = refl
-  given_size test y (share ∷ shares) = ap suc (given_size test (y + 1) shares)
-
   -- what holds of each share afterwards
   pub given_stands : (P Q : ℕ → List X → Type 0) (test : ℕ → Bool) (y : ℕ) (shares : List (List X))
       → ((k : ℕ) (share : List X) → P k share → Q k (cond (test k) (share ++ x ∷ []) share)) → StandFrom P y shares
-      → StandFrom Q y (given_to test x y shares)
+      → StandFrom Q y (given_to (with_last x) test y shares)
   given_stands P Q test y [] step all = tt
   given_stands P Q test y (share ∷ shares) step all =
       (step y share all.0, given_stands P Q test (y + 1) shares step all.1)
@@ -218,16 +110,17 @@ module _ {V X : Type 0} (h : V → List X) (x : X) (test : ℕ → Bool) where
   -- the share of the worker that was found has one more, and the next worker is known
   pub hand_step : (k next : ℕ) (shares old : List V) (v new : V) → k < length shares → k < next → test k ≡ true
       → NoneFrom (k + 1) next test → v ≡ get_or shares k v → h new ≡ h v ++ x ∷ []
-      → map h shares ≡ given_to (up_to test k) x 0 (map h old)
-      → map h (set shares k new) ≡ given_to (up_to test next) x 0 (map h old)
+      → map h shares ≡ given_to (with_last x) (up_to test k) 0 (map h old)
+      → map h (set shares k new) ≡ given_to (with_last x) (up_to test next) 0 (map h old)
   hand_step k next shares old v new low up is none here longer so_far =
       let size : length (map h old) ≡ length shares =
-      sym (given_size x (up_to test k) 0 (map h old)) ∙ sym (ap length so_far) ∙ length-map shares h in
+      sym (given_size (with_last x) (up_to test k) 0 (map h old)) ∙ sym (ap length so_far) ∙ length-map shares h in
       let found : h v ≡ get_or (map h shares) k (h v) = ap h here ∙ sym (get_or-map h shares k v (h v) low) in
       map-set h shares k new
       ∙ ap (set (map h shares) k) (longer ∙ ap (λ xs. xs ++ x ∷ []) found)
       ∙ ap (λ all. set all k (get_or all k (h v) ++ x ∷ [])) so_far
-      ∙ given_next x test k next (map h old) (h v) (omega (arith, low, size)) up is none
+      ∙ given_next (with_last x) test k k next (map h old) (h v) (omega arith) (omega (arith, low, size)) up is
+      (λ j high before. absurd (omega arith)) none
 
 -- without items
 pub told_nothing : {V K X : Type 0} (items : V → List K) (told : K → X) (P : ℕ → List X → Type 0)

@@ -1,7 +1,7 @@
 //! The rows that are near to a worker and to those of the next strategy.
 ghost use Rattle.std.specs.Prelude.{◌≡◌, ◌≤◌};
 ghost use Rattle.slice_strategy.specs.Limits.{max_workers};
-ghost use Rattle.state_split.specs.Shares.{IsFirst};
+ghost use Rattle.slice_strategy.specs.Sharing.{IsFirst};
 ghost use Rattle.state_split.specs.Sieves.{is_kept};
 
 use crate::sorter::Sorter;

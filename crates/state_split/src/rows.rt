@@ -1,7 +1,8 @@
 //! Rows dealt among workers, by one walk through them.
 ghost use Rattle.std.specs.Prelude.{◌≡◌, ◌≤◌, IfOk, OnOk, filter, length, map};
 ghost use Rattle.slice_strategy.specs.Limits.{max_workers};
-ghost use Rattle.state_split.specs.Shares.{OneEach, given_to};
+ghost use Rattle.slice_strategy.specs.Sharing.{given_to};
+ghost use Rattle.state_split.specs.Shares.{OneEach, with_last};
 ghost use Rattle.state_split.specs.Sieves.{is_kept};
 
 use crate::kept::Kept;
@@ -21,7 +22,8 @@ fn hand_out<S: Sorter, K: Kept>(
     requires each { length shares.old.items ≡ S.count sorter.now }
     requires few { S.count sorter.now ≤ max_workers }
     ensures { OnOk result (map (λ s. map K.told s.items) shares.new.items
-        ≡ given_to (λ k. is_kept (S.region sorter.now k) columns.now (K.row_of (K.told kept))) (K.told kept) 0
+        ≡ given_to (with_last (K.told kept))
+        (λ k. is_kept (S.region sorter.now k) columns.now (K.row_of (K.told kept))) 0
         (map (λ s. map K.told s.items) shares.old.items)) }
 {
     let Some(first) = sorter.next_worker(0, columns, kept.row()) else {

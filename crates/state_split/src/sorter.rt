@@ -1,7 +1,7 @@
 //! What tells the workers that a row goes to.
 ghost use Rattle.std.specs.Prelude.{◌≡◌, ◌≤◌};
 ghost use Rattle.slice_strategy.specs.Limits.{max_workers};
-ghost use Rattle.state_split.specs.Shares.{IsFirst};
+ghost use Rattle.slice_strategy.specs.Sharing.{IsFirst};
 ghost use Rattle.state_split.specs.Sieves.{is_kept};
 
 use mfotl_model::Row;

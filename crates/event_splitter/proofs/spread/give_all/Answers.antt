@@ -1,9 +1,10 @@
 use Rattle.std.proofs.Common.{◌∙◌, ◌++◌, ◌∷◌, ap, sym, arith, [], map, take}
 use Rattle.std.proofs.lemmas.List.{take_all, take_more}
 use Rattle.std.specs.List.{range_with_len}
+use Rattle.slice_strategy.specs.Sharing.{given_to}
 use Rattle.event_splitter.proofs.PartLemmas.{part_of, parts_more}
 use Rattle.event_splitter.proofs.SpreadLemmas.{range_binds}
-use Rattle.event_splitter.specs.Parts.{given_to}
+use Rattle.event_splitter.specs.Parts.{with_event}
 use Rattle.event_splitter.specs.Readings.{readings_of, some_near}
 use Rattle.event_splitter.proofs.spread.give_all.Goals as goal
 
@@ -18,7 +19,8 @@ loop-event-preserved g c ts start =
     let events = take i c.args.events.now in
     let event = c.event-item.result in
     c.in_ok-give.ensures
-    ∙ ap (given_to (λ k. some_near (readings_of atoms event) (near k)) event 0) (c.loop-event.invariant ts start)
+    ∙ ap (given_to (with_event event) (λ k. some_near (readings_of atoms event) (near k)) 0)
+    (c.loop-event.invariant ts start)
     ∙ parts_more free near (λ k. g.met.S.Slicer.passes s free k (range_binds (g.S.Slicer.width s))) count ts atoms
     events event
     ∙ ap (λ es. map (part_of near atoms ts es) (range_with_len 0 count))

@@ -1,5 +1,6 @@
 use Rattle.std.proofs.Common.{take}
-use Rattle.event_splitter.specs.Readings.{IsFirst, some_near}
+use Rattle.slice_strategy.specs.Sharing.{IsFirst}
+use Rattle.event_splitter.specs.Readings.{some_near}
 use Rattle.event_splitter.proofs.spread.next_worker.Given as goal
 
 abbrev pub invariant-loop-reading : goal.invariant-loop-reading

@@ -2,8 +2,10 @@ use Rattle.std.proofs.Common.{rules, ◌≡◌, ◌∙◌, ap, sym, subst, ℕ, 
 use Rattle.std.proofs.lemmas.List.{length-map, length-replicate, nil_from_length}
 use Rattle.std.specs.List.{filter}
 use Rattle.relations.specs.Pushed.{StandFrom}
+use Rattle.slice_strategy.proofs.SharingLemmas.{given_size}
+use Rattle.state_split.specs.Shares.{with_last}
 use Rattle.state_split.specs.Sieves.{is_kept}
-use Rattle.state_split.proofs.ShareLemmas.{dealt_all, dealt_step, given_size, given_stands}
+use Rattle.state_split.proofs.ShareLemmas.{dealt_all, dealt_step, given_stands}
 use Rattle.state_split.proofs.ShareLemmas.{stand_unmapped, stand_weaker, told_nothing}
 use Rattle.state_split.proofs.rows.dealt_rows.Goals as goal
 
@@ -35,7 +37,7 @@ loop-kept-preserved g c =
     let handed = c.in_ok-hand_out.ensures in
     record {
       sized = sym (length-map c.hand_out.new.shares.items (λ s. map told s.items)) ∙ ap length handed
-          ∙ given_size x (λ k. goes k x) 0 old
+          ∙ given_size (with_last x) (λ k. goes k x) 0 old
           ∙ length-map c.loop-kept.shares.items (λ s. map told s.items) ∙ c.loop-kept.invariant.sized;
       each = subst (StandFrom (λ k share. share ++ filter (goes k) rest ≡ all k) 0) (sym handed)
           (given_stands x (λ k share. share ++ filter (goes k) before ≡ all k)

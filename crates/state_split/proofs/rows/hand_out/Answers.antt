@@ -1,9 +1,11 @@
 use Rattle.std.proofs.Common.{◌≡◌, ◌∙◌, refl, subst, arith, ℕ, ◌+◌, Bool, true, List, map}
 use Rattle.std.proofs.lemmas.List.{length-map, length-set}
 use Rattle.mfotl_model.specs.declared.value.Value.{Value}
+use Rattle.slice_strategy.proofs.SharingLemmas.{given_end, given_start}
 use Rattle.slice_strategy.specs.Slicers.{NoneFrom}
 use Rattle.state_split.specs.Sieves.{is_kept}
-use Rattle.state_split.proofs.ShareLemmas.{given_end, given_nothing, given_start, hand_step, told_more}
+use Rattle.state_split.specs.Shares.{with_last}
+use Rattle.state_split.proofs.ShareLemmas.{given_nothing, hand_step, told_more}
 use Rattle.state_split.proofs.rows.hand_out.Goals as goal
 
 pub returns-in_default : goal.returns-in_default
@@ -12,7 +14,8 @@ returns-in_default g c =
     is_kept (g.S.Sorter.region c.args.sorter.now k) c.args.columns.now row in
     let x = g.K.Kept.told c.args.kept in
     let count = g.S.Sorter.count c.args.sorter.now in
-    given_nothing x (goes (g.K.Kept.row_of x)) count (map (λ s. map g.K.Kept.told s.items) c.args.shares.now.items)
+    given_nothing (with_last x) (goes (g.K.Kept.row_of x)) count
+    (map (λ s. map g.K.Kept.told s.items) c.args.shares.now.items)
     (length-map c.args.shares.now.items (λ s. map g.K.Kept.told s.items) ∙ c.requires.each)
     (subst (λ row. NoneFrom 0 count (goes row)) c.row.ensures c.in_default.ensures.first)
 
@@ -26,7 +29,7 @@ loop-next-init g c =
       below = c.in-Some.ensures.reached.1;
       goes = subst (λ row. goes row first ≡ true) c.row.ensures c.in-Some.ensures.passes;
       sized = c.requires.each;
-      given = given_start x (goes (g.K.Kept.row_of x)) first
+      given = given_start (with_last x) (goes (g.K.Kept.row_of x)) first
           (map (λ s. map g.K.Kept.told s.items) c.args.shares.now.items)
           (subst (λ row. NoneFrom 0 first (goes row)) c.row.ensures c.in-Some.ensures.first);
     }
@@ -68,5 +71,6 @@ returns g c =
     c.in_default-next_worker.ensures.first) c.index_mut-2.ensures.value
     (told_more g.K.Kept.told c.index_mut-2.result.now.items c.push-2.new.self.items c.args.kept x
     c.in_ok-push-2.ensures.items refl) inv.given
-    ∙ given_end x test count (map (λ s. map g.K.Kept.told s.items) c.args.shares.now.items)
-    (omega (arith, length-map c.args.shares.now.items (λ s. map g.K.Kept.told s.items), c.requires.each))
+    ∙ given_end (with_last x) test count (map (λ s. map g.K.Kept.told s.items) c.args.shares.now.items)
+    (λ k up low. absurd
+    (omega (arith, length-map c.args.shares.now.items (λ s. map g.K.Kept.told s.items), c.requires.each)))

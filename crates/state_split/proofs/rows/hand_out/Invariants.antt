@@ -1,7 +1,8 @@
 use Rattle.std.proofs.Common.{◌≡◌, ℕ, ◌<◌, ◌-◌, Bool, true, length, map}
-use Rattle.state_split.specs.Shares.{given_to}
+use Rattle.slice_strategy.proofs.SharingLemmas.{up_to}
+use Rattle.slice_strategy.specs.Sharing.{given_to}
+use Rattle.state_split.specs.Shares.{with_last}
 use Rattle.state_split.specs.Sieves.{is_kept}
-use Rattle.state_split.proofs.ShareLemmas.{up_to}
 use Rattle.state_split.proofs.rows.hand_out.Given as goal
 
 -- the shares of the workers before the last one that was found have the row
@@ -14,7 +15,7 @@ invariant-loop-next g l =
       goes : test l.last ≡ true;
       sized : length l.shares.items ≡ g.S.Sorter.count l.sorter;
       given : map (λ s. map g.K.Kept.told s.items) l.shares.items
-          ≡ given_to (up_to test l.last) (g.K.Kept.told l.kept) 0
+          ≡ given_to (with_last (g.K.Kept.told l.kept)) (up_to test l.last) 0
           (map (λ s. map g.K.Kept.told s.items) l.initial.shares.items);
     }
 
