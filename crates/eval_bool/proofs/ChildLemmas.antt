@@ -18,7 +18,7 @@ Alike [] [] = Unit {0}
 Alike (x ∷ xs) (y ∷ ys) = (x.columns ≡ y.columns) × (x.negated ≡ y.negated) × Alike xs ys
 Alike xs ys = ⊥
 
-alike_itself : (xs : List ChildOf) → Alike xs xs
+pub alike_itself : (xs : List ChildOf) → Alike xs xs
 alike_itself [] = tt
 alike_itself (x ∷ xs) = (refl, refl, alike_itself xs)
 

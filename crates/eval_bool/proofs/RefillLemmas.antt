@@ -7,16 +7,12 @@ use Rattle.eval_bool.specs.BoolData.{JoinRule, TablesOver, kept_tables, with_tab
 use Rattle.eval_bool.specs.IsJoin.{FewFrom}
 use Rattle.eval_bool.specs.JoinView.{ChildOf}
 use Rattle.eval_bool.specs.declared.recalled.JoinData.{JoinData}
-use Rattle.eval_bool.proofs.ChildLemmas.{Alike}
+use Rattle.eval_bool.proofs.ChildLemmas.{Alike, alike_itself}
 
 -- only the tables change
 pub alike_with : (children : List ChildOf) (tables : List (List TableOf)) → Alike children (with_tables children tables)
 alike_with [] tables = tt
-alike_with (c ∷ children) [] = (refl, refl, same children)
-  where
-    same : (cs : List ChildOf) → Alike cs cs
-    same [] = tt
-    same (d ∷ ds) = (refl, refl, same ds)
+alike_with (c ∷ children) [] = (refl, refl, alike_itself children)
 alike_with (c ∷ children) (ts ∷ tables) = (refl, refl, alike_with children tables)
 
 with_itself : (children : List ChildOf) → with_tables children (map (λ c. c.tables) children) ≡ children

@@ -1,7 +1,7 @@
 -- Rows that are listed by a part of them.
 use Rattle.std.proofs.Common.{◌≡◌, ℕ, ◌+◌, ◌<◌, Bool, true, false, cond, nat_eq, ◌&&◌, ◌||◌, List, [], ◌∷◌, ◌++◌}
 use Rattle.std.proofs.Common.{get_or, length, take, Option, Some, None, refl, sym, ap, ◌∙◌, arith}
-use Rattle.std.proofs.lemmas.Bool.{and_from, and_parts, eqb-true, or_left, or_right}
+use Rattle.std.proofs.lemmas.Bool.{and_from, and_parts, or_left, or_right}
 use Rattle.std.proofs.Math.Bool.{and-false, or_assoc, or-false}
 use Rattle.std.specs.BTreeMap.{is_at}
 use Rattle.std.specs.Cmp.{eq_by_cmp_equiv}
@@ -55,10 +55,6 @@ or_cond true true = refl
 or_cond true false = refl
 or_cond false true = refl
 or_cond false false = refl
-
-pub no_rows : (rows : List (List Value)) → nat_eq (length rows) 0 ≡ true → [] ≡ rows
-no_rows [] e = refl
-no_rows (x ∷ xs) e = absurd (let w : length (x ∷ xs) ≡ 0 = eqb-true (length (x ∷ xs)) 0 e in omega arith)
 
 -- where a row was put into the set of its part, it is listed, and each other as before
 pub listed_more : (right columns : List ℕ) (row u : List Value) (old new : List (List Value × List (List Value)))

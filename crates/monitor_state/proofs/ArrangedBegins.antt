@@ -1,5 +1,5 @@
 -- What the fragment gives a core it gives the arranged one.
-use Rattle.std.proofs.Common.{◌≡◌, ℕ, Bool, true, false, None, Option, ◌||◌, cond, List, ◌∷◌, []}
+use Rattle.std.proofs.Common.{◌≡◌, ℕ, Bool, true, false, None, ◌||◌, cond, List, ◌∷◌, []}
 use Rattle.std.proofs.Common.{refl, sym, ap, ap₂, ◌∙◌}
 use Rattle.std.proofs.Math.Bool.{or_assoc, or_comm}
 use Rattle.mfotl_model.specs.ActiveDomain.{constants}
@@ -8,13 +8,12 @@ use Rattle.mfotl_model.specs.Exact.{View}
 use Rattle.mfotl_model.specs.FreeVariables.{among}
 use Rattle.mfotl_model.specs.declared.event.Event.{Event}
 use Rattle.mfotl_model.specs.declared.value.Value.{Value}
-use Rattle.monitorable.proofs.FragmentLemmas.{no_first, no_variable, none_first, none_outside}
+use Rattle.monitorable.proofs.FragmentLemmas.{asked_kept, no_first, no_variable, none_first, none_outside}
 use Rattle.monitorable.specs.CoreForms.{CoreForm, meaning, And, Exists, Next, Not, Or, Previous, Since, Until}
 use Rattle.monitorable.specs.Fragment.{Names, asked, at_variable, bound_by, covers, evens, fault_in, first}
 use Rattle.monitorable.specs.Fragment.{first_outside, guards, is_conjunction, judges_not, looks_within}
 use Rattle.monitorable.specs.Fragment.{named_variable, needed_by, under_not, uses, with_name}
 use Rattle.monitorable.specs.Soundness.{HasVariablesOf, IsWellFormedIn}
-use Rattle.monitorable.specs.declared.fault.FragmentFault.{FragmentFault}
 use Rattle.monitorable.specs.declared.fault.FragmentFault.TheVariants.{LooseLeft, Unguarded, Uneven, UnusedBound}
 use Rattle.monitorable.specs.declared.role.Role.{Role}
 use Rattle.monitorable.specs.declared.role.Role.TheVariants as role
@@ -142,12 +141,6 @@ each_part names f g e =
       left.0,
       (no_first (fault_in names role.Part g) None left.1).0,
     )
-
--- the fault that is asked for stays away with another one
-asked_kept : (b : Bool) (old new : Option FragmentFault) → (old ≡ None → new ≡ None) → asked b old ≡ None
-    → asked b new ≡ None
-asked_kept true old new kept e = kept e
-asked_kept false old new kept e = e
 
 evens_arranged : (f g : CoreForm) → evens (arranged f) (arranged g) ≡ evens f g
 evens_arranged f g =

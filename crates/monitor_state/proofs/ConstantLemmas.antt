@@ -21,6 +21,7 @@ use Rattle.mfotl_model.specs.declared.term.Term.TheVariants.{Var, Const}
 use Rattle.mfotl_model.specs.declared.value.Value.{Value}
 use Rattle.mfotl_model.specs.declared.value.Value.TheVariants.{Int, Text}
 use Rattle.eval_bool.specs.JoinView.{bound_columns, children_of, compared_variables, conjunct_columns}
+use Rattle.eval_bool.specs.Laws.{passes}
 use Rattle.monitorable.proofs.ConjunctsLaw.{conjuncts_mean}
 use Rattle.monitorable.proofs.FragmentLemmas.{guarded}
 use Rattle.monitorable.specs.CoreForms.{CoreForm, meaning, Compare}
@@ -33,7 +34,7 @@ use Rattle.relations.specs.Operations.{chosen, covers_term}
 use Rattle.monitor_state.proofs.GuardLemmas.{bound_is}
 use Rattle.monitor_state.proofs.JoinSteps.{chosen_is, columns_are}
 use Rattle.monitor_state.specs.Beginnings.{Accepted, is_child}
-use Rattle.monitor_state.specs.Constants.{is_ground, is_ground_test, is_constant, is_fixed, passes_test, stands_alone}
+use Rattle.monitor_state.specs.Constants.{is_ground, is_ground_test, is_constant, is_fixed, stands_alone}
 use Rattle.monitor_state.specs.Nodes.{children, operands}
 use Rattle.monitor_state.specs.Stands.{IsConstant, conjunct_as}
 
@@ -223,7 +224,7 @@ tests_closed names f accepted none =
 
 tests_mean : (log : List TimePoint) (dom : List Value) (v : Valuation) (i : ℕ) (ps : List PartForm)
     → list_any is_child ps ≡ false
-    → list_all (passes_test v) ps ≡ list_all (part_holds log dom v i) ps
+    → list_all (λ part. passes v (conjunct_as part)) ps ≡ list_all (part_holds log dom v i) ps
 unfolding sat chosen
 tests_mean log dom v i [] none = refl
 tests_mean log dom v i (ChildPart f n ∷ ps) none = absurd (let e : true ≡ false = none in cc)
@@ -235,7 +236,7 @@ tests_mean log dom v i (TestPart c w ∷ ps) none =
 pub tests_are : (names : Names) (f : CoreForm) (table : TableOf) → operands f ≡ children (conjuncts_of f)
     → guards names f ≡ None
     → list_any is_child (conjuncts_of f) ≡ false → table.columns ≡ []
-    → ((v : Valuation) → has table v ≡ list_all (passes_test v) (conjuncts_of f)) → IsConstant f table
+    → ((v : Valuation) → has table v ≡ list_all (λ part. passes v (conjunct_as part)) (conjuncts_of f)) → IsConstant f table
 tests_are names f table same accepted none columns rows =
     record {
       columns = columns ∙ sym (tests_free names f accepted none);

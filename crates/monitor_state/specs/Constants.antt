@@ -1,6 +1,5 @@
 -- Conjuncts that are the same at each position.
 use Rattle.std.specs.Prelude.{Bool, true, false, ◌&&◌, ◌||◌}
-use Rattle.mfotl_model.specs.Satisfaction.{Valuation}
 use Rattle.mfotl_model.specs.declared.term.Comparison.{Comparison}
 use Rattle.mfotl_model.specs.declared.term.Term.{Term}
 use Rattle.mfotl_model.specs.declared.term.Term.TheVariants.{Var, Const}
@@ -9,7 +8,6 @@ use Rattle.monitorable.specs.Conjuncts.PartForm.{Child, Test}
 use Rattle.monitorable.specs.Fragment.{binds}
 use Rattle.monitorable.specs.declared.role.Role.{Role}
 use Rattle.monitorable.specs.declared.role.Role.TheVariants.{Whole, Part, Negated, Left}
-use Rattle.relations.specs.Operations.{chosen}
 
 -- whether a term is a constant
 abbrev pub is_constant : Term → Bool
@@ -36,8 +34,3 @@ stands_alone Left binding = true
 abbrev pub is_ground_test : PartForm → Bool
 is_ground_test (Child f negated) = false
 is_ground_test (Test c wanted) = is_ground c
-
--- whether a test comes out as wanted; a child is none
-abbrev pub passes_test : Valuation → PartForm → Bool
-passes_test v (Child f negated) = true
-passes_test v (Test c wanted) = chosen c wanted v

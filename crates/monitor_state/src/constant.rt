@@ -5,13 +5,14 @@ ghost use Rattle.std.specs.Ordering.{eq_by_cmp};
 ghost use Rattle.mfotl_model.specs.Satisfaction.{Valuation};
 ghost use Rattle.mfotl_model.specs.Tables.{has};
 ghost use Rattle.mfotl_model.specs.Values.{value_cmp};
+ghost use Rattle.eval_bool.specs.Laws.{passes};
 ghost use Rattle.monitorable.specs.CoreForms.{Compare, False};
 ghost use Rattle.monitorable.specs.Fragment.{binds};
 ghost use Rattle.monitorable.specs.PartView.{part_form};
 ghost use Rattle.monitor_state.specs.Beginnings.{Accepted, Adds, AddsIf};
-ghost use Rattle.monitor_state.specs.Constants.{is_ground, is_ground_test, is_fixed, passes_test, stands_alone};
+ghost use Rattle.monitor_state.specs.Constants.{is_ground, is_ground_test, is_fixed, stands_alone};
 ghost use Rattle.monitor_state.specs.Nodes.{true_in};
-ghost use Rattle.monitor_state.specs.Stands.{IsConstant};
+ghost use Rattle.monitor_state.specs.Stands.{IsConstant, conjunct_as};
 
 use crate::node::{Node, add};
 use mfotl_model::{Comparison, Row, Term, Value};
@@ -124,7 +125,7 @@ pub fn tested(alloc: Global, parts: &[Part]) -> Result<Table, AllocError>
     requires { IsTrue (list_all (λ part. is_ground_test (part_form part)) parts.now) }
     ensures columns { IfOk result (λ table. table.columns ≡ []) }
     ensures has { IfOk result (λ table. (v : Valuation) →
-        has table v ≡ list_all (λ part. passes_test v (part_form part)) parts.now) }
+        has table v ≡ list_all (λ part. passes v (conjunct_as (part_form part))) parts.now) }
 {
     let mut rest = Table::unit(alloc)?;
     for part in parts {
@@ -137,7 +138,7 @@ fn narrowed(table: Table, part: &Part) -> Table
     requires columns { table.columns ≡ [] }
     requires closed { IsTrue (is_ground_test (part_form part.now)) }
     ensures columns { result.columns ≡ [] }
-    ensures has { (v : Valuation) → has result v ≡ (has table v && passes_test v (part_form part.now)) }
+    ensures has { (v : Valuation) → has result v ≡ (has table v && passes v (conjunct_as (part_form part.now))) }
 {
     match part {
         Part::Child(_, _) => table,

@@ -10,7 +10,7 @@ use Rattle.monitorable.specs.CoreForms.{Previous, Next, Since, Until}
 use Rattle.mfotl_model.specs.declared.formula.Bound.{Bound}
 use Rattle.monitorable.specs.Fragment.{Names, named_variable, first, first_outside, at_variable, binds, bound_by}
 use Rattle.monitorable.specs.Fragment.{needed_by}
-use Rattle.monitorable.specs.Fragment.{guards, evens, uses, covers, fault_in}
+use Rattle.monitorable.specs.Fragment.{asked, guards, evens, uses, covers, fault_in}
 use Rattle.monitorable.specs.declared.fault.FragmentFault.{FragmentFault}
 use Rattle.monitorable.specs.declared.fault.FragmentFault.TheVariants.{Uneven, Unguarded, UnusedBound, LooseLeft}
 use Rattle.monitorable.specs.declared.role.Role.TheVariants.{Whole, Part, Negated}
@@ -23,6 +23,12 @@ no_first (Some fault) b h = cc
 pub none_first : (a b : Option FragmentFault) → a ≡ None → b ≡ None → first a b ≡ None
 none_first None b h k = k
 none_first (Some fault) b h k = cc
+
+-- the fault that is asked for stays away with another one
+pub asked_kept : (b : Bool) (old new : Option FragmentFault) → (old ≡ None → new ≡ None) → asked b old ≡ None
+    → asked b new ≡ None
+asked_kept true old new kept e = kept e
+asked_kept false old new kept e = refl
 
 pub no_variable : (fault : ℕ → FragmentFault) (y : Option ℕ) → at_variable fault y ≡ None → y ≡ None
 no_variable fault None h = refl

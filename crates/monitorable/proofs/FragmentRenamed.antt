@@ -1,5 +1,5 @@
 -- In new numbers a formula that the fragment accepts is accepted.
-use Rattle.std.proofs.Common.{◌≡◌, ℕ, ◌+◌, Bool, true, false, ◌&&◌, cond, nat_eq, List, [], ◌∷◌, ◌++◌, map, Option}
+use Rattle.std.proofs.Common.{◌≡◌, ℕ, ◌+◌, Bool, true, false, ◌&&◌, cond, nat_eq, List, [], ◌∷◌, ◌++◌, map}
 use Rattle.std.proofs.Common.{Some, None, refl, sym, ap, ap₂, ◌∙◌, inl, inr}
 use Rattle.std.proofs.lemmas.Bool.{or_cases, or_left, or_right, cases_Bool, cond-true, cond-false, eqb-true, eq-eqb}
 use Rattle.std.proofs.lemmas.List.{map-append}
@@ -11,7 +11,7 @@ use Rattle.mfotl_model.specs.declared.formula.Bound.{Bound}
 use Rattle.mfotl_model.specs.declared.term.Comparison.{Comparison}
 use Rattle.mfotl_model.specs.declared.term.Term.{Term}
 use Rattle.mfotl_model.specs.declared.term.Term.TheVariants.{Var, Const}
-use Rattle.monitorable.proofs.FragmentLemmas.{no_first, none_first, no_variable}
+use Rattle.monitorable.proofs.FragmentLemmas.{asked_kept, no_first, none_first, no_variable}
 use Rattle.monitorable.proofs.RenamedVariables.{Spread, left, right, bound, renamed_fv, same_numbers}
 use Rattle.monitorable.specs.Fragment.{Names, with_name, named_variable, first, first_outside, at_variable, is_equal}
 use Rattle.monitorable.specs.Fragment.{pairs_constant, binds, bound_by, needed_by, guards, evens, uses, covers}
@@ -118,10 +118,6 @@ guards_new names names' p n f s h =
     (λ y. Unguarded (named_variable names y)) (λ y. Unguarded (named_variable names' y)) (bound_new p n f s)
     (needed_new p n f s) h
 
-asked_new : (b : Bool) (x y : Option FragmentFault) → (x ≡ None → y ≡ None) → asked b x ≡ None → asked b y ≡ None
-asked_new true x y h e = h e
-asked_new false x y h e = refl
-
 evens_new : (p : Numbers) (f g f' g' : CoreForm) → fv (meaning f') ≡ map p (fv (meaning f))
     → fv (meaning g') ≡ map p (fv (meaning g)) → evens f g ≡ None
     → evens f' g' ≡ None
@@ -163,11 +159,11 @@ renamed_fits names names' role p n True s h = refl
 renamed_fits names names' role p n False s h = refl
 renamed_fits names names' role p n (Atom atom) s h = refl
 renamed_fits names names' role p n (Compare c) s h =
-    asked_new (judges_comparison role) (guards names (Compare c)) _ (guards_new names names' p n (Compare c) s) h
+    asked_kept (judges_comparison role) (guards names (Compare c)) _ (guards_new names names' p n (Compare c) s) h
 renamed_fits names names' role p n (Not f) s h =
     let parts = no_first (fault_in names (under_not role) f) (asked (judges_not role) (guards names (Not f))) h in
     none_first _ _ (renamed_fits names names' (under_not role) p n f s parts.0)
-    (asked_new (judges_not role) (guards names (Not f)) _ (guards_new names names' p n (Not f) s) parts.1)
+    (asked_kept (judges_not role) (guards names (Not f)) _ (guards_new names names' p n (Not f) s) parts.1)
 renamed_fits names names' role p n (And f g) s h =
     let outer =
     no_first (fault_in names Part f)
@@ -177,7 +173,7 @@ renamed_fits names names' role p n (And f g) s h =
     (none_first _ _
     (renamed_fits names names' Part p (n + binder_count f) g
     (right p n (binder_count f) (fv (meaning f)) (fv (meaning g)) s) inner.0)
-    (asked_new (is_conjunction role) (guards names (And f g)) _ (guards_new names names' p n (And f g) s) inner.1))
+    (asked_kept (is_conjunction role) (guards names (And f g)) _ (guards_new names names' p n (And f g) s) inner.1))
 renamed_fits names names' role p n (Or f g) s h =
     let outer = no_first (fault_in names Whole f) (first (fault_in names Whole g) (evens f g)) h in
     let inner = no_first (fault_in names Whole g) (evens f g) outer.1 in

@@ -1,9 +1,10 @@
 -- Settled positions: they were reached, and all positions before them are settled too.
-use Rattle.std.proofs.Common.{◌≡◌, ℕ, zero, suc, ◌+◌, ◌-◌, ◌<◌, ◌≤◌, Bool, true, false, ◌&&◌, ◌||◌, nat_lt, nat_eq}
+use Rattle.std.proofs.Common.{◌≡◌, ℕ, zero, suc, ◌+◌, ◌-◌, ◌<◌, ◌≤◌, Bool, true, ◌&&◌, ◌||◌, nat_lt, nat_eq}
 use Rattle.std.proofs.Common.{List, length, Option, Some, None, refl, sym, ap, ◌∙◌, inl, inr, arith}
 use Rattle.std.proofs.lemmas.Bool.{and_parts, and_from, or_cases, or_left, or_right, ltb-true, lt-ltb, le-ltb}
 use Rattle.std.proofs.lemmas.Bool.{eqb-true, cases_eq, cases_lt}
 use Rattle.std.specs.List.{list_any, list_all, range_with_len}
+use Rattle.mfotl_model.proofs.AtomLemmas.{or_second}
 use Rattle.mfotl_model.proofs.LogicLemmas.{all_in, all_from, any_in, any_from}
 use Rattle.mfotl_model.specs.Formulas.{Form}
 use Rattle.mfotl_model.specs.Formulas.Form.{True, False, Atom, Compare, Not, And, Or, Implies, Equiv, Exists}
@@ -97,7 +98,7 @@ until_before (Some hi) times ready i rising down h =
       | inl e ↦
           or_right (nat_lt (time_at times i + hi) (time_at times j)) (ready j)
           (ap ready (sym e) ∙ down i
-          (still (nat_lt (time_at times (i + 1) + hi) (time_at times (i + 1))) (ready (i + 1))
+          (or_second (nat_lt (time_at times (i + 1) + hi) (time_at times (i + 1))) (ready (i + 1))
           (le-ltb (time_at times (i + 1) + hi) (time_at times (i + 1)) (omega arith))
           (near (i + 1) (omega arith) next)))
       | inr ne ↦ elim (cases_lt (time_at times i + hi) (time_at times j)) [
@@ -106,15 +107,11 @@ until_before (Some hi) times ready i rising down h =
             (lt-ltb (time_at times i + hi) (time_at times j) later)
         | inr sooner ↦
             or_right (nat_lt (time_at times i + hi) (time_at times j)) (ready j)
-            (still (nat_lt (time_at times (i + 1) + hi) (time_at times j)) (ready j)
+            (or_second (nat_lt (time_at times (i + 1) + hi) (time_at times j)) (ready j)
             (le-ltb (time_at times (i + 1) + hi) (time_at times j) (omega arith))
             (near j (omega arith) (omega arith)))
       ]
     ]))
-  where
-    still : (x y : Bool) → x ≡ false → (x || y) ≡ true → y ≡ true
-    still true y e h = cc
-    still false y e h = h
 
 since_before : (ready : ℕ → Bool) (i : ℕ) → since_settled ready (i + 1) ≡ true → since_settled ready i ≡ true
 unfolding since_settled

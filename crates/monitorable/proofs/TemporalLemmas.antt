@@ -5,6 +5,7 @@ use Rattle.std.proofs.lemmas.Bool.{and_parts, and_left, or_from, ltb-true, le-lt
 use Rattle.std.proofs.lemmas.List.Folds.{list_any-append}
 use Rattle.std.proofs.Math.Bool.{or-false}
 use Rattle.std.specs.List.{list_any, list_all, range_with_len}
+use Rattle.mfotl_model.proofs.AtomLemmas.{or_second}
 use Rattle.mfotl_model.proofs.LogicLemmas.{all_in, any_in, any_same, all_same, range_front}
 use Rattle.mfotl_model.proofs.TimeLemmas.{too_far}
 use Rattle.mfotl_model.specs.Intervals.{in_interval}
@@ -138,11 +139,7 @@ until_same I (Some hi) t u a b c d ready i e s more rising times same =
     let far = any_in (λ k. nat_lt (time_at t i + hi) (time_at t k)) 0 (length t) front.1 in
     until_same_from I t u a b c d i hi e more rising times
     (λ j low high near.
-    same j high (ready_near (nat_lt (time_at t i + hi) (time_at t j)) (ready j)
+    same j high (or_second (nat_lt (time_at t i + hi) (time_at t j)) (ready j)
     (le-ltb (time_at t i + hi) (time_at t j) near)
     (all_in (λ j. nat_lt (time_at t i + hi) (time_at t j) || ready j) i (length t - i) j parts.1 low (omega arith))))
     here far.0 (omega arith) (ltb-true (time_at t i + hi) (time_at t far.0) far.3)
-  where
-    ready_near : (x y : Bool) → x ≡ false → (x || y) ≡ true → y ≡ true
-    ready_near true y e h = cc
-    ready_near false y e h = h

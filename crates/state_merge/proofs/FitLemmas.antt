@@ -1,8 +1,7 @@
 -- States that stand for one log fit.
-use Rattle.std.proofs.Common.{◌≡◌, ℕ, ◌+◌, Bool, true, false, cond, List, [], ◌∷◌, ◌++◌, length, Option, Vec, Global}
+use Rattle.std.proofs.Common.{◌≡◌, ℕ, ◌+◌, Bool, true, false, cond, List, [], ◌∷◌, ◌++◌, length, Vec, Global}
 use Rattle.std.proofs.Common.{None, Some, refl, sym, subst, ap, ◌∙◌, arith}
 use Rattle.std.specs.List.{AllByRecursion}
-use Rattle.std.specs.List.Sorted.{IsStrictlyIncreasing}
 use Rattle.mfotl_model.specs.Exact.{AllExact, View}
 use Rattle.mfotl_model.specs.Formulas.{Form}
 use Rattle.mfotl_model.specs.FreeVariables.{fv}
@@ -13,8 +12,7 @@ use Rattle.mfotl_model.specs.declared.value.Value.{Value}
 use Rattle.eval_bool.specs.BoolData.{kept_tables}
 use Rattle.eval_bool.specs.declared.recalled.JoinData.{JoinData}
 use Rattle.eval_bool.specs.declared.recalled.OrData.{OrData}
-use Rattle.eval_since.specs.SinceData.{KeepsTimes}
-use Rattle.eval_since.specs.declared.recalled.KeptRow.{KeptRow}
+use Rattle.eval_since.proofs.RestoredLemmas.{each_ascends as times_rise}
 use Rattle.eval_since.specs.declared.recalled.PrevData.{PrevData}
 use Rattle.eval_until.specs.declared.recalled.KeptMarks.{KeptMarks}
 use Rattle.eval_until.specs.declared.recalled.Mark.{Mark}
@@ -133,16 +131,10 @@ module _ (view : View) (r q : Region) where
 
 -- ---- rows in order
 
-each_rises : (hi : Option ℕ) (past : ℕ) (rows : List KeptRow)
-    → AllByRecursion (λ (k : KeptRow). KeepsTimes hi past k.times.items) rows
-    → AllByRecursion (λ (k : KeptRow). IsStrictlyIncreasing k.times.items) rows
-each_rises hi past [] all = tt
-each_rises hi past (k ∷ ks) all = (all.0.ascend, each_rises hi past ks all.1)
-
 since_ordered : (k : KeptTimes) (i : Interval) (f g : CoreForm) (s : SinceKept) → SinceKeeps k i f g s
     → SinceOrdered s.kept
 since_ordered k i f g s keeps =
-    record { rows = keeps.rule.rows; times = each_rises _ _ s.kept.rows.items keeps.rule.each }
+    record { rows = keeps.rule.rows; times = times_rise _ _ s.kept.rows.items keeps.rule.each }
 
 each_ascends : (rows : List KeptMarks) → AllByRecursion (λ (e : List Value
     × List Mark). MarksAscend e.1) (marks_kept rows)

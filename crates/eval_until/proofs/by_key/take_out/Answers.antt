@@ -4,8 +4,9 @@ use Rattle.std.specs.BTreeMap.{is_at}
 use Rattle.std.specs.Map.{lookup}
 use Rattle.std.specs.Option.{unwrap_or}
 use Rattle.mfotl_model.specs.Values.{row_cmp}
+use Rattle.relations.proofs.KeptLemmas.{empty_list}
 use Rattle.relations.proofs.MapLemmas.{nothing_there}
-use Rattle.eval_until.proofs.ByKeyLemmas.{changed_set, no_rows, none_out}
+use Rattle.eval_until.proofs.ByKeyLemmas.{changed_set, none_out}
 use Rattle.eval_until.proofs.by_key.take_out.Goals as goal
 
 pub returns-in-Err : goal.returns-in-Err
@@ -32,7 +33,7 @@ returns-then-is_empty c = λ q u.
       c.get_mut-set.ensures.written c.remove.new.self,
       c.remove-then-is_empty.ensures.removed,
     ))
-    (no_rows c.remove.new.self (sym c.is_empty.ensures ∙ c.if-is_empty.true))
+    (empty_list c.remove.new.self (sym c.is_empty.ensures ∙ c.if-is_empty.true))
     (ap (λ o. unwrap_or o []) is)
     (c.remove.ensures u)
 

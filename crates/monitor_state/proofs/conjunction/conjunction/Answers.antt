@@ -2,6 +2,7 @@ use Rattle.std.proofs.Common.{◌≡◌, true, false, map, refl, sym, ap, ◌∙
 use Rattle.std.proofs.lemmas.List.Folds.{list_all-map}
 use Rattle.std.specs.List.{list_all, list_any}
 use Rattle.mfotl_model.proofs.LogicLemmas.{any_map}
+use Rattle.eval_bool.specs.Laws.{passes}
 use Rattle.eval_bool.specs.JoinView.{children_of, is_guarded, join_begun, tests_of}
 use Rattle.monitorable.specs.Conjuncts.{conjuncts_of}
 use Rattle.monitorable.specs.CoreForms.{node_form}
@@ -10,7 +11,7 @@ use Rattle.monitor_state.proofs.BeginLemmas.{join_node, tests_node}
 use Rattle.monitor_state.proofs.ConstantLemmas.{tests_are, tests_closed}
 use Rattle.monitor_state.proofs.GuardLemmas.{join_guarded, some_child}
 use Rattle.monitor_state.specs.Beginnings.{is_child}
-use Rattle.monitor_state.specs.Constants.{is_ground_test, passes_test}
+use Rattle.monitor_state.specs.Constants.{is_ground_test}
 use Rattle.monitor_state.specs.Stands.{conjunct_as}
 use Rattle.monitor_state.proofs.conjunction.conjunction.Goals as goal
 
@@ -63,5 +64,5 @@ returns c =
     (c.requires.whole refl) guarded.1 none
     c.in_ok-table.ensures.columns
     (λ v. c.in_ok-table.ensures.has v
-    ∙ sym (list_all-map (passes_test v) part_form c.as_slice-parts.result.now)
-    ∙ ap (list_all (passes_test v)) forms))
+    ∙ sym (list_all-map (λ part. passes v (conjunct_as part)) part_form c.as_slice-parts.result.now)
+    ∙ ap (list_all (λ part. passes v (conjunct_as part))) forms))
