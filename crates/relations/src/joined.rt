@@ -1,10 +1,11 @@
 //! Joins with a table that has no columns of its own.
-ghost use Rattle.std.specs.Prelude.{◌≡◌, ◌&&◌, ◌<◌, IfOk, IsTrue};
+ghost use Rattle.std.specs.Prelude.{◌≡◌, ◌&&◌, ◌<◌, IfOk, IsTrue, length};
 ghost use Rattle.std.specs.List.{filter};
 ghost use Rattle.std.specs.List.Sorted.{IsStrictlySortedBy};
+ghost use Rattle.mfotl_model.specs.Ascending.{ascending};
 ghost use Rattle.mfotl_model.specs.FreeVariables.{joined};
 ghost use Rattle.mfotl_model.specs.Satisfaction.{Valuation};
-ghost use Rattle.mfotl_model.specs.Tables.{all_among, has, has_row, part};
+ghost use Rattle.mfotl_model.specs.Tables.{all_among, all_sized, has, has_row, part};
 ghost use Rattle.mfotl_model.specs.Values.{row_cmp};
 ghost use Rattle.relations.specs.Operations.{has_part, joined_rows, joined_table};
 
@@ -55,6 +56,35 @@ fn only_matched(alloc: Global, table: Table, other: &Table) -> Result<Table, All
     Ok(Table::from_ascending(columns, kept))
 }
 
+// The pairs that agree and of which the third has a part, by an index of the second and a set of the third's rows.
+fn pairs_kept<L: Ledger>(
+    alloc: Global,
+    first: &Table,
+    second: &Table,
+    third: &Table,
+    steps: &mut Steps<L>,
+) -> Result<Vec<Row>, AllocError>
+    ensures sized { IfOk result (λ rows.
+        IsTrue (all_sized (length (joined first.now.columns second.now.columns)) rows.items)) }
+    ensures rows { IfOk result (λ rows. ascending row_cmp rows.items ≡
+        filter (has_part third.now (joined first.now.columns second.now.columns))
+        (joined_rows first.now second.now)) }
+{
+    let key = common(alloc, first.columns(), second.columns())?;
+    let index = second.index(alloc, key)?;
+    let set = hashed(alloc, third.rows())?;
+    let rows = kept_pairs(
+        alloc,
+        first.columns(),
+        first.rows(),
+        &index,
+        third.columns(),
+        &set,
+        steps,
+    )?;
+    Ok(rows)
+}
+
 // The rows of the join of two tables of which the third has a part. Other pairs aren't made.
 fn join_kept<L: Ledger>(
     alloc: Global,
@@ -73,19 +103,8 @@ fn join_kept<L: Ledger>(
         (joined_rows first.now second.now)) }
 {
     let columns = both_columns(alloc, first.columns(), second.columns())?;
-    let key = common(alloc, first.columns(), second.columns())?;
-    let index = second.index(alloc, key)?;
     let mut steps = Steps::<L>::new(blank);
-    let set = hashed(alloc, third.rows())?;
-    let rows = kept_pairs(
-        alloc,
-        first.columns(),
-        first.rows(),
-        &index,
-        third.columns(),
-        &set,
-        &mut steps,
-    )?;
+    let rows = pairs_kept(alloc, first, second, third, &mut steps)?;
     Ok(Table::from_rows(columns, rows))
 }
 
