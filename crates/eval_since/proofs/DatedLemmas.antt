@@ -1,43 +1,20 @@
 -- The queue made of the rows of plain data: it finds each of their times, the earliest first.
-use Rattle.std.proofs.Common.{◌≡◌, ℕ, suc, ◌<◌, ◌≤◌, Bool, true, false, cond, nat_eq, nat_le, ◌&&◌, ◌||◌, List, []}
-use Rattle.std.proofs.Common.{◌∷◌, length, get_or, Some, refl, arith}
+use Rattle.std.proofs.Common.{◌≡◌, ℕ, suc, ◌≤◌, Bool, true, false, cond, nat_eq, nat_le, ◌&&◌, List, []}
+use Rattle.std.proofs.Common.{◌∷◌, Some, refl, arith}
 use Rattle.std.proofs.lemmas.Bool.{and_from, or_left, or_right}
 use Rattle.std.proofs.lemmas.Bool.Decides.{nat_tests}
 use Rattle.std.specs.BTreeMap.{is_at}
 use Rattle.std.specs.List.{AllByRecursion, list_all, list_any}
-use Rattle.std.specs.List.Sorted.{IsNonDecreasingBy}
 use Rattle.std.specs.Option.{unwrap_or}
-use Rattle.mfotl_model.proofs.LogicLemmas.{same_number}
 use Rattle.mfotl_model.specs.Tables.{has_row}
 use Rattle.mfotl_model.specs.Values.{row_cmp}
 use Rattle.mfotl_model.specs.declared.value.Value.{Value}
 use Rattle.relations.specs.KeptRows.{kept_for}
+use Rattle.relations.proofs.QueueLemmas.{all_own, any_with}
 use Rattle.relations.proofs.TestLemmas.{all_weaker}
 use Rattle.eval_since.specs.Recalled.{is_recalled, times_for, times_kept}
 use Rattle.eval_since.specs.Times.{ArePast}
-use Rattle.eval_since.specs.Windows.{Rising}
 use Rattle.eval_since.specs.declared.recalled.KeptRow.{KeptRow}
-use Rattle.eval_since.specs.declared.contents.Dated.{Dated}
-
--- each of the numbers is among them
-all_own : (p : ℕ → Bool) (ts : List ℕ) → ((y : ℕ) → list_any (λ t. nat_eq t y) ts ≡ true → p y ≡ true)
-    → list_all p ts ≡ true
-all_own p [] each = refl
-all_own p (t ∷ ts) each =
-    and_from (p t) (list_all p ts) (each t (or_left (nat_eq t t) (list_any (λ s. nat_eq s t) ts) (same_number t)))
-    (all_own p ts (λ y there. each y (or_right (nat_eq t y) (list_any (λ s. nat_eq s y) ts) there)))
-
-any_with : (c : Bool) (y : ℕ) (ts : List ℕ) → c ≡ true → list_any (λ t. nat_eq t y) ts ≡ true
-    → list_any (λ t. nat_eq t y && c) ts ≡ true
-any_with c y [] is there = there
-any_with c y (t ∷ ts) is there = by (nat_eq t y) (any_with c y ts is) there
-  where
-    by : (b : Bool)
-        → (list_any (λ t. nat_eq t y) ts ≡ true → list_any (λ t. nat_eq t y && c) ts ≡ true)
-        → (b || list_any (λ t. nat_eq t y) ts) ≡ true
-        → ((b && c) || list_any (λ t. nat_eq t y && c) ts) ≡ true
-    by true rest there = or_left c (list_any (λ t. nat_eq t y && c) ts) is
-    by false rest there = rest there
 
 -- the rows name each time that is kept for a row
 pub names_own : (rows : List KeptRow) (v : List Value) → list_all (is_recalled rows v) (times_for rows v) ≡ true
@@ -50,27 +27,11 @@ names_own (k ∷ ks) v = by (is_at (row_cmp v) k.row) refl (names_own ks v)
     by : (b : Bool) → is_at (row_cmp v) k.row ≡ b → list_all (is_recalled ks v) (times_for ks v) ≡ true
         → list_all (is_recalled (k ∷ ks) v) (unwrap_or (cond b (Some k.times.items) (kept_for (times_kept ks) v)) [])
         ≡ true
-    by true at rest = all_own (is_recalled (k ∷ ks) v) k.times.items (λ y there.
+    by true at rest = all_own (λ t. t) (is_recalled (k ∷ ks) v) k.times.items (λ y there.
         or_left (own y) (is_recalled ks v y)
-        (any_with (has_row (k.row ∷ []) v) y k.times.items (or_left (is_at (row_cmp v) k.row) false at) there))
+        (any_with (λ t. t) (has_row (k.row ∷ []) v) y k.times.items (or_left (is_at (row_cmp v) k.row) false at) there))
     by false at rest = all_weaker (is_recalled ks v) (is_recalled (k ∷ ks) v) (times_for ks v)
         (λ y there. or_right (own y) (is_recalled ks v y) there) rest
-
-low_all : (m : ℕ) (ds : List Dated) → ((j : ℕ) (d : Dated) → j < length ds → m ≤ (get_or ds j d).ts)
-    → list_all (λ e. nat_le m e.ts) ds ≡ true
-low_all m [] low = refl
-low_all m (d ∷ ds) low =
-    let first : m ≤ d.ts = low 0 d (omega arith) in
-    and_from (nat_le m d.ts) (list_all (λ e. nat_le m e.ts) ds) (grind (arith, nat_tests))
-    (low_all m ds (λ j e l. low (suc j) e (omega arith)))
-
--- times in order never fall
-pub rising_from : (ds : List Dated) → IsNonDecreasingBy (λ d. d.ts) ds → Rising ds
-rising_from [] up = tt
-rising_from (d ∷ ds) up = (
-  low_all d.ts ds (λ j e l. up 0 (suc j) e (omega arith) (omega arith)),
-  rising_from ds (λ i j e l m. up (suc i) (suc j) e (omega arith) (omega arith)),
-)
 
 -- no time is after the last
 pub past_all : (x : ℕ) (ts : List ℕ) → ArePast x ts → list_all (λ t. nat_le t x) ts ≡ true

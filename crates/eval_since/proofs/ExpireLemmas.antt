@@ -17,6 +17,7 @@ use Rattle.mfotl_model.specs.Tables.{has_row, part}
 use Rattle.eval_since.specs.Times.{ArePast, is_new, added, recent}
 use Rattle.eval_since.specs.Windows.{Placed, IsThinned, names, Rising, NotAfter, Fresh, FindsOldTimes, Bounded}
 use Rattle.std.specs.Option.{IfSome}
+use Rattle.relations.proofs.TestLemmas.{all_push, all_weaker}
 use Rattle.eval_since.proofs.GroupLemmas.{recent_none}
 use Rattle.eval_since.proofs.WindowLemmas.{recent_twice, past_added}
 
@@ -84,15 +85,6 @@ covered_more hi x right left d ds q v cur new far placed all step = by (is_at (r
     by true true at is e = ap (list_all (names ds v)) e ∙ names_recent hi x d ds v (times_at cur q v) far all
     by true false at is e = ap (list_all (names ds v)) e ∙ names_other d ds v (times_at cur q v) is all
 
-later_fresh : (hi x y : ℕ) (ds : List Dated) → x - y ≤ hi → list_all (λ e. nat_le y e.ts) ds ≡ true
-    → list_all (λ e. nat_le (x - e.ts) hi) ds ≡ true
-later_fresh hi x y [] near all = refl
-later_fresh hi x y (d ∷ ds) near all =
-    let parts = and_parts (nat_le y d.ts) (list_all (λ e. nat_le y e.ts) ds) all in
-    let low : y ≤ d.ts = leb-true y d.ts parts.0 in
-    let here : nat_le (x - d.ts) hi ≡ true = grind (arith, nat_tests) in
-    and_from (nat_le (x - d.ts) hi) (list_all (λ e. nat_le (x - e.ts) hi) ds) here (later_fresh hi x y ds near parts.1)
-
 -- where the first table is recent, all are
 pub fresh_front : (hi x : ℕ) (queue : List Dated) (d : Dated) → d ≡ get_or queue 0 d → Rising queue → x - d.ts ≤ hi
     → Fresh hi x queue
@@ -100,7 +92,10 @@ fresh_front hi x [] d e rising near = refl
 fresh_front hi x (f ∷ fs) d e rising near =
     let g : x - f.ts ≤ hi = subst (λ (k : Dated). x - k.ts ≤ hi) e near in
     and_from (nat_le (x - f.ts) hi) (list_all (λ k. nat_le (x - k.ts) hi) fs)
-    (let h : nat_le (x - f.ts) hi ≡ true = grind (arith, nat_tests) in h) (later_fresh hi x f.ts fs g rising.0)
+    (let h : nat_le (x - f.ts) hi ≡ true = grind (arith, nat_tests) in h)
+    (all_weaker (λ e. nat_le f.ts e.ts) (λ e. nat_le (x - e.ts) hi) fs (λ e later.
+    let low : f.ts ≤ e.ts = leb-true f.ts e.ts later in
+    let h : nat_le (x - e.ts) hi ≡ true = grind (arith, nat_tests) in h) rising.0)
 
 pub front_far : (hi x : ℕ) (queue rest : List Dated) (d f : Dated) → queue ≡ f ∷ rest → d ≡ get_or queue 0 d
     → hi < x - d.ts → hi < x - f.ts
@@ -108,31 +103,14 @@ front_far hi x queue rest d f is e far = let s : d ≡ f = e
     ∙ ap (λ (q : List Dated). get_or q 0 d) is in subst (λ (k : Dated). hi < x - k.ts) s far
 
 pub not_after_later : (x y : ℕ) (ds : List Dated) → x ≤ y → NotAfter x ds → NotAfter y ds
-not_after_later x y [] l all = refl
-not_after_later x y (d ∷ ds) l all =
-    let parts = and_parts (nat_le d.ts x) (list_all (λ e. nat_le e.ts x) ds) all in
-    let low : d.ts ≤ x = leb-true d.ts x parts.0 in
-    and_from (nat_le d.ts y) (list_all (λ e. nat_le e.ts y) ds)
-    (let h : nat_le d.ts y ≡ true = grind (arith, nat_tests) in h) (not_after_later x y ds l parts.1)
+not_after_later x y ds l all =
+    all_weaker (λ e. nat_le e.ts x) (λ e. nat_le e.ts y) ds (λ e before.
+    let low : e.ts ≤ x = leb-true e.ts x before in
+    let h : nat_le e.ts y ≡ true = grind (arith, nat_tests) in h) all
 
 pub not_after_push : (x : ℕ) (ds : List Dated) (d : Dated) → NotAfter x ds → d.ts ≤ x → NotAfter x (ds ++ d ∷ [])
 not_after_push x ds d all l =
-    list_all-append (λ e. nat_le e.ts x) ds (d ∷ [])
-    ∙ and_from (list_all (λ e. nat_le e.ts x) ds) (nat_le d.ts x && true) all
-    (and_from (nat_le d.ts x) true (let h : nat_le d.ts x ≡ true = grind (arith, nat_tests) in h) refl)
-
-all_below : (y : ℕ) (ds : List Dated) (d : Dated) → list_all (λ e. nat_le y e.ts) ds ≡ true → y ≤ d.ts
-    → list_all (λ e. nat_le y e.ts) (ds ++ d ∷ []) ≡ true
-all_below y ds d all l =
-    list_all-append (λ e. nat_le y e.ts) ds (d ∷ [])
-    ∙ and_from (list_all (λ e. nat_le y e.ts) ds) (nat_le y d.ts && true) all
-    (and_from (nat_le y d.ts) true (let h : nat_le y d.ts ≡ true = grind (arith, nat_tests) in h) refl)
-
-pub rising_push : (ds : List Dated) (d : Dated) → Rising ds → NotAfter d.ts ds → Rising (ds ++ d ∷ [])
-rising_push [] d rising all = (refl, tt)
-rising_push (e ∷ ds) d rising all =
-    let parts = and_parts (nat_le e.ts d.ts) (list_all (λ k. nat_le k.ts d.ts) ds) all in
-    (all_below e.ts ds d rising.0 (leb-true e.ts d.ts parts.0), rising_push ds d rising.1 parts.1)
+    all_push (λ e. nat_le e.ts x) ds d all (let h : nat_le d.ts x ≡ true = grind (arith, nat_tests) in h)
 
 names_push : (ds : List Dated) (d : Dated) (v : List Value) (ys : List ℕ) → list_all (names ds v) ys ≡ true
     → list_all (names (ds ++ d ∷ []) v) ys ≡ true

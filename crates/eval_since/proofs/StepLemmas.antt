@@ -15,7 +15,8 @@ use Rattle.eval_since.specs.Times.{reaches, added}
 use Rattle.eval_since.specs.Windows.{Alone, Ascending, Sized, Placed, Past, IsThinned, Covered, Rising, NotAfter}
 use Rattle.eval_since.specs.Windows.{Fresh, FindsOldTimes, Keeps}
 use Rattle.eval_since.proofs.ExpireLemmas.{past_held, past_joined, placed_joined, past_thinned, placed_thinned}
-use Rattle.eval_since.proofs.ExpireLemmas.{covered_push, rising_push, not_after_later, not_after_push}
+use Rattle.relations.proofs.QueueLemmas.{rises_push}
+use Rattle.eval_since.proofs.ExpireLemmas.{covered_push, not_after_later, not_after_push}
 use Rattle.std.specs.List.Sorted.{IsStrictlyIncreasing}
 use Rattle.eval_since.proofs.RuleLemmas.{increasing_more, increasing_none, increasing_thinned, one_more}
 use Rattle.relations.proofs.MapLemmas.{either}
@@ -131,7 +132,7 @@ module _ (interval : Interval) (right left : List ℕ) (goes : List Value → Bo
       (j.second q v)
 
   pub rising_after : (hi : ℕ) → interval.hi ≡ Some hi → Joined → Rising (queue ++ d ∷ [])
-  rising_after hi e j = rising_push queue d (finds_before hi e j).1
+  rising_after hi e j = rises_push (λ (k : Dated). k.ts) queue d (finds_before hi e j).1
       (not_after_later last d.ts queue j.rises (finds_before hi e j).2)
 
   pub not_after : (hi : ℕ) → interval.hi ≡ Some hi → Joined → NotAfter d.ts (queue ++ d ∷ [])

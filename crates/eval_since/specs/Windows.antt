@@ -1,10 +1,11 @@
 -- What holds of each window.
 use Rattle.std.specs.Prelude.{◌≡◌, ℕ, ◌-◌, ◌≤◌, Bool, true, false, ◌&&◌, ◌⊎◌, nat_eq, nat_le, Option, Some, None}
-use Rattle.std.specs.Prelude.{List, [], ◌∷◌, length}
+use Rattle.std.specs.Prelude.{List, [], length}
 use Rattle.std.specs.BTreeMap.{is_at}
 use Rattle.std.specs.List.Sorted.{IsStrictlyIncreasing}
 use Rattle.mfotl_model.specs.Values.{row_cmp}
 use Rattle.mfotl_model.specs.declared.value.Value.{Value}
+use Rattle.relations.specs.Queues.{RisesBy}
 use Rattle.eval_since.specs.Groups.{NoneEmpty, times_at}
 use Rattle.std.specs.List.{list_any, list_all}
 use Rattle.eval_since.specs.PackedRows.{packed_rows}
@@ -51,8 +52,7 @@ Covered queue groups = (q v : List Value) → list_all (names queue v) (times_at
 
 -- the queue's times never fall
 abbrev pub Rising : List Dated → Type 0
-Rising [] = Unit {0}
-Rising (d ∷ ds) = (list_all (λ e. nat_le d.ts e.ts) ds ≡ true) × Rising ds
+Rising queue = RisesBy (λ d. d.ts) queue
 
 -- none of the queue's times is after x
 abbrev pub NotAfter : ℕ → List Dated → Type 0

@@ -11,6 +11,8 @@ use Rattle.std.specs.List.{list_all}
 use Rattle.std.specs.Option.{IfSome}
 use Rattle.mfotl_model.specs.Tables.{has_row}
 use Rattle.mfotl_model.specs.declared.value.Value.{Value}
+use Rattle.relations.proofs.QueueLemmas.{rises_push}
+use Rattle.relations.proofs.TestLemmas.{all_push, all_weaker}
 use Rattle.eval_until.specs.declared.contents.Taken.{Taken}
 use Rattle.eval_until.specs.declared.entries.Entry.{Entry}
 use Rattle.eval_until.specs.Entries.{from_place}
@@ -100,14 +102,6 @@ later_more negated next old cur new b later e = by negated refl b later e
     by true is true (inl same) e = inr (is, e ∙ ap (later_start next) same)
     by true is true (inr later) e = inr (is, e ∙ ap (later_start next) later.1 ∙ later_twice next old)
 
-later_fresh : (next y : ℕ) (qs : List Taken) → next ≤ y → list_all (λ q. nat_le y q.place) qs ≡ true → Fresh next qs
-later_fresh next y [] l all = refl
-later_fresh next y (q ∷ qs) l all =
-    let parts = and_parts (nat_le y q.place) (list_all (λ r. nat_le y r.place) qs) all in
-    let low : y ≤ q.place = leb-true y q.place parts.0 in
-    and_from (nat_le next q.place) (list_all (λ r. nat_le next r.place) qs)
-    (let h : nat_le next q.place ≡ true = grind (arith, nat_tests) in h) (later_fresh next y qs l parts.1)
-
 -- where the first position isn't below next, none is
 pub fresh_front : (next : ℕ) (queue : List Taken) (q : Taken) → q ≡ get_or queue 0 q → Rising queue
     → next ≤ q.place → Fresh next queue
@@ -115,7 +109,10 @@ fresh_front next [] q e rising low = refl
 fresh_front next (r ∷ rs) q e rising low =
     let g : next ≤ r.place = subst (λ (k : Taken). next ≤ k.place) e low in
     and_from (nat_le next r.place) (list_all (λ k. nat_le next k.place) rs)
-    (let h : nat_le next r.place ≡ true = grind (arith, nat_tests) in h) (later_fresh next r.place rs g rising.0)
+    (let h : nat_le next r.place ≡ true = grind (arith, nat_tests) in h)
+    (all_weaker (λ k. nat_le r.place k.place) (λ k. nat_le next k.place) rs (λ k later.
+    let l : r.place ≤ k.place = leb-true r.place k.place later in
+    let h : nat_le next k.place ≡ true = grind (arith, nat_tests) in h) rising.0)
 
 pub front_before : (next : ℕ) (queue rest : List Taken) (q r : Taken) → queue ≡ r ∷ rest → q ≡ get_or queue 0 q
     → q.place < next → r.place < next
@@ -132,23 +129,17 @@ after_push p (r ∷ rs) q all e =
     and_from (nat_lt r.place (p + 1)) (list_all (λ k. nat_lt k.place (p + 1)) (rs ++ q ∷ []))
     (let h : nat_lt r.place (p + 1) ≡ true = grind (arith, nat_tests) in h) (after_push p rs q parts.1 e)
 
-all_below : (y : ℕ) (qs : List Taken) (q : Taken) → list_all (λ r. nat_le y r.place) qs ≡ true → y ≤ q.place
-    → list_all (λ r. nat_le y r.place) (qs ++ q ∷ []) ≡ true
-all_below y qs q all l =
-    list_all-append (λ r. nat_le y r.place) qs (q ∷ [])
-    ∙ and_from (list_all (λ r. nat_le y r.place) qs) (nat_le y q.place && true) all
-    (and_from (nat_le y q.place) true (let h : nat_le y q.place ≡ true = grind (arith, nat_tests) in h) refl)
-
 pub fresh_push : (next : ℕ) (qs : List Taken) (q : Taken) → Fresh next qs → next ≤ q.place → Fresh next (qs ++ q ∷ [])
-fresh_push next qs q fresh l = all_below next qs q fresh l
+fresh_push next qs q fresh l =
+    all_push (λ r. nat_le next r.place) qs q fresh (let h : nat_le next q.place ≡ true = grind (arith, nat_tests) in h)
 
 pub rising_push : (p : ℕ) (qs : List Taken) (q : Taken) → Rising qs → NotAfter p qs → q.place ≡ p
     → Rising (qs ++ q ∷ [])
-rising_push p [] q rising all e = (refl, tt)
-rising_push p (r ∷ rs) q rising all e =
-    let parts = and_parts (nat_lt r.place p) (list_all (λ k. nat_lt k.place p) rs) all in
-    let l : r.place < p = ltb-true r.place p parts.0 in
-    (all_below r.place rs q rising.0 (omega arith), rising_push p rs q rising.1 parts.1 e)
+rising_push p qs q rising all e =
+    rises_push (λ (r : Taken). r.place) qs q rising (all_weaker (λ r. nat_lt r.place p) (λ r. nat_le r.place q.place) qs
+    (λ r before.
+    let l : r.place < p = ltb-true r.place p before in
+    let h : nat_le r.place q.place ≡ true = grind (arith, nat_tests) in h) all)
 
 names_more : (qs : List Taken) (q : Taken) (u : List Value) (j : ℕ) → names qs u j ≡ true
     → names (qs ++ q ∷ []) u j ≡ true

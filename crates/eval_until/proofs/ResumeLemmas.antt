@@ -1,14 +1,12 @@
 -- What UNTIL keeps with given starts and entries, and that look-ups alone tell whether a state is right.
 use Rattle.std.proofs.Common.{◌≡◌, ℕ, ◌+◌, ◌-◌, ◌<◌, ◌≤◌, Bool, true, false, cond, nat_eq, nat_le, nat_lt, ◌&&◌}
-use Rattle.std.proofs.Common.{◌||◌, List, [], ◌∷◌, length, map, get_or, Option, Some, None, refl, sym, subst, ap}
-use Rattle.std.proofs.Common.{◌∙◌, arith, suc}
+use Rattle.std.proofs.Common.{◌||◌, List, [], ◌∷◌, length, map, Option, Some, None, refl, sym, subst, ap}
+use Rattle.std.proofs.Common.{◌∙◌, arith}
 use Rattle.std.proofs.lemmas.Bool.{and_from, and_parts, or_left, or_right}
 use Rattle.std.proofs.lemmas.Bool.Decides.{nat_tests}
 use Rattle.std.specs.BTreeMap.{is_at}
 use Rattle.std.specs.List.{AllByRecursion, list_all, list_any}
-use Rattle.std.specs.List.Sorted.{IsNonDecreasingBy}
 use Rattle.std.specs.Option.{IfSome, unwrap_or}
-use Rattle.mfotl_model.proofs.LogicLemmas.{same_number}
 use Rattle.mfotl_model.specs.Satisfaction.{Valuation, time_at}
 use Rattle.mfotl_model.specs.Tables.{TableOf, all_apart, has_row}
 use Rattle.mfotl_model.specs.Values.{row_cmp}
@@ -16,6 +14,7 @@ use Rattle.mfotl_model.specs.declared.interval.Interval.{Interval}
 use Rattle.mfotl_model.specs.declared.value.Value.{Value}
 use Rattle.relations.specs.KeptRows.{RowsAscend, kept_for, list_for}
 use Rattle.relations.proofs.KeptLemmas.{each_kept}
+use Rattle.relations.proofs.QueueLemmas.{all_own, any_with}
 use Rattle.relations.proofs.TestLemmas.{all_weaker}
 use Rattle.eval_until.specs.AheadView.{AheadOf}
 use Rattle.eval_until.specs.Entries.{met_by}
@@ -25,42 +24,6 @@ use Rattle.eval_until.specs.Rules.{Ascending, NoneEmpty, PlacesAscend, StartsAbo
 use Rattle.eval_until.specs.UntilView.{Follows, FollowsLeft}
 use Rattle.eval_until.specs.declared.contents.Taken.{Taken}
 use Rattle.eval_until.specs.declared.entries.Entry.{Entry}
-
-low_all : (m : ℕ) (qs : List Taken) → ((j : ℕ) (d : Taken) → j < length qs → m ≤ (get_or qs j d).place)
-    → list_all (λ r. nat_le m r.place) qs ≡ true
-low_all m [] low = refl
-low_all m (q ∷ qs) low =
-    let first : m ≤ q.place = low 0 q (omega arith) in
-    and_from (nat_le m q.place) (list_all (λ r. nat_le m r.place) qs) (grind (arith, nat_tests))
-    (low_all m qs (λ j e l. low (suc j) e (omega arith)))
-
--- positions in order never fall
-pub rising_from : (qs : List Taken) → IsNonDecreasingBy (λ q. q.place) qs → Rising qs
-rising_from [] up = tt
-rising_from (q ∷ qs) up = (
-  low_all q.place qs (λ j e l. up 0 (suc j) e (omega arith) (omega arith)),
-  rising_from qs (λ i j e l m. up (suc i) (suc j) e (omega arith) (omega arith)),
-)
-
-all_own : (p : ℕ → Bool) (es : List Entry) → ((j : ℕ) → list_any (λ e. nat_eq e.place j) es ≡ true → p j ≡ true)
-    → list_all (λ e. p e.place) es ≡ true
-all_own p [] each = refl
-all_own p (e ∷ es) each =
-    and_from (p e.place) (list_all (λ f. p f.place) es)
-    (each e.place (or_left (nat_eq e.place e.place) (list_any (λ f. nat_eq f.place e.place) es) (same_number e.place)))
-    (all_own p es (λ j there. each j (or_right (nat_eq e.place j) (list_any (λ f. nat_eq f.place j) es) there)))
-
-any_with : (c : Bool) (j : ℕ) (es : List Entry) → c ≡ true → list_any (λ e. nat_eq e.place j) es ≡ true
-    → list_any (λ e. nat_eq e.place j && c) es ≡ true
-any_with c j [] is there = there
-any_with c j (e ∷ es) is there = by (nat_eq e.place j) (any_with c j es is) there
-  where
-    by : (b : Bool)
-        → (list_any (λ f. nat_eq f.place j) es ≡ true → list_any (λ f. nat_eq f.place j && c) es ≡ true)
-        → (b || list_any (λ f. nat_eq f.place j) es) ≡ true
-        → ((b && c) || list_any (λ f. nat_eq f.place j && c) es) ≡ true
-    by true rest there = or_left c (list_any (λ f. nat_eq f.place j && c) es) is
-    by false rest there = rest there
 
 -- the rows name the position of each entry that is kept for a row
 named_own : (rows : List (List Value × List Entry)) (u : List Value)
@@ -73,9 +36,9 @@ named_own (r ∷ rs) u = by (is_at (row_cmp u) r.0) refl (named_own rs u)
 
     by : (b : Bool) → is_at (row_cmp u) r.0 ≡ b → list_all (λ e. is_recalled rs u e.place) (list_for rs u) ≡ true
         → list_all (λ e. is_recalled (r ∷ rs) u e.place) (unwrap_or (cond b (Some r.1) (kept_for rs u)) []) ≡ true
-    by true at rest = all_own (is_recalled (r ∷ rs) u) r.1 (λ j there.
+    by true at rest = all_own (λ (e : Entry). e.place) (is_recalled (r ∷ rs) u) r.1 (λ j there.
         or_left (own j) (is_recalled rs u j)
-        (any_with (has_row (r.0 ∷ []) u) j r.1 (or_left (is_at (row_cmp u) r.0) false at) there))
+        (any_with (λ (e : Entry). e.place) (has_row (r.0 ∷ []) u) j r.1 (or_left (is_at (row_cmp u) r.0) false at) there))
     by false at rest =
         all_weaker (λ (e : Entry). is_recalled rs u e.place) (λ (e : Entry). is_recalled (r ∷ rs) u e.place)
         (list_for rs u) (λ e there. or_right (own e.place) (is_recalled rs u e.place) there) rest

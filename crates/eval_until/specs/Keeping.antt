@@ -6,6 +6,7 @@ use Rattle.std.specs.Option.{IfSome}
 use Rattle.mfotl_model.specs.Tables.{all_apart, has_row}
 use Rattle.mfotl_model.specs.declared.value.Value.{Value}
 use Rattle.relations.specs.KeptRows.{kept_for, list_for}
+use Rattle.relations.specs.Queues.{RisesBy}
 use Rattle.eval_until.specs.declared.contents.Taken.{Taken}
 use Rattle.eval_until.specs.declared.entries.Entry.{Entry}
 use Rattle.eval_until.specs.Entries.{from_place}
@@ -40,8 +41,7 @@ CoveredStarts queue starts = (w : List Value)
 
 -- the queue's positions never fall
 abbrev pub Rising : List Taken → Type 0
-Rising [] = Unit {0}
-Rising (q ∷ qs) = (list_all (λ r. nat_le q.place r.place) qs ≡ true) × Rising qs
+Rising queue = RisesBy (λ q. q.place) queue
 
 -- a position goes into the queue, or has no rows there
 abbrev pub Queues : List Taken → Taken → List Taken → Type 0

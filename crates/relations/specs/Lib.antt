@@ -5,4 +5,5 @@ pub mod Searches
 pub mod Indexes
 pub mod Pushed
 pub mod KeptRows
+pub mod Queues
 pub mod Examples

@@ -5,8 +5,8 @@ use Rattle.mfotl_model.specs.Tables.{has_row}
 use Rattle.eval_since.specs.Windows.{Rising, names}
 use Rattle.eval_since.specs.PackedRows.{packed_rows}
 use Rattle.eval_since.specs.declared.contents.Dated.{Dated}
+use Rattle.relations.proofs.QueueLemmas.{rises_from}
 use Rattle.relations.proofs.TestLemmas.{all_moved}
-use Rattle.eval_since.proofs.DatedLemmas.{rising_from}
 use Rattle.eval_since.proofs.rebuild.dated_rows.Goals as goal
 
 pub returns-clause-names : goal.returns-clause-names
@@ -25,6 +25,6 @@ returns-clause-all c = λ test.
 
 pub returns-clause-rising : goal.returns-clause-rising
 returns-clause-rising c =
-    subst Rising (sym c.from_vec.ensures.items) (rising_from c.sort_unstable_by_key.new.self.items
+    subst Rising (sym c.from_vec.ensures.items) (rises_from (λ (d : Dated). d.ts) c.sort_unstable_by_key.new.self.items
     (IsNonDecreasingBy-from_sort_by_key (λ (d : Dated). d.ts) c.sort_unstable_by_key.new.self.items
     c.sort_unstable_by_key.ensures.sorted (λ a r q k. search rules)))

@@ -4,8 +4,8 @@ use Rattle.std.specs.List.{list_all}
 use Rattle.mfotl_model.specs.Tables.{has_row}
 use Rattle.eval_until.specs.Keeping.{Rising, breaks_before, names}
 use Rattle.eval_until.specs.declared.contents.Taken.{Taken}
+use Rattle.relations.proofs.QueueLemmas.{rises_from}
 use Rattle.relations.proofs.TestLemmas.{all_moved}
-use Rattle.eval_until.proofs.ResumeLemmas.{rising_from}
 use Rattle.eval_until.proofs.rebuild.in_order.Goals as goal
 
 pub returns-clause-names : goal.returns-clause-names
@@ -28,6 +28,6 @@ returns-clause-all c = λ test.
 
 pub returns-clause-rising : goal.returns-clause-rising
 returns-clause-rising c =
-    subst Rising (sym c.from_vec.ensures.items) (rising_from c.sort_unstable_by_key.new.self.items
+    subst Rising (sym c.from_vec.ensures.items) (rises_from (λ (q : Taken). q.place) c.sort_unstable_by_key.new.self.items
     (IsNonDecreasingBy-from_sort_by_key (λ (q : Taken). q.place) c.sort_unstable_by_key.new.self.items
     c.sort_unstable_by_key.ensures.sorted (λ a r q k. search rules)))
