@@ -52,7 +52,7 @@ Covered queue groups = (q v : List Value) → list_all (names queue v) (times_at
 
 -- the queue's times never fall
 abbrev pub Rising : List Dated → Type 0
-Rising queue = RisesBy (λ d. d.ts) queue
+Rising queue = RisesBy (λ (d : Dated). d.ts) queue
 
 -- none of the queue's times is after x
 abbrev pub NotAfter : ℕ → List Dated → Type 0

@@ -41,7 +41,7 @@ CoveredStarts queue starts = (w : List Value)
 
 -- the queue's positions never fall
 abbrev pub Rising : List Taken → Type 0
-Rising queue = RisesBy (λ q. q.place) queue
+Rising queue = RisesBy (λ (q : Taken). q.place) queue
 
 -- a position goes into the queue, or has no rows there
 abbrev pub Queues : List Taken → Taken → List Taken → Type 0
