@@ -67,7 +67,7 @@ module _ (first : List Value) where
       by false e = refl
 
   -- without times it is none
-  pub none_left : (v : List Value) → [] ≡ list_for ((first, []) ∷ []) v
+  pub none_left : (v : List Value) → [] ≡ list_for {X = ℕ} ((first, []) ∷ []) v
   none_left v = sym (times_one [] v ∙ either (is_at (row_cmp first) v) [])
     where
       either : (b : Bool) (ts : List ℕ) → cond b ts ts ≡ ts
