@@ -36,24 +36,13 @@ pub(crate) fn plain_rows(
     ensures { IfOk result (λ rows.
         rows.items ≡ atom_rows atom.now (variables_in atom.now.args) events.now) }
 {
-    let mut rows = Vec::new(alloc);
+    let mut rows = Vec::with_capacity(alloc, events.len())?;
     for event in events {
         if is_plain_match(atom, event) {
-            push_row(&mut rows, event.args.copy(alloc)?)?;
+            rows.push(event.args.copy(alloc)?)?;
         }
     }
     Ok(rows)
-}
-
-// Puts a row behind the others. A first one takes memory for itself alone: many time-points have one event.
-fn push_row(rows: &mut Vec<Row>, row: Row) -> Result<(), AllocError>
-    ensures { OnOk result (rows.new.items ≡ rows.old.items ++ row ∷ []) }
-{
-    if rows.is_empty() {
-        rows.reserve_exact(1)?;
-    }
-    rows.push(row)?;
-    Ok(())
 }
 
 // Distinct variables stand for whatever values there are, one for each.
