@@ -1,6 +1,7 @@
 -- Each row that is kept has a time, and each group a row.
-use Rattle.std.proofs.Common.{◌≡◌, ℕ, ◌<◌, Bool, true, false, cond, List, [], ◌∷◌, ◌++◌, length}
+use Rattle.std.proofs.Common.{◌≡◌, ℕ, ◌<◌, Bool, true, false, cond, nat_eq, List, [], ◌∷◌, ◌++◌, length}
 use Rattle.std.proofs.Common.{Option, Some, None, sym, subst, ap, ◌∙◌, arith}
+use Rattle.std.proofs.lemmas.Bool.{or_left}
 use Rattle.std.proofs.lemmas.Map.Entries.{lookup-filter-keys}
 use Rattle.std.specs.BTreeMap.{is_at}
 use Rattle.std.specs.Cmp.{eq_by_cmp_equiv}
@@ -77,6 +78,17 @@ pub row_changed : (h : List ℕ → List ℕ) (row : List Value) (old new : List
 row_changed h row old new is some =
     row_there new row (subst (λ (ts : List ℕ). 0 < length ts) (sym (is row
     ∙ ap (λ b. cond b (h (list_for old row)) (list_for old row)) ((eq_by_cmp_equiv row_total).refl row))) some)
+
+-- a group has some of the rows that it was given times for
+pub rows_changed : (h : List ℕ → List ℕ) (rows : List (List Value)) (old new : List (List Value × List ℕ))
+    → ((v : List Value) → list_for new v ≡ cond (has_row rows v) (h (list_for old v)) (list_for old v))
+    → ((ts : List ℕ) → 0 < length (h ts)) → nat_eq (length rows) 0 ≡ false → 0 < length new
+rows_changed h [] old new is some full = absurd (let w : true ≡ false = full in cc)
+rows_changed h (row ∷ rows) old new is some full =
+    row_there new row (subst (λ (ts : List ℕ). 0 < length ts) (sym (is row
+    ∙ ap (λ b. cond b (h (list_for old row)) (list_for old row))
+    (or_left (is_at (row_cmp row) row) (has_row rows row) ((eq_by_cmp_equiv row_total).refl row))))
+    (some (list_for old row)))
 
 -- one row
 pub one_has : (first : List Value) (ts : List ℕ) → 0 < length ts → HaveTimes ((first, ts) ∷ [])

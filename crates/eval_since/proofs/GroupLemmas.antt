@@ -1,6 +1,6 @@
 -- What a change at one row leaves at each row.
 use Rattle.std.proofs.Common.{◌≡◌, ℕ, ◌+◌, ◌<◌, Bool, true, false, cond, ◌&&◌, ◌||◌, List, [], ◌∷◌}
-use Rattle.std.proofs.Common.{length, get_or, take, Option, Some, None, refl, sym, ap, ◌∙◌}
+use Rattle.std.proofs.Common.{length, get_or, take, Option, Some, None, refl, sym, subst, ap, ◌∙◌}
 use Rattle.std.specs.BTreeMap.{is_at}
 use Rattle.std.specs.List.{list_any, filter}
 use Rattle.std.specs.Map.{lookup}
@@ -23,20 +23,18 @@ pub recent_none : (hi x : ℕ) → recent hi x [] ≡ []
 unfolding recent
 recent_none hi x = refl
 
--- a change at one row of one group
-pub grouped : (h : List ℕ → List ℕ) (key row q v : List Value)
+-- a change of one group, at the rows that are some of those meant
+grouped : (h : List ℕ → List ℕ) (key q v : List Value) (meant : Bool)
     (old new : List (List Value × List (List Value × List ℕ))) (g : List (List Value × List ℕ))
     → list_for new q ≡ cond (is_at (row_cmp key) q) g (list_for old q)
-    → list_for g v ≡ cond (is_at (row_cmp row) v) (h (list_for (list_for old key) v)) (list_for (list_for old key) v)
-    → times_at new q v ≡ cond (is_at (row_cmp key) q && is_at (row_cmp row) v) (h (times_at old q v))
-    (times_at old q v)
-grouped h key row q v old new g outer inner = ap (λ e. list_for e v) outer ∙ by (is_at (row_cmp key) q) refl
+    → list_for g v ≡ cond meant (h (list_for (list_for old key) v)) (list_for (list_for old key) v)
+    → times_at new q v ≡ cond (is_at (row_cmp key) q && meant) (h (times_at old q v)) (times_at old q v)
+grouped h key q v meant old new g outer inner = ap (λ e. list_for e v) outer ∙ by (is_at (row_cmp key) q) refl
   where
     by : (b : Bool) → is_at (row_cmp key) q ≡ b
-        → list_for (cond b g (list_for old q)) v ≡ cond (b && is_at (row_cmp row) v) (h (times_at old q v))
-        (times_at old q v)
-    by true e = inner ∙ ap (λ k. cond (is_at (row_cmp row) v) (h (list_for (list_for old k) v))
-        (list_for (list_for old k) v)) (same_row key q e)
+        → list_for (cond b g (list_for old q)) v ≡ cond (b && meant) (h (times_at old q v)) (times_at old q v)
+    by true e = inner ∙ ap (λ k. cond meant (h (list_for (list_for old k) v)) (list_for (list_for old k) v))
+        (same_row key q e)
     by false e = refl
 
 -- the groups of the parts so far are gone
@@ -136,6 +134,21 @@ unwrapped {X} d b w o p e = ap (λ r. unwrap_or r d) e ∙ by b
     by false = refl
 
 -- the same, where the changed group was e
+regrouped_all : (h : List ℕ → List ℕ) (key q v : List Value) (meant : Bool)
+    (old new : List (List Value × List (List Value × List ℕ))) (g e : List (List Value × List ℕ))
+    (w : Option (List (List Value × List ℕ)))
+    → lookup (is_at (row_cmp q)) new ≡ cond (is_at (row_cmp key) q) w (lookup (is_at (row_cmp q)) old)
+    → unwrap_or w [] ≡ g
+    → e ≡ list_for old key
+    → list_for g v ≡ cond meant (h (list_for e v)) (list_for e v)
+    → times_at new q v ≡ cond (is_at (row_cmp key) q && meant) (h (times_at old q v)) (times_at old q v)
+regrouped_all h key q v meant old new g e w outer is was inner =
+    grouped h key q v meant old new g
+    (unwrapped [] (is_at (row_cmp key) q) w (lookup (is_at (row_cmp q)) new) (lookup (is_at (row_cmp q)) old) outer
+    ∙ ap (λ r. cond (is_at (row_cmp key) q) r (list_for old q)) is)
+    (inner ∙ ap (λ r. cond meant (h (list_for r v)) (list_for r v)) was)
+
+-- at one row
 pub regrouped : (h : List ℕ → List ℕ) (key row q v : List Value)
     (old new : List (List Value × List (List Value × List ℕ))) (g e : List (List Value × List ℕ))
     (w : Option (List (List Value × List ℕ)))
@@ -146,19 +159,32 @@ pub regrouped : (h : List ℕ → List ℕ) (key row q v : List Value)
     → times_at new q v ≡ cond (is_at (row_cmp key) q && is_at (row_cmp row) v) (h (times_at old q v))
     (times_at old q v)
 regrouped h key row q v old new g e w outer is was inner =
-    grouped h key row q v old new g
-    (unwrapped [] (is_at (row_cmp key) q) w (lookup (is_at (row_cmp q)) new) (lookup (is_at (row_cmp q)) old) outer
-    ∙ ap (λ r. cond (is_at (row_cmp key) q) r (list_for old q)) is)
-    (inner ∙ ap (λ r. cond (is_at (row_cmp row) v) (h (list_for r v)) (list_for r v)) was)
+    regrouped_all h key q v (is_at (row_cmp row) v) old new g e w outer is was inner
+
+-- in the group of the empty row
+pub ungrouped : (h : List ℕ → List ℕ) (key q v : List Value) (meant : Bool)
+    (old new : List (List Value × List (List Value × List ℕ))) (g e : List (List Value × List ℕ))
+    (w : Option (List (List Value × List ℕ)))
+    → key ≡ []
+    → lookup (is_at (row_cmp q)) new ≡ cond (is_at (row_cmp key) q) w (lookup (is_at (row_cmp q)) old)
+    → unwrap_or w [] ≡ g
+    → e ≡ list_for old key
+    → list_for g v ≡ cond meant (h (list_for e v)) (list_for e v)
+    → times_at new q v ≡ cond (is_at (row_cmp []) q && meant) (h (times_at old q v)) (times_at old q v)
+ungrouped h key q v meant old new g e w none outer is was inner =
+    subst (λ (k : List Value). times_at new q v
+    ≡ cond (is_at (row_cmp k) q && meant) (h (times_at old q v)) (times_at old q v)) none
+    (regrouped_all h key q v meant old new g e w outer is was inner)
 
 -- an empty group has no times to forget
+pub nothing_recent : (hi x : ℕ) (v : List Value) (b : Bool)
+    → list_for {X = ℕ} [] v ≡ cond b (recent hi x (list_for [] v)) (list_for [] v)
+nothing_recent hi x v true = sym (recent_none hi x)
+nothing_recent hi x v false = refl
+
 pub none_recent : (hi x : ℕ) (row v : List Value) → list_for {X = ℕ} [] v
     ≡ cond (is_at (row_cmp row) v) (recent hi x (list_for [] v)) (list_for [] v)
-none_recent hi x row v = by (is_at (row_cmp row) v)
-  where
-    by : (b : Bool) → [] ≡ cond b (recent hi x []) []
-    by true = sym (recent_none hi x)
-    by false = refl
+none_recent hi x row v = nothing_recent hi x v (is_at (row_cmp row) v)
 
 -- rows stand in the group k alone
 abbrev pub StandsIn : List (List Value × List (List Value × List ℕ)) → List Value → List Value → Type 0

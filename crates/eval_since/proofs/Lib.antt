@@ -3,7 +3,9 @@ pub mod SinceLemmas
 pub mod TimesLemmas
 pub mod RowKeyLemmas
 pub mod GroupLemmas
+pub mod GroupRowLemmas
 pub mod OneRowLemmas
+pub mod FewLemmas
 pub mod FilledLemmas
 pub mod KeyLemmas
 pub mod WindowLemmas

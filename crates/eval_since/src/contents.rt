@@ -97,6 +97,9 @@ fn add_rows(
         (added bounded (times_at groups.old q v) now) (times_at groups.old q v)) }
     ensures some { OnOk result (NoneEmpty groups.old → NoneEmpty groups.new) }
 {
+    if left.is_empty() {
+        return groups.add_ungrouped(alloc, rows, now, bounded);
+    }
     for row in rows {
         let key = part_of(alloc, right, left, row.values())?;
         groups.add(alloc, key, row.copy(alloc)?, now, bounded)?;

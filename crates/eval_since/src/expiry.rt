@@ -110,6 +110,9 @@ fn forget_packed(
         (recent hi now (times_at groups.old q v)) (times_at groups.old q v)) }
     ensures some { OnOk result (NoneEmpty groups.old → NoneEmpty groups.new) }
 {
+    if left.is_empty() {
+        return groups.forget_ungrouped(alloc, rows, hi, now);
+    }
     match rows {
         PackedRows::One(value) => {
             forget_value(alloc, groups, right, left, value, now, hi)?;

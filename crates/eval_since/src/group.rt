@@ -1,17 +1,16 @@
-//! Rows with the times kept for them. Until a second row comes, the one row stands in the group itself.
-ghost use Rattle.std.specs.Prelude.{◌≡◌, ◌||◌, ◌&&◌, ◌==◌, ◌∷◌, ◌<◌, [], IfOk, List, OnOk, cond, length};
+//! Rows with the times kept for them.
+ghost use Rattle.std.specs.Prelude.{◌≡◌, ◌||◌, ◌&&◌, ◌==◌, ◌∷◌, ◌<◌, [], List, OnOk, cond, length};
 ghost use Rattle.std.specs.BTreeMap.{is_at};
 ghost use Rattle.mfotl_model.specs.Values.{row_cmp};
 ghost use Rattle.mfotl_model.specs.declared.value.Value.{Value};
 ghost use Rattle.eval_since.specs.Groups.{HaveTimes};
-ghost use Rattle.eval_since.specs.HeldTimes.{held_times};
 ghost use Rattle.mfotl_model.specs.Tables.{has_row, part};
 ghost use Rattle.eval_since.specs.Times.{ArePast, added, reaches, recent};
 ghost use Rattle.std.specs.Option.{option_or};
 ghost use Rattle.mfotl_model.specs.declared.interval.Interval.{Interval};
 ghost use Rattle.relations.specs.KeptRows.{filled, kept_for, list_for};
 
-use crate::hashed::Hashed;
+use crate::held::{Held, with_recent, with_time, with_times};
 use crate::keys::has_part;
 use crate::ordered::OrderedGroup;
 use crate::times::Times;
@@ -20,14 +19,6 @@ use relations::Table;
 use std::alloc::{AllocError, Global};
 use std::marker::Model;
 use std::mem;
-
-// Most groups by a key have one row, and a map takes much more memory than that, even if it is empty.
-#[derive(Drop)]
-enum Held {
-    Zero,
-    One(Row, Times),
-    Many(Box<Hashed>),
-}
 
 #[derive(Drop)]
 pub struct Group {
@@ -42,146 +33,6 @@ impl Model for Group {
     ghost Value = { List (List OneValue × List ℕ) };
 
     ghost view = { λ g. held_times g.held };
-}
-
-// A map of one row.
-fn hashed(alloc: Global, row: Row, times: Times) -> Result<Hashed, AllocError>
-    ensures times { IfOk result (λ rows. (v : List Value) → list_for rows v
-        ≡ list_for ((row, times) ∷ []) v) }
-    ensures some { IfOk result (λ rows. 0 < length times → HaveTimes rows) }
-{
-    let mut rows = Hashed::new(alloc);
-    rows.put(alloc, row, times)?;
-    Ok(rows)
-}
-
-fn first_time(alloc: Global, row: Row, x: u64, bounded: bool) -> Result<Held, AllocError>
-    ensures times { IfOk result (λ held. (v : List Value) → list_for (held_times held) v
-        ≡ cond (is_at (row_cmp row) v) (added bounded [] x) []) }
-    ensures some { IfOk result (λ held. HaveTimes (held_times held)) }
-{
-    let mut times = Times::new();
-    times.add(alloc, x, bounded)?;
-    Ok(Held::One(row, times))
-}
-
-fn other_time(
-    alloc: Global,
-    first: Row,
-    times: Times,
-    row: Row,
-    x: u64,
-    bounded: bool,
-) -> Result<Held, AllocError>
-    requires { ArePast x (list_for ((first, times) ∷ []) row) }
-    ensures times { IfOk result (λ held. (v : List Value) → list_for (held_times held) v
-        ≡ cond (is_at (row_cmp row) v)
-        (added bounded (list_for ((first, times) ∷ []) v) x) (list_for ((first, times) ∷ []) v)) }
-    ensures some { IfOk result (λ held.
-        HaveTimes ((first, times) ∷ []) → HaveTimes (held_times held)) }
-{
-    let mut rows = hashed(alloc, first, times)?;
-    rows.add(alloc, row, x, bounded)?;
-    Ok(Held::Many(Box::new(alloc, rows)?))
-}
-
-fn next_time(
-    alloc: Global,
-    first: Row,
-    mut times: Times,
-    row: Row,
-    x: u64,
-    bounded: bool,
-) -> Result<Held, AllocError>
-    requires { ArePast x (list_for ((first, times) ∷ []) row) }
-    ensures times { IfOk result (λ held. (v : List Value) → list_for (held_times held) v
-        ≡ cond (is_at (row_cmp row) v)
-        (added bounded (list_for ((first, times) ∷ []) v) x) (list_for ((first, times) ∷ []) v)) }
-    ensures some { IfOk result (λ held.
-        HaveTimes ((first, times) ∷ []) → HaveTimes (held_times held)) }
-{
-    if first == row {
-        times.add(alloc, x, bounded)?;
-        return Ok(Held::One(first, times));
-    }
-    other_time(alloc, first, times, row, x, bounded)
-}
-
-fn with_time(alloc: Global, held: Held, row: Row, x: u64, bounded: bool) -> Result<Held, AllocError>
-    requires { ArePast x (list_for (held_times held) row) }
-    ensures times { IfOk result (λ more. (v : List Value) → list_for (held_times more) v
-        ≡ cond (is_at (row_cmp row) v)
-        (added bounded (list_for (held_times held) v) x) (list_for (held_times held) v)) }
-    ensures some { IfOk result (λ more. HaveTimes (held_times held) → HaveTimes (held_times more)) }
-{
-    match held {
-        Held::Zero => first_time(alloc, row, x, bounded),
-        Held::One(first, times) => next_time(alloc, first, times, row, x, bounded),
-        Held::Many(mut rows) => {
-            rows.add(alloc, row, x, bounded)?;
-            Ok(Held::Many(rows))
-        }
-    }
-}
-
-fn same_recent(first: Row, mut times: Times, hi: u64, now: u64) -> Held
-    ensures times { (v : List Value) → list_for (held_times result) v
-        ≡ list_for ((first, recent hi now times) ∷ []) v }
-    ensures some { HaveTimes (held_times result) }
-{
-    times.forget(hi, now);
-    if times.is_empty() {
-        return Held::Zero;
-    }
-    Held::One(first, times)
-}
-
-fn one_recent(first: Row, times: Times, row: &Row, hi: u64, now: u64) -> Held
-    ensures times { (v : List Value) → list_for (held_times result) v
-        ≡ cond (is_at (row_cmp row.now) v)
-        (recent hi now (list_for ((first, times) ∷ []) v)) (list_for ((first, times) ∷ []) v) }
-    ensures some { HaveTimes ((first, times) ∷ []) → HaveTimes (held_times result) }
-{
-    if first == *row {
-        return same_recent(first, times, hi, now);
-    }
-    Held::One(first, times)
-}
-
-fn with_recent(held: Held, row: Row, hi: u64, now: u64) -> Held
-    ensures times { (v : List Value) → list_for (held_times result) v
-        ≡ cond (is_at (row_cmp row) v)
-        (recent hi now (list_for (held_times held) v)) (list_for (held_times held) v) }
-    ensures some { HaveTimes (held_times held) → HaveTimes (held_times result) }
-{
-    match held {
-        Held::Zero => Held::Zero,
-        Held::One(first, times) => one_recent(first, times, &row, hi, now),
-        Held::Many(mut rows) => {
-            rows.forget(row, hi, now);
-            Held::Many(rows)
-        }
-    }
-}
-
-fn with_times(alloc: Global, held: Held, row: Row, times: Times) -> Result<Held, AllocError>
-    ensures times { IfOk result (λ more. (v : List Value) → list_for (held_times more) v
-        ≡ cond (is_at (row_cmp row) v) times (list_for (held_times held) v)) }
-    ensures some { IfOk result (λ more.
-        0 < length times → HaveTimes (held_times held) → HaveTimes (held_times more)) }
-{
-    match held {
-        Held::Zero => Ok(Held::One(row, times)),
-        Held::One(first, kept) => {
-            let mut rows = hashed(alloc, first, kept)?;
-            rows.put(alloc, row, times)?;
-            Ok(Held::Many(Box::new(alloc, rows)?))
-        }
-        Held::Many(mut rows) => {
-            rows.put(alloc, row, times)?;
-            Ok(Held::Many(rows))
-        }
-    }
 }
 
 fn row_reaches(first: &Row, times: &Times, row: &Row, interval: &Interval, x: u64) -> bool
@@ -223,6 +74,7 @@ impl Group {
         match &self.held {
             Held::Zero => true,
             Held::One(_, _) => false,
+            Held::Few(rows) => rows.is_empty(),
             Held::Many(rows) => rows.is_empty(),
         }
     }
@@ -235,10 +87,26 @@ impl Group {
             (added bounded (list_for self.old v) x) (list_for self.old v)) }
         ensures some { OnOk result (HaveTimes self.old → HaveTimes self.new) }
     {
-        if let Held::Many(rows) = &mut self.held {
-            rows.add(alloc, row, x, bounded)?;
-            return Ok(());
+        match &mut self.held {
+            Held::Many(rows) => rows.add(alloc, row, x, bounded),
+            Held::Few(rows) => {
+                if rows.has_room_for(&row) {
+                    return rows.add(alloc, row, x, bounded);
+                }
+                self.add_anew(alloc, row, x, bounded)
+            }
+            _ => self.add_anew(alloc, row, x, bounded),
         }
+    }
+
+    // The same where the rows may have to stand elsewhere.
+    fn add_anew(&mut self, alloc: Global, row: Row, x: u64, bounded: bool) -> Result<(), AllocError>
+        requires { ArePast x (list_for self.old row) }
+        ensures times { OnOk result ((v : List Value) → list_for self.new v
+            ≡ cond (is_at (row_cmp row) v)
+            (added bounded (list_for self.old v) x) (list_for self.old v)) }
+        ensures some { OnOk result (HaveTimes self.old → HaveTimes self.new) }
+    {
         let held = mem::replace(&mut self.held, Held::Zero);
         self.held = with_time(alloc, held, row, x, bounded)?;
         Ok(())
@@ -255,6 +123,10 @@ impl Group {
             rows.forget(row, hi, now);
             return;
         }
+        if let Held::Few(rows) = &mut self.held {
+            rows.forget(&row, hi, now);
+            return;
+        }
         let held = mem::replace(&mut self.held, Held::Zero);
         self.held = with_recent(held, row, hi, now);
     }
@@ -266,6 +138,7 @@ impl Group {
         match &self.held {
             Held::Zero => false,
             Held::One(first, times) => row_reaches(first, times, row, interval, x),
+            Held::Few(rows) => rows.reaches(row, interval, x),
             Held::Many(rows) => rows.reaches(row, interval, x),
         }
     }
@@ -284,6 +157,7 @@ impl Group {
         match &self.held {
             Held::Zero => Ok(()),
             Held::One(row, times) => push_row(alloc, out, row, times, interval, x),
+            Held::Few(rows) => rows.push_reaching(alloc, out, interval, x),
             Held::Many(rows) => rows.push_reaching(alloc, out, interval, x),
         }
     }
@@ -310,6 +184,7 @@ impl Group {
                 }
                 Ok(())
             }
+            Held::Few(rows) => rows.push_matching(alloc, out, interval, x, columns, keys),
             Held::Many(rows) => rows.push_matching(alloc, out, interval, x, columns, keys),
         }
     }
@@ -333,6 +208,7 @@ impl Group {
         match &self.held {
             Held::Zero => Ok(()),
             Held::One(row, times) => out.pour_row(alloc, row.copy(alloc)?, times),
+            Held::Few(rows) => rows.pour(alloc, out),
             Held::Many(rows) => rows.pour(alloc, out),
         }
     }

@@ -10,11 +10,13 @@ ghost use Rattle.eval_since.specs.Recalled.{first_times};
 ghost use Rattle.mfotl_model.specs.Values.{row_cmp};
 ghost use Rattle.mfotl_model.specs.declared.value.Value.{Value};
 ghost use Rattle.eval_since.specs.Groups.{NoneEmpty, times_at};
+ghost use Rattle.eval_since.specs.PackedRows.{packed_rows};
 ghost use Rattle.mfotl_model.specs.Tables.{has_row, part};
 ghost use Rattle.eval_since.specs.Times.{ArePast, added, reaches, recent};
 
 use crate::group::Group;
 use crate::ordered::OrderedGroup;
+use crate::packed::PackedRows;
 use crate::times::Times;
 use mfotl_model::{Interval, Row};
 use relations::Table;
@@ -68,6 +70,36 @@ fn forget_row(groups: &mut HashMap<Row, Group>, key: Row, row: Row, hi: u64, now
     }
 }
 
+// The same of rows that all stand in the group of the empty row.
+fn forget_ungrouped(
+    groups: &mut HashMap<Row, Group>,
+    alloc: Global,
+    rows: PackedRows,
+    hi: u64,
+    now: u64,
+) -> Result<(), AllocError>
+    ensures times { OnOk result ((q v : List Value) → times_at groups.new.entries q v
+        ≡ cond (is_at (row_cmp []) q && has_row (packed_rows rows) v)
+        (recent hi now (times_at groups.old.entries q v)) (times_at groups.old.entries q v)) }
+    ensures some { OnOk result (NoneEmpty groups.old.entries → NoneEmpty groups.new.entries) }
+{
+    let slot = match groups.entry(Row::empty()) {
+        Ok(slot) => slot,
+        Err(_absent) => return Ok(()),
+    };
+    match slot {
+        Entry::Occupied(mut found) => {
+            let group = found.get_mut();
+            group.forget_all(alloc, rows, hi, now)?;
+            if group.is_empty() {
+                found.remove();
+            }
+        }
+        Entry::Vacant(vacant) => drop(vacant.into_key()),
+    }
+    Ok(())
+}
+
 impl Groups {
     pub fn new(alloc: Global) -> Self
         ensures { result ≡ [] }
@@ -97,6 +129,28 @@ impl Groups {
         Ok(())
     }
 
+    /// The same for each of these rows, which all stand in the group of the empty row.
+    pub fn add_ungrouped(
+        &mut self,
+        alloc: Global,
+        rows: &[Row],
+        x: u64,
+        bounded: bool,
+    ) -> Result<(), AllocError>
+        requires { (v : List Value) → ArePast x (times_at self.old [] v) }
+        ensures times { OnOk result ((q v : List Value) → times_at self.new q v
+            ≡ cond (is_at (row_cmp []) q && has_row rows.now v)
+            (added bounded (times_at self.old q v) x) (times_at self.old q v)) }
+        ensures some { OnOk result (NoneEmpty self.old → NoneEmpty self.new) }
+    {
+        if rows.is_empty() {
+            return Ok(());
+        }
+        let group = self.groups.entry(Row::empty())?.or_insert(Group::new());
+        group.add_all(alloc, rows, x, bounded)?;
+        Ok(())
+    }
+
     /// Forgets the times of a row that lie further back than `hi`.
     pub fn forget(&mut self, key: Row, row: Row, hi: u64, now: u64)
         ensures times { (q v : List Value) → times_at self.new q v
@@ -105,6 +159,22 @@ impl Groups {
         ensures some { NoneEmpty self.old → NoneEmpty self.new }
     {
         forget_row(&mut self.groups, key, row, hi, now);
+    }
+
+    /// The same for each of these rows, which all stand in the group of the empty row.
+    pub fn forget_ungrouped(
+        &mut self,
+        alloc: Global,
+        rows: PackedRows,
+        hi: u64,
+        now: u64,
+    ) -> Result<(), AllocError>
+        ensures times { OnOk result ((q v : List Value) → times_at self.new q v
+            ≡ cond (is_at (row_cmp []) q && has_row (packed_rows rows) v)
+            (recent hi now (times_at self.old q v)) (times_at self.old q v)) }
+        ensures some { OnOk result (NoneEmpty self.old → NoneEmpty self.new) }
+    {
+        forget_ungrouped(&mut self.groups, alloc, rows, hi, now)
     }
 
     // drops the groups of other parts where they stand

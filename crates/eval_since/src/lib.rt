@@ -3,9 +3,12 @@
 
 mod contents;
 mod expiry;
+mod few;
 mod group;
+mod group_rows;
 mod groups;
 mod hashed;
+mod held;
 mod keyed;
 mod keys;
 mod latest_time;

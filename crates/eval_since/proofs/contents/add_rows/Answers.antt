@@ -1,12 +1,19 @@
-use Rattle.std.proofs.Common.{◌&&◌, ap, arith, take, ◌∙◌}
+use Rattle.std.proofs.Common.{◌&&◌, ap, sym, arith, take, ◌∙◌}
 use Rattle.std.specs.BTreeMap.{is_at}
 use Rattle.mfotl_model.specs.Values.{row_cmp}
 use Rattle.eval_since.specs.Groups.{times_at}
 use Rattle.mfotl_model.specs.Tables.{has_row, part}
 use Rattle.relations.proofs.MapLemmas.{either}
 use Rattle.eval_since.specs.Times.{added, ArePast}
+use Rattle.eval_since.proofs.GroupRowLemmas.{all_together}
 use Rattle.eval_since.proofs.WindowLemmas.{rows_more, added_twice, past_added}
 use Rattle.eval_since.proofs.contents.add_rows.Goals as goal
+
+pub returns-then-is_empty-clause-times : goal.returns-then-is_empty-clause-times
+returns-then-is_empty-clause-times c =
+    all_together c.add_ungrouped.result c.args.right.now c.args.left.now (λ ts. added c.args.bounded ts c.args.now)
+    c.args.rows.now c.args.groups.now c.add_ungrouped.new.self (sym c.is_empty.ensures ∙ c.if-is_empty.true)
+    c.add_ungrouped.ensures.times
 
 pub add-requires : goal.add-requires
 add-requires c =

@@ -1,9 +1,18 @@
-use Rattle.std.proofs.Common.{[], ◌∷◌, refl}
+use Rattle.std.proofs.Common.{[], ◌∷◌, refl, sym, ◌∙◌}
 use Rattle.mfotl_model.specs.Tables.{part}
 use Rattle.eval_since.specs.Groups.{times_at}
+use Rattle.eval_since.specs.PackedRows.{packed_rows}
 use Rattle.eval_since.specs.Times.{recent}
+use Rattle.eval_since.proofs.GroupRowLemmas.{all_together}
 use Rattle.eval_since.proofs.WindowLemmas.{one_row, recent_twice}
 use Rattle.eval_since.proofs.expiry.forget_packed.Goals as goal
+
+pub returns-then-is_empty-clause-times : goal.returns-then-is_empty-clause-times
+returns-then-is_empty-clause-times c =
+    all_together c.forget_ungrouped.result c.args.right.now c.args.left.now (recent c.args.hi c.args.now)
+    (packed_rows c.args.rows) c.args.groups.now c.forget_ungrouped.new.self
+    (sym c.is_empty.ensures ∙ c.if-is_empty.true)
+    c.forget_ungrouped.ensures.times
 
 pub returns-in_ok-forget_value-in-One-clause-times : goal.returns-in_ok-forget_value-in-One-clause-times
 returns-in_ok-forget_value-in-One-clause-times c = rw c.in-One.is (λ q v.
