@@ -1,12 +1,14 @@
 -- A window that is asked by the values that a table has of some of its columns.
-use Rattle.std.proofs.Common.{◌≡◌, ℕ, ◌+◌, ◌-◌, ◌<◌, Bool, true, false, ◌&&◌, List, [], refl, sym, ap, ap₂, ◌∙◌}
+use Rattle.std.proofs.Common.{◌≡◌, ℕ, ◌+◌, ◌-◌, ◌<◌, Bool, true, false, ◌&&◌, ◌||◌, List, [], refl, sym, ap, ap₂, ◌∙◌}
 use Rattle.std.proofs.Common.{arith}
-use Rattle.mfotl_model.specs.FreeVariables.{joined}
+use Rattle.mfotl_model.specs.FreeVariables.{among, joined}
 use Rattle.mfotl_model.specs.Satisfaction.{Valuation, since, until}
 use Rattle.std.specs.Prelude.{map}
 use Rattle.mfotl_model.specs.Tables.{TableOf, all_among, has, has_row}
 use Rattle.mfotl_model.specs.Times.{NeverFalls}
-use Rattle.mfotl_model.proofs.LogicLemmas.{with_true}
+use Rattle.mfotl_model.proofs.LogicLemmas.{among_joined, with_true}
+use Rattle.relations.proofs.JoinLemmas.{all_members, member_of_all}
+use Rattle.eval_bool.proofs.ConjunctLemmas.{same_among}
 use Rattle.eval_since.specs.SinceView.{Advances, Follows, SinceOf}
 use Rattle.eval_until.specs.UntilView.{Follows as FollowsUntil, UntilOf}
 use Rattle.monitor_state.specs.FilterFeeding.{Finds, Joins}
@@ -62,20 +64,23 @@ none_join w order table kept empty over none =
     }
 
 pub found_joins : (w : Window) (order table found both kept : TableOf) → Finds w table found
-    → both.columns ≡ joined table.columns found.columns
+    → ((y : ℕ) → among y both.columns ≡ (among y table.columns || among y found.columns))
     → ((v : Valuation) → has both v ≡ (has table v && has found v))
     → kept.columns ≡ order.columns
     → (all_among order.columns both.columns ≡ true → all_among both.columns order.columns ≡ true
     → (v : Valuation) → has kept v ≡ has both v)
     → Joins w order table kept
 found_joins w order table found both kept finds over rows ordered same =
-    let columns : both.columns ≡ joined table.columns (window_columns w) =
-    over ∙ ap (joined table.columns) finds.over in
+    let all = joined table.columns (window_columns w) in
+    let each : (y : ℕ) → among y both.columns ≡ among y (joined table.columns (window_columns w)) =
+    λ y. over y ∙ ap (λ cs. among y table.columns || among y cs) finds.over
+    ∙ sym (among_joined y table.columns (window_columns w)) in
     record {
       over = ordered;
       rows = λ inside outside v holds answers.
-          same (ap (all_among order.columns) columns ∙ inside)
-          (ap (λ cs. all_among cs order.columns) columns ∙ outside) v
+          same (same_among order.columns both.columns all each ∙ inside)
+          (all_members (λ y. among y order.columns) both.columns
+          (λ y m. member_of_all (λ z. among z order.columns) all y outside (sym (each y) ∙ m))) v
           ∙ rows v
           ∙ by (has table v) v refl holds answers;
     }
