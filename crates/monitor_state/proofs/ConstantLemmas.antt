@@ -236,7 +236,8 @@ tests_mean log dom v i (TestPart c w ∷ ps) none =
 pub tests_are : (names : Names) (f : CoreForm) (table : TableOf) → operands f ≡ children (conjuncts_of f)
     → guards names f ≡ None
     → list_any is_child (conjuncts_of f) ≡ false → table.columns ≡ []
-    → ((v : Valuation) → has table v ≡ list_all (λ part. passes v (conjunct_as part)) (conjuncts_of f)) → IsConstant f table
+    → ((v : Valuation) → has table v ≡ list_all (λ part. passes v (conjunct_as part)) (conjuncts_of f))
+    → IsConstant f table
 tests_are names f table same accepted none columns rows =
     record {
       columns = columns ∙ sym (tests_free names f accepted none);

@@ -7,7 +7,6 @@ use Rattle.mfotl_model.specs.FreeVariables.{fv}
 use Rattle.mfotl_model.specs.Satisfaction.{Valuation, truth_at}
 use Rattle.mfotl_model.specs.Tables.{TableOf, has}
 use Rattle.mfotl_model.specs.declared.interval.Interval.{Interval}
-use Rattle.mfotl_model.specs.declared.term.Atom.{Atom as OneAtom}
 use Rattle.mfotl_model.specs.declared.value.Value.{Value}
 use Rattle.eval_bool.proofs.ChildLemmas.{Alike}
 use Rattle.eval_bool.proofs.RefillLemmas.{rule_alike}
@@ -50,6 +49,7 @@ use Rattle.monitor_state.specs.Views.{Tells, reached}
 use Rattle.monitor_state.specs.WindowNode.{IsWindow}
 use Rattle.monitor_state.specs.declared.filter.FilterState.{FilterState}
 use Rattle.monitor_state.specs.declared.node.Node.TheVariants as node
+use Rattle.monitor_state.specs.declared.state.NodeData.{NodeData}
 use Rattle.monitor_state.specs.declared.state.NodeData.TheVariants as kept
 use Rattle.monitor_state.specs.declared.state.SinceKept.{SinceKept}
 use Rattle.monitor_state.specs.declared.state.UntilKept.{UntilKept}
@@ -300,6 +300,20 @@ until_resumed_node k s new order d res (Until i f g) is keeps = (
   },
 )
 until_resumed_node k s new order d res f is keeps = absurd is
+
+-- what a SINCE keeps is a SINCE's
+pub since_kept : (k : KeptTimes) (s : SinceOf) (order : TableOf) (d : NodeData) (f : CoreForm)
+    → IsNodeFor f (node.Since s order) → NodeKeeps k f d → (w : SinceKept) × (d ≡ kept.Window (data_of.Since w))
+since_kept k s order (kept.Window (data_of.Since w)) (Since i f g) is keeps = (w, refl)
+since_kept k s order d (Since i f g) is keeps = absurd keeps
+since_kept k s order d f is keeps = absurd is
+
+-- what an UNTIL keeps is an UNTIL's
+pub until_kept : (k : KeptTimes) (s : UntilOf) (order : TableOf) (d : NodeData) (f : CoreForm)
+    → IsNodeFor f (node.Until s order) → NodeKeeps k f d → (w : UntilKept) × (d ≡ kept.Window (data_of.Until w))
+until_kept k s order (kept.Window (data_of.Until w)) (Until i f g) is keeps = (w, refl)
+until_kept k s order d (Until i f g) is keeps = absurd keeps
+until_kept k s order d f is keeps = absurd is
 
 -- the data of an UNTIL's node can be gone on from
 pub until_node_fits : (k : KeptTimes) (s : UntilOf) (order : TableOf) (d : UntilKept) (f : CoreForm)

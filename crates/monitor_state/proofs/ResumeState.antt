@@ -20,8 +20,7 @@ use Rattle.monitor_state.proofs.ResumeTimes.{log_size}
 use Rattle.monitor_state.specs.Beginnings.{Adds}
 use Rattle.monitor_state.specs.Going.{AllPremises}
 use Rattle.monitor_state.specs.Nodes.{nodes_of, posed}
-use Rattle.monitor_state.specs.Resuming.{AllMatch, HalfResumed, Matches, NodeResumed, NodesResumed, SuitsEvaluation}
-use Rattle.monitor_state.specs.Resuming.{SuitsWhole}
+use Rattle.monitor_state.specs.Resuming.{AllMatch, NodeResumed, NodesResumed, SuitsEvaluation, SuitsWhole}
 use Rattle.monitor_state.specs.Stands.{NodesStand, StateOf, Stands}
 use Rattle.monitor_state.specs.StateRules.{NodesKeep, StateRule}
 use Rattle.monitor_state.specs.StateStands.{NodesDataStand, StateStands}
@@ -154,60 +153,22 @@ state_resumed core kept fresh new begun rule res taken given first stamps view s
 
 -- ---- node by node
 
-pub half_begins : (k : KeptTimes) (nodes : List Node) (ds : List NodeData) → AllMatch k nodes ds
-    → HalfResumed k nodes ds nodes ds []
-half_begins k nodes ds match =
-    record { done = []; used = []; nodes_are = refl; kept_are = refl; resumed = tt; others = match }
+-- what is made of the nodes that are left goes behind what was made
+abbrev pub GoesBehind : KeptTimes → List Node → List NodeData → List Node → List NodeData → List Node → Type 0
+GoesBehind k nodes ds rest left made =
+    (more : List Node) → NodesResumed k rest left more → NodesResumed k nodes ds (made ++ more)
 
-resumed_append : (k : KeptTimes) (o : Node) (d : NodeData) (n : Node) (os : List Node) (ds : List NodeData)
-    (ns : List Node)
-    → NodesResumed k os ds ns → NodeResumed k o d n → NodesResumed k (os ++ o ∷ []) (ds ++ d ∷ []) (ns ++ n ∷ [])
-resumed_append k o d n [] [] [] all one = (one, tt)
-resumed_append k o d n (p ∷ os) (e ∷ ds) (m ∷ ns) all one = (all.0, resumed_append k o d n os ds ns all.1 one)
-resumed_append k o d n [] [] (m ∷ ns) all one = absurd all
-resumed_append k o d n [] (e ∷ ds) ns all one = absurd all
-resumed_append k o d n (p ∷ os) [] ns all one = absurd all
-resumed_append k o d n (p ∷ os) (e ∷ ds) [] all one = absurd all
+pub nodes_on : (k : KeptTimes) (nodes : List Node) (ds : List NodeData) (rest : List Node) (left : List NodeData)
+    (made : List Node) (n : Node) (d : NodeData) (new : Node)
+    → NodeResumed k n d new → GoesBehind k nodes ds (n ∷ rest) (d ∷ left) made
+    → GoesBehind k nodes ds rest left (made ++ new ∷ [])
+nodes_on k nodes ds rest left made n d new one behind more all =
+    subst (NodesResumed k nodes ds) (sym (append_assoc made (new ∷ []) more)) (behind (new ∷ more) (one, all))
 
-pub first_matches : (k : KeptTimes) (nodes : List Node) (ds : List NodeData) (n : Node) (rest : List Node)
-    (d : NodeData)
-    (left : List NodeData) (old : List Node) (used : List NodeData) (made : List Node)
-    → HalfResumed k nodes ds old used made → old ≡ n ∷ rest → used ≡ d ∷ left → Matches k n d
-first_matches k nodes ds n rest d left old used made half front data_front =
-    (subst (λ xs. AllMatch k (n ∷ rest) xs) data_front (subst (λ xs. AllMatch k xs used) front half.others)).0
-
-pub half_goes : (k : KeptTimes) (nodes : List Node) (ds : List NodeData) (n : Node) (rest : List Node) (d : NodeData)
-    (left : List NodeData) (old : List Node) (used : List NodeData) (made more : List Node) (new : Node)
-    → HalfResumed k nodes ds old used made → old ≡ n ∷ rest → used ≡ d ∷ left → NodeResumed k n d new
-    → more ≡ made ++ new ∷ [] → HalfResumed k nodes ds rest left more
-half_goes k nodes ds n rest d left old used made more new half front data_front one is =
-    record {
-      done = half.done ++ n ∷ [];
-      used = half.used ++ d ∷ [];
-      nodes_are = half.nodes_are ∙ ap (λ xs. half.done ++ xs) front ∙ sym (append_assoc half.done (n ∷ []) rest);
-      kept_are = half.kept_are ∙ ap (λ xs. half.used ++ xs) data_front ∙ sym (append_assoc half.used (d ∷ []) left);
-      resumed =
-          subst (NodesResumed k (half.done ++ n ∷ []) (half.used ++ d ∷ [])) (sym is)
-          (resumed_append k n d new half.done half.used made half.resumed one);
-      others = (subst (λ xs. AllMatch k (n ∷ rest) xs) data_front
-          (subst (λ xs. AllMatch k xs used) front half.others)).1;
-    }
-
-pub half_ends : (k : KeptTimes) (nodes : List Node) (ds : List NodeData) (old : List Node) (used : List NodeData)
-    (made : List Node) → HalfResumed k nodes ds old used made → old ≡ [] → NodesResumed k nodes ds made
-half_ends k nodes ds old used made half none =
-    subst (λ xs. NodesResumed k xs ds made)
-    (sym (half.nodes_are ∙ ap (λ xs. half.done ++ xs) none ∙ append-nil half.done))
-    (subst (λ xs. NodesResumed k half.done xs made)
-    (sym (half.kept_are ∙ ap (λ xs. half.used ++ xs)
-    (nothing_left used (subst (λ xs. AllMatch k xs used) none half.others))
-    ∙ append-nil half.used)) half.resumed)
-  where
-    nothing_left : (xs : List NodeData) → AllMatch k [] xs → xs ≡ []
-    nothing_left [] match = refl
-    nothing_left (x ∷ xs) match = absurd match
-
--- a list that is its own rest is empty
-pub own_rest : (nodes : List Node) → nodes ≡ drop 1 nodes → nodes ≡ []
-own_rest [] is = refl
-own_rest (n ∷ nodes) is = absurd (let size : length (n ∷ nodes) ≡ length nodes = ap length is in omega arith)
+pub nodes_done : (k : KeptTimes) (nodes : List Node) (ds : List NodeData) (rest : List Node) (left : List NodeData)
+    (made : List Node)
+    → rest ≡ [] → AllMatch k rest left → GoesBehind k nodes ds rest left made → NodesResumed k nodes ds made
+nodes_done k nodes ds [] [] made none match behind =
+    subst (NodesResumed k nodes ds) (append-nil made) (behind [] tt)
+nodes_done k nodes ds [] (d ∷ left) made none match behind = absurd match
+nodes_done k nodes ds (n ∷ rest) left made none match behind = absurd (cc)

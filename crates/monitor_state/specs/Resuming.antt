@@ -1,5 +1,5 @@
 -- What becomes of nodes into which data is put: where the data stands for a log, they do.
-use Rattle.std.specs.Prelude.{◌≡◌, ℕ, ◌≤◌, Bool, true, List, [], ◌∷◌, ◌++◌, drop}
+use Rattle.std.specs.Prelude.{◌≡◌, ℕ, ◌≤◌, Bool, true, List, [], ◌∷◌, drop}
 use Rattle.mfotl_model.specs.Exact.{View}
 use Rattle.mfotl_model.specs.FreeVariables.{fv}
 use Rattle.mfotl_model.specs.Log.{times}
@@ -92,16 +92,6 @@ abbrev pub AllMatch : KeptTimes → List Node → List NodeData → Type 0
 AllMatch k [] [] = Unit {0}
 AllMatch k (n ∷ ns) (d ∷ ds) = Matches k n d × AllMatch k ns ds
 AllMatch k ns ds = ⊥
-
--- some of the nodes were resumed, and the others are still to
-pub record HalfResumed (k : KeptTimes) (nodes : List Node) (kept : List NodeData) (rest : List Node)
-    (left : List NodeData) (made : List Node) : Type 0 where
-  pub done : List Node
-  pub used : List NodeData
-  pub nodes_are : nodes ≡ done ++ rest
-  pub kept_are : kept ≡ used ++ left
-  pub resumed : NodesResumed k done used made
-  pub others : AllMatch k rest left
 
 -- what is taken for granted of a region and the whole core
 pub record SuitsWhole (view : View) (core : CoreForm) : Type 0 where

@@ -13,7 +13,6 @@ use eval_since::{PrevState, SinceState};
 use eval_until::{NextState, UntilState};
 use relations::Table;
 use std::alloc::{AllocError, Global};
-use std::collections::VecDeque;
 
 /// The nodes with the data of nodes of the same core.
 pub fn nodes_resumed(
@@ -26,11 +25,10 @@ pub fn nodes_resumed(
     ensures { IfOk result (λ nodes. NodesResumed times.now fresh.items kept.items nodes.items) }
 {
     let mut nodes = Vec::with_capacity(alloc, fresh.len())?;
-    let mut rest = VecDeque::from_vec(fresh);
-    let mut left = VecDeque::from_vec(kept);
-    while let Some(node) = rest.pop_front() {
-        let Some(data) = left.pop_front() else {
-            return Err(AllocError);
+    let mut left = kept.into_iter();
+    for node in fresh {
+        let Some(data) = left.next() else {
+            unreachable!();
         };
         nodes.push(node_resumed(alloc, node, times, data)?)?;
     }
@@ -183,10 +181,10 @@ fn resumed_since(
     ensures { IfOk result (NodeResumed times.now (Node.Since state order) kept) }
 {
     let NodeData::Window(window) = kept else {
-        return Err(AllocError);
+        unreachable!();
     };
     let WindowData::Since(data) = window else {
-        return Err(AllocError);
+        unreachable!();
     };
     let resumed = since_resumed(alloc, state, times, data)?;
     Ok(Node::Since(resumed, order))
@@ -203,10 +201,10 @@ fn resumed_until(
     ensures { IfOk result (NodeResumed times.now (Node.Until state order) kept) }
 {
     let NodeData::Window(window) = kept else {
-        return Err(AllocError);
+        unreachable!();
     };
     let WindowData::Until(data) = window else {
-        return Err(AllocError);
+        unreachable!();
     };
     let resumed = until_resumed(alloc, state, times, data)?;
     Ok(Node::Until(resumed, order))
