@@ -56,7 +56,7 @@ impl<T: Copy + Drop> ShortQueue<T> {
         ShortQueue { held: Held::Zero }
     }
 
-    /// The items of a list. More than one stay in the list's memory.
+    /// The items of a list. More than two stay in the list's memory.
     pub fn from_vec(alloc: Global, items: Vec<T>) -> Result<Self, AllocError>
         ensures { IfOk result (λ queue. queue ≡ items.items) }
     {
