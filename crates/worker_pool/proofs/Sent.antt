@@ -16,6 +16,8 @@ use Rattle.mfotl_model.specs.contracts.value.Value as Value
 use Rattle.relations.specs.contracts.table.Table as Table
 use Rattle.eval_since.specs.contracts.times.Times as Times
 use Rattle.eval_since.specs.contracts.hashed.Hashed as Hashed
+use Rattle.eval_since.specs.contracts.few.FewRows as FewRows
+use Rattle.eval_since.specs.contracts.held.Held as Held
 use Rattle.eval_since.specs.contracts.group.Group as Group
 use Rattle.eval_since.specs.contracts.groups.Groups as Groups
 use Rattle.eval_since.specs.contracts.window.Window as Window
@@ -98,8 +100,14 @@ times_send = search base depth 40
 pub hashed_send : IsSend (Hashed.the_field).row
 hashed_send = search (row_send, times_send, base) depth 40
 
+pub few_send : IsSend (FewRows.the_field).row
+few_send = search (row_send, times_send, base) depth 40
+
+pub held_send : IsSend (Held.the_field).row
+held_send = search (row_send, times_send, few_send, hashed_send, base) depth 40
+
 pub group_send : IsSend (Group.the_field).row
-group_send = search (row_send, hashed_send, base) depth 40
+group_send = search (held_send, base) depth 30
 
 pub groups_send : IsSend (Groups.the_field).row
 groups_send = search (row_send, group_send, base) depth 30
