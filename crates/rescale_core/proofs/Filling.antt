@@ -8,6 +8,7 @@ use Rattle.std.specs.List.{range_with_len}
 use native.Mathlib.Decide.{ℕ_discrete}
 use Rattle.mfotl_model.specs.Strategies.{workers_of}
 use Rattle.monitorable.specs.CoreForms.{CoreForm}
+use Rattle.rescale_core.proofs.Pieces.{and_false}
 use Rattle.rescale_core.proofs.SlotLemmas.{filling, fillings}
 use Rattle.rescale_core.proofs.WorldLemmas.{Above, behind_change, if_either, line_above, mapped}
 use Rattle.rescale_core.specs.Chances.{Chance}
@@ -110,12 +111,8 @@ place_skips : (g q : ℕ) (pieces : List Piece) (p : Piece) → (p.generation �
 place_skips g q pieces p n = filter-append (λ x. nat_eq x.generation g && nat_eq x.to q) pieces (p ∷ [])
     ∙ ap (λ b. for_place g q pieces ++ cond b (p ∷ []) [])
     (⊎_elim (λ a. ap (λ b. b && nat_eq p.to q) (ne_eqb p.generation g a))
-    (λ a. and_no (nat_eq p.generation g) (nat_eq p.to q) (ne_eqb p.to q a)) n)
+    (λ a. and_false (nat_eq p.generation g) (nat_eq p.to q) (ne_eqb p.to q a)) n)
     ∙ append-nil (for_place g q pieces)
-  where
-    and_no : (a b : Bool) → b ≡ false → a && b ≡ false
-    and_no true b e = e
-    and_no false b e = refl
 
 place_gets : (g q : ℕ) (pieces : List Piece) (p : Piece) → p.generation ≡ g → p.to ≡ q
     → for_place g q (pieces ++ p ∷ []) ≡ for_place g q pieces ++ p ∷ []

@@ -176,7 +176,7 @@ answers_came f c k lo (Hole u j ∷ ds) os r t a = let rest = answers_came f c k
 abbrev pub Lone : List Piece → Type 0
 Lone xs = (xs ≡ []) ⊎ ((x : Piece) × (xs ≡ x ∷ []))
 
-and_false : (a b : Bool) → b ≡ false → a && b ≡ false
+pub and_false : (a b : Bool) → b ≡ false → a && b ≡ false
 and_false true b e = e
 and_false false b e = refl
 

@@ -141,17 +141,10 @@ fn all_left(
     let mut left = VecDeque::new(alloc);
     let mut most = first;
     for entry in entries {
-        most = larger(most, workers_for(&entry));
+        most = most.max(workers_for(&entry));
         left.push_back(entry)?;
     }
     Ok((left, most))
-}
-
-fn larger(a: u32, b: u32) -> u32
-    ensures first { a ≤ result }
-    ensures second { b ≤ result }
-{
-    if a < b { b } else { a }
 }
 
 // How many workers the strategy has that the entry changes to.

@@ -26,7 +26,7 @@ pub struct Worker {
 }
 
 impl Worker {
-    /// The worker of this number that took nothing yet: it monitors if the strategy has so many workers.
+    /// The worker of this number that took nothing yet: it monitors if the strategy has a worker of this number.
     pub fn start(
         alloc: Global,
         core: &Core,

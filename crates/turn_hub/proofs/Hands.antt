@@ -112,7 +112,7 @@ module _ {W S I O : Type 0} (stands : S → List I → List O → W → Type 0) 
                     λ _. inr (
                       id,
                       w,
-                      set_here s.views id w (within stands may s.views id v at),
+                      set_here s.views id w (within s.views id v at),
                       number,
                       some_is stands may
                           (Some c) c refl,
@@ -217,7 +217,7 @@ module _ {W S I O : Type 0} (stands : S → List I → List O → W → Type 0) 
       → Allows R n id me k (λ y. y) (hand_looks stands may (step n k 0 0 none) me)
   hand_loads n id k me number nothing near s r wide at small =
       let near' : k < length s.homes = omega arith in let lined : length r.main.lines ≡ length s.homes = r.lined in
-      let t = there stands may r.main.lines k (omega arith) in let l : L = t.0 in let o = r.each_cell k l t.1 in
+      let t = there r.main.lines k (omega arith) in let l : L = t.0 in let o = r.each_cell k l t.1 in
       let y : ℕ = slice_index s.words k in
       dite (ℕ_discrete y 1)
       (λ one. ⊎_elim
@@ -249,7 +249,7 @@ module _ {W S I O : Type 0} (stands : S → List I → List O → W → Type 0) 
       → Allows R n id me k (λ _. new) (λ _ m'. gives_back (step n k new 0 none) me new m')
   hand_stores n id k me more c c' new number near holds has turn s r wide at small =
       let near' : k < length s.homes = omega arith in let lined : length r.main.lines ≡ length s.homes = r.lined in
-      let t = there stands may r.main.lines k (omega arith) in (
+      let t = there r.main.lines k (omega arith) in (
         emptied me.0 new (length c.items.items),
         gives,
         tt,

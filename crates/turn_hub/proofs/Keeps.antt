@@ -25,6 +25,16 @@ module _ {A : Type 0} where
   look None = inl refl
   look (Some x) = inr (x, refl)
 
+  pub within : (xs : List A) (i : ℕ) (a : A) → get_elem? xs i ≡ some a → i < length xs
+  within [] i a e = absurd (some-ne-none a (sym e))
+  within (x ∷ xs) zero a e = omega arith
+  within (x ∷ xs) (suc i) a e = let h = within xs i a e in omega arith
+
+  pub there : (xs : List A) (i : ℕ) → i < length xs → (a : A) × (get_elem? xs i ≡ some a)
+  there [] i h = absurd (omega arith)
+  there (x ∷ xs) zero h = (x, refl)
+  there (x ∷ xs) (suc i) h = there xs i (omega arith)
+
 module _ {W S I O : Type 0} (stands : S → List I → List O → W → Type 0) (may : S → List I → Type 0) where
   abbrev C : Type 0
   C = Cell W I O
@@ -154,17 +164,6 @@ module _ {W S I O : Type 0} (stands : S → List I → List O → W → Type 0) 
       once = λ i j u x q e f num mun. let a = was i u e in let b = was j x f in
           r.once i j a.0 b.0 q a.1 b.1 (a.2 ∙ num) (b.2 ∙ mun);
     }
-
-  module _ {A : Type 0} where
-    pub within : (xs : List A) (i : ℕ) (a : A) → get_elem? xs i ≡ some a → i < length xs
-    within [] i a e = absurd (some-ne-none a (sym e))
-    within (x ∷ xs) zero a e = omega arith
-    within (x ∷ xs) (suc i) a e = let h = within xs i a e in omega arith
-
-    pub there : (xs : List A) (i : ℕ) → i < length xs → (a : A) × (get_elem? xs i ≡ some a)
-    there [] i h = absurd (omega arith)
-    there (x ∷ xs) zero h = (x, refl)
-    there (x ∷ xs) (suc i) h = there xs i (omega arith)
 
   pub some_is : {A : Type 0} (o : Option A) (x : A) → o ≡ Some x → o ≢ None
   some_is o x e z = none-some x (sym z ∙ e)

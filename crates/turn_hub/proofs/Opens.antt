@@ -14,7 +14,7 @@ use Rattle.turn_hub.specs.declared.view.View.{View}
 use Rattle.turn_hub.specs.Rule.{Ready, Due, Has, Out, CellOk, Ruled}
 use Rattle.turn_hub.specs.Steps.{started, first_view, one_more, new_hand}
 use Rattle.turn_hub.specs.Ends.{IsFresh}
-use Rattle.turn_hub.proofs.Keeps.{still_out}
+use Rattle.turn_hub.proofs.Keeps.{still_out, within}
 
 module _ {A : Type 0} where
   pub at_end : (xs : List A) (a b : A) (j : ℕ) → get_elem? (xs ++ a ∷ []) j ≡ some b
@@ -23,11 +23,6 @@ module _ {A : Type 0} where
   at_end [] a b (suc j) e = absurd (some-ne-none b (sym e))
   at_end (x ∷ xs) a b zero e = inl e
   at_end (x ∷ xs) a b (suc j) e = ⊎_elim (λ t. inl t) (λ t. let n = t.0 in inr (omega arith, t.1)) (at_end xs a b j e)
-
-  pub below_length : (xs : List A) (i : ℕ) (a : A) → get_elem? xs i ≡ some a → i < length xs
-  below_length [] i a e = absurd (some-ne-none a (sym e))
-  below_length (x ∷ xs) zero a e = omega arith
-  below_length (x ∷ xs) (suc i) a e = let h = below_length xs i a e in omega arith
 
   pub from_map : {B : Type 0} (f : A → B) (xs : List A) (k : ℕ) (y : B) → get_elem? (map f xs) k ≡ some y
       → (x : A) × (get_elem? xs k ≡ some x) × (f x ≡ y)
@@ -71,7 +66,7 @@ module _ {W S I O : Type 0} (stands : S → List I → List O → W → Type 0) 
         lined = length-map works (λ w. started (seed w)) ∙ sym wide ∙ sym homes;
         has = λ c e. absurd (none-some c e);
         each_cell = λ k l e. let t = from_map (λ w. started {I = I} {O = O} (seed w)) works k l e in let w : W =
-            t.0 in let f = fresh k w t.1 in let near : k < length works = below_length works k w t.1 in
+            t.0 in let f = fresh k w t.1 in let near : k < length works = within works k w t.1 in
             let zero_word = zeros k (let g : k < length words = omega arith in g) in
             subst (λ (y : L). CellOk stands may (map some slots) (main ∷ []) main k (slice_index words k) y) t.2
             record {
@@ -134,7 +129,7 @@ module _ {W S I O : Type 0} (stands : S → List I → List O → W → Type 0) 
     splits = record {
       main = main';
       first = at_longer (set s.views 0 main') (new_hand v ∷ []) 0 main'
-          (set_here s.views 0 main' (below_length s.views 0 v at));
+          (set_here s.views 0 main' (within s.views 0 v at));
       no_hand = no_number_v;
       wide = r.wide;
       lined = ap (λ (y : V). length y.lines) (sym is_main) ∙ r.lined;

@@ -7,8 +7,10 @@ use std::alloc::{AllocError, Global};
 
 /// A value that takes items one by one, and gives outs for them.
 pub trait Work: Drop {
+    /// What it takes.
     type Item: Drop;
 
+    /// What it gives.
     type Out: Drop;
 
     /// What is known of a work before it took anything.

@@ -37,7 +37,7 @@ rows_at point added = filter (at_point point) added
 abbrev pub rows_after : ℕ → List Rows → List Rows
 rows_after point added = filter (λ rows. not (at_point point rows)) added
 
--- whether both are of the same worker and time-point
+-- whether both are of the same worker of the same generation, and of the same time-point
 abbrev pub is_from : Rows → Rows → Bool
 is_from one other =
     nat_eq one.point other.point && (nat_eq one.generation other.generation && nat_eq one.worker other.worker)

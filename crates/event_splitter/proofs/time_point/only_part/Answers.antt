@@ -1,5 +1,4 @@
 use Rattle.std.proofs.Common.{◌≡◌, ◌∙◌, [], ◌∷◌, ap, sym}
-use Rattle.mfotl_model.specs.Matching.{is_seen}
 use Rattle.event_splitter.proofs.OwnedLemmas.{only_part}
 use Rattle.event_splitter.specs.Parts.{parts_for}
 use Rattle.event_splitter.proofs.time_point.only_part.Goals as goal

@@ -14,15 +14,16 @@ loop-entry-preserved c =
     let entry : Entry = c.in-Some.entry in
     let e : old ≡ entry ∷ rest = c.in-Some.ensures.steps.0 in
     let items : c.push_back.new.self.items ≡ done ++ entry ∷ [] = c.in_ok-push_back.ensures.items in
-    let first : c.loop-entry.most ≤ c.larger-most.result = c.larger-most.ensures.first in
-    let second : workers_for entry ≤ c.larger-most.result =
-    subst (λ n. n ≤ c.larger-most.result) c.workers_for.ensures c.larger-most.ensures.second in
+    let top = c.max-most.ensures in
+    let needs = c.workers_for.ensures in
+    let first : c.loop-entry.most ≤ c.max-most.result = omega (arith, top) in
+    let second : workers_for entry ≤ c.max-most.result = omega (arith, top, needs) in
     record {
       left = ap (λ x. x ++ rest) items ∙ append_assoc done (entry ∷ []) rest ∙ ap (λ x. done ++ x) (sym e) ∙ i.left;
       wide = (let h = i.wide in omega arith);
-      within = subst (AreWithin c.larger-most.result) (sym items)
-          (every_append (λ (x : Entry). workers_for x ≤ c.larger-most.result) done (entry ∷ [])
+      within = subst (AreWithin c.max-most.result) (sym items)
+          (every_append (λ (x : Entry). workers_for x ≤ c.max-most.result) done (entry ∷ [])
           (every_map (λ (x : Entry). workers_for x ≤ c.loop-entry.most)
-          (λ (x : Entry). workers_for x ≤ c.larger-most.result) done (λ x h. (omega arith)) i.within)
+          (λ (x : Entry). workers_for x ≤ c.max-most.result) done (λ x h. (omega arith)) i.within)
           (second, tt));
     }

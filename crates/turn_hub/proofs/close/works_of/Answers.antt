@@ -8,7 +8,7 @@ use mathlib.Core.Option.{some, some-injective}
 use lib.ListN.{get_elem?}
 use Rattle.atomic_table.proofs.Lists.{at_longer, at_last}
 use Rattle.turn_hub.specs.declared.view.Cell.{Cell}
-use Rattle.turn_hub.proofs.Opens.{below_length}
+use Rattle.turn_hub.proofs.Keeps.{within}
 use Rattle.std.specs.Prelude.{vec_capacity}
 use Rattle.std.specs.Mem.Slots.{slots_filled, slots_len, slots_items}
 use Rattle.turn_hub.proofs.close.works_of.Goals as goal
@@ -71,6 +71,6 @@ returns g c = let i = c.loop-k.invariant in let n : ℕ = slots_len c.args.close
     let long : n ≡ length (slots_items c.args.closed.slots) = c.args.closed.slots.ok.0 in (
       i.5 ∙ whole ∙ long,
       λ q x e. i.7 q x (let b : q < length (slots_items c.args.closed.slots) =
-          below_length (slots_items c.args.closed.slots) q (Some x) e in omega arith)
+          within (slots_items c.args.closed.slots) q (Some x) e in omega arith)
           (ap (λ xs. get_elem? xs q) i.2 ∙ e),
     )

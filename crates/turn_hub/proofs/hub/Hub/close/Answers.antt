@@ -12,7 +12,7 @@ works_of-requires-clause-full g c = let e = c.join_hands.ensures in let v = c.cl
     (subst AllMine (sym e.1) c.requires.main.1) v.2 in (
       v.1,
       λ k near. let wide : length (slots_items closed.slots) ≡ length lines = f.0 in let t =
-          there g.W.Work.stands g.W.Work.may lines k (omega arith) in let h = f.1 k t.0 t.1 in (h.0, h.1),
+          there lines k (omega arith) in let h = f.1 k t.0 t.1 in (h.0, h.1),
     )
 
 pub returns : goal.returns
