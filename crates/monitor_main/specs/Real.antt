@@ -9,6 +9,12 @@ is_opened Closed = false
 is_opened Input = true
 is_opened (File f) = true
 
+-- whether standard input is open
+abbrev pub is_input : {F : Type 0} → Source F → Bool
+is_input Closed = false
+is_input Input = true
+is_input (File f) = false
+
 -- nothing is told of the bytes
 abbrev pub untold : {X : Type 0} → X → Option (List ℕ)
 untold x = None

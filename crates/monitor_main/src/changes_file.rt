@@ -31,7 +31,7 @@ fn count_workers(changes: &[Change])
 
 // The changes of a script that isn't too long, over the policy's free variables.
 #[tactic(auto, unfolding(crate::specs::Tasks::changes_in))]
-fn changes_in(alloc: Global, bytes: &[u8], policy: &Policy) -> Result<Vec<Change>, Refusal>
+fn short_changes(alloc: Global, bytes: &[u8], policy: &Policy) -> Result<Vec<Change>, Refusal>
     requires { length bytes.now ≤ max_file }
     ensures gives { Gives (λ changes. changes.items) result (changes_in policy.now.vars bytes.now) }
     ensures divides { IfOk result (λ changes.
@@ -45,7 +45,7 @@ fn changes_in(alloc: Global, bytes: &[u8], policy: &Policy) -> Result<Vec<Change
 
 /// The changes of a script, over the policy's free variables.
 #[tactic(auto, unfolding(crate::specs::Tasks::changes_in))]
-pub fn changes_of(alloc: Global, bytes: &[u8], policy: &Policy) -> Result<Vec<Change>, Refusal>
+pub fn changes_in(alloc: Global, bytes: &[u8], policy: &Policy) -> Result<Vec<Change>, Refusal>
     ensures gives { Gives (λ changes. changes.items) result (changes_in policy.now.vars bytes.now) }
     ensures divides { IfOk result (λ changes.
         AllByRecursion (λ c. Divides policy.now.vars c.strategy) changes.items) }
@@ -54,7 +54,7 @@ pub fn changes_of(alloc: Global, bytes: &[u8], policy: &Policy) -> Result<Vec<Ch
     if bytes.len() as u64 > MAX_FILE {
         return Err(Refusal::LongChanges);
     }
-    changes_in(alloc, bytes, policy)
+    short_changes(alloc, bytes, policy)
 }
 
 // The changes in the file of this name.
@@ -76,7 +76,7 @@ fn load_script<I: Inputs>(
         (inputs_view I.Inputs inputs.old) (inputs_view I.Inputs inputs.new)) }
 {
     match load(alloc, inputs, name, MAX_FILE) {
-        Ok(bytes) => changes_in(alloc, bytes.as_slice(), policy),
+        Ok(bytes) => short_changes(alloc, bytes.as_slice(), policy),
         Err(LoadFault::TooLong) => Err(Refusal::LongChanges),
         Err(LoadFault::Failed) => Err(Refusal::Read(InputFile::Changes)),
         Err(LoadFault::Memory) => Err(Refusal::Memory),

@@ -22,19 +22,11 @@ use monitorable::{Core, to_core};
 use std::alloc::Global;
 
 /// A policy that can be monitored, over its signature.
+#[derive(Drop)]
 pub struct CheckedPolicy {
     pub sig: Signature,
     pub policy: Policy,
     pub core: Core,
-}
-
-impl Drop for CheckedPolicy {
-    fn drop(self) {
-        let CheckedPolicy { sig, policy, core } = self;
-        drop(sig);
-        drop(policy);
-        drop(core);
-    }
 }
 
 impl CheckedPolicy {
@@ -50,7 +42,7 @@ impl CheckedPolicy {
 
 // The signature in a file that isn't too long.
 #[tactic(auto, unfolding(crate::specs::Tasks::signature_of))]
-fn signature_in(alloc: Global, bytes: &[u8]) -> Result<Signature, Refusal>
+fn short_signature(alloc: Global, bytes: &[u8]) -> Result<Signature, Refusal>
     requires { length bytes.now ≤ max_file }
     ensures gives { Gives (λ sig. sig) result (signature_of bytes.now) }
     ensures inside { IfErr result IsInside }
@@ -83,7 +75,7 @@ fn signature_of(alloc: Global, bytes: &[u8]) -> Result<Signature, Refusal>
     if bytes.len() as u64 > MAX_FILE {
         return Err(Refusal::LongSignature);
     }
-    signature_in(alloc, bytes)
+    short_signature(alloc, bytes)
 }
 
 // The policy of a text.
@@ -131,7 +123,7 @@ fn load_signature<I: Inputs>(
         (inputs_view I.Inputs inputs.old) (inputs_view I.Inputs inputs.new)) }
 {
     match load(alloc, inputs, name, MAX_FILE) {
-        Ok(bytes) => signature_in(alloc, bytes.as_slice()),
+        Ok(bytes) => short_signature(alloc, bytes.as_slice()),
         Err(LoadFault::TooLong) => Err(Refusal::LongSignature),
         Err(LoadFault::Failed) => Err(Refusal::Read(InputFile::Signature)),
         Err(LoadFault::Memory) => Err(Refusal::Memory),

@@ -8,7 +8,7 @@ ghost use Rattle.monitor_main.specs.LogRuns.{IsOutputFault};
 
 use crate::demo_end::follow_demo;
 use crate::line::write_line;
-use crate::refusal::{InputFile, Refusal};
+use crate::refusal::Refusal;
 use mon_outside::{Gate, Sink};
 use std::alloc::{AllocError, Global};
 use std::sync::Wait;
@@ -72,8 +72,7 @@ fn tell_end<O: Sink>(alloc: Global, seed: u64, end: End, out: &mut O) -> Result<
             Err(refusal) => Err(refusal),
         },
         End::LogEnds(fault) => Err(Refusal::from(fault)),
-        End::ReadFailed => Err(Refusal::Read(InputFile::Log)),
-        End::SinkFailed => Err(Refusal::Write),
+        End::ReadFailed | End::SinkFailed => unreachable!(),
         End::Memory => Err(Refusal::Memory),
     }
 }

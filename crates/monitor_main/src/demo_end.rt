@@ -8,7 +8,7 @@ ghost use Rattle.monitor_main.specs.Limits.{default_threads};
 ghost use Rattle.monitor_main.specs.ReadyTasks.{IsReady};
 ghost use Rattle.monitor_main.specs.Tasks.{demo_task, divided_texts, task_on};
 
-use crate::changes_file::changes_of;
+use crate::changes_file::changes_in;
 use crate::checked_policy::check_texts;
 use crate::limits::DEFAULT_THREADS;
 use crate::monitoring::follow;
@@ -40,7 +40,7 @@ fn task_of(alloc: Global, sig: &[u8], policy: &[u8], changes: &[u8]) -> Result<T
 {
     let checked = check_texts(alloc, sig, policy)?;
     let first = read_strategy(alloc, "", &checked.policy)?;
-    let changes = changes_of(alloc, changes, &checked.policy)?;
+    let changes = changes_in(alloc, changes, &checked.policy)?;
     Ok(Task {
         checked,
         first,

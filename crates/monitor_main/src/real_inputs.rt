@@ -1,9 +1,10 @@
 //! The real files and standard input, about whose names and contents nothing is told.
-ghost use Rattle.std.specs.Prelude.{◌≡◌, ◌<◌, ◌≤◌, None, length, IfOk, OnErr, IsTrue};
+ghost use Rattle.std.specs.Prelude.{◌≡◌, ◌<◌, ◌≤◌, None, codes, false, length, is_ok, IfOk, OnErr, OnOk, IsTrue};
 ghost use Rattle.std.specs.Io.KnownBytes.{ReadConsumes};
 ghost use Rattle.mon_outside.specs.Causes.{HasCause};
-ghost use Rattle.mon_outside.specs.Inputs.{Moves};
-ghost use Rattle.monitor_main.specs.Real.{is_opened, rest_told, untold};
+ghost use Rattle.std.specs.Str.{bytes_eq};
+ghost use Rattle.mon_outside.specs.Inputs.{Moves, Opens};
+ghost use Rattle.monitor_main.specs.Real.{is_input, is_opened, rest_told, untold};
 
 use crate::retrying::{one_more, read_some};
 use mon_outside::{Failed, Inputs};
@@ -30,7 +31,10 @@ pub struct RealInputs<'a, R: Files, S: Read + Drop> {
 
 impl<'a, R: Files, S: Read + Drop> RealInputs<'a, R, S> {
     /// Nothing is open, and no call has failed. `input` is standard input.
-    pub fn new(rt: &'a R, input: S) -> Self {
+    pub fn new(rt: &'a R, input: S) -> Self
+        ensures closed { is_opened result.source ≡ false }
+        ensures unfailed { result.failures ≡ 0 }
+    {
         RealInputs {
             rt,
             input,
@@ -66,7 +70,13 @@ impl<R: Files, S: Read + Drop> Inputs for RealInputs<'_, R, S> {
 
     ghost faults = { λ s. s.failures };
 
-    fn open(&mut self, name: &str) -> Result<(), Failed> {
+    // Beside what each input keeps to: standard input has the name `-`, and no file has.
+    fn open(&mut self, name: &str) -> Result<(), Failed>
+        ensures opens { OnOk result (Opens None name.now (untold self.new)) }
+        ensures opened { is_opened self.new.source ≡ is_ok result }
+        ensures input { IfOk result (λ _. is_input self.new.source ≡ bytes_eq name.now (codes "-")) }
+        ensures cause { HasCause self.old.failures self.new.failures result }
+    {
         if name == "-" {
             self.source = Source::Input;
             return Ok(());

@@ -18,7 +18,9 @@ pub struct RealSink<W: Write + Drop> {
 
 impl<W: Write + Drop> RealSink<W> {
     /// No call has failed.
-    pub fn new(stream: W) -> Self {
+    pub fn new(stream: W) -> Self
+        ensures { result.failures ≡ 0 }
+    {
         RealSink {
             stream,
             failures: 0,

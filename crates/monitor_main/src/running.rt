@@ -65,23 +65,24 @@ fn conclude<R: Threads + Wait + Sync, I: Inputs, O: Sink, G: Gate + Sync>(
     hand_on(decision, out)
 }
 
-// Writes a line, as far as that can be done.
+// Writes a line and hands it on, as far as that can be done.
 #[tactic(auto, using(worker_pool::proofs::SinkLemmas::whole_front))]
 fn tell<E: Sink>(line: &[u8], err: &mut E)
-    ensures { TellsLine (E.written err.old) (E.written err.new)
+    ensures told { TellsLine (E.written err.old) (E.written err.new)
         (E.faults err.old) (E.faults err.new) line.now }
+    ensures handed_on { StoodStill (E.faults err.old) (E.faults err.new) → E.held err.new ≡ [] }
 {
-    match write_whole(err, line) {
-        Ok(()) => (),
-        Err(_) => (),
+    if write_whole(err, line).is_ok() {
+        let _ = err.flush();
     }
 }
 
 // Tells that memory was refused. It takes none.
 #[tactic(auto, unfolding(crate::specs::Refusals::line_of))]
 fn tell_memory<E: Sink>(err: &mut E)
-    ensures { TellsLine (E.written err.old) (E.written err.new)
+    ensures told { TellsLine (E.written err.old) (E.written err.new)
         (E.faults err.old) (E.faults err.new) (line_of Refusal.Memory) }
+    ensures handed_on { StoodStill (E.faults err.old) (E.faults err.new) → E.held err.new ≡ [] }
 {
     tell(b"memory\n", err);
 }
@@ -89,8 +90,9 @@ fn tell_memory<E: Sink>(err: &mut E)
 // Tells the refusal, and answers the status that stands for it.
 #[tactic(auto, using(crate::proofs::ReportLemmas::reported, crate::proofs::ReportLemmas::reported_memory))]
 fn report<E: Sink>(alloc: Global, refusal: Refusal, err: &mut E) -> Status
-    ensures { Reports refusal result (E.written err.old) (E.written err.new)
+    ensures reports { Reports refusal result (E.written err.old) (E.written err.new)
         (E.faults err.old) (E.faults err.new) }
+    ensures handed_on { StoodStill (E.faults err.old) (E.faults err.new) → E.held err.new ≡ [] }
 {
     match refusal.line(alloc) {
         Ok(line) => {
@@ -139,8 +141,10 @@ pub fn run<R: Threads + Wait + Sync, I: Inputs, O: Sink, E: Sink, G: Gate + Sync
     ensures asks { AsksByWords (texts_of words.items)
         (inputs_view I.Inputs inputs.old) (inputs_view I.Inputs inputs.new) }
 
-    // At the end the output holds nothing back.
+    // At the end the output holds nothing back, nor does `err` where a line was told.
     ensures flushed { result ≢ Status.Write → result ≢ Status.Memory → O.held out.new ≡ [] }
+    ensures told { result ≢ Status.Clean → result ≢ Status.Violated
+        → StoodStill (E.faults err.old) (E.faults err.new) → E.held err.new ≡ [] }
 
     // A failed call is told only where its count rose.
     ensures read_cause { result ≡ Status.Read → Rose (I.faults inputs.old) (I.faults inputs.new) }

@@ -18,7 +18,7 @@ has_some_row v = not (is_empty v.rows)
 
 -- some verdict has a row
 abbrev pub some_rows : List VerdictOf → Bool
-some_rows verdicts = list_any (λ v. not (is_empty v.rows)) verdicts
+some_rows verdicts = list_any has_some_row verdicts
 
 -- the lines of verdicts
 abbrev pub lines : List VerdictOf → List ℕ
@@ -42,7 +42,7 @@ text_on policy r = text (log_in r) policy
 
 -- some verdict on what was read has a row
 unfoldable pub violated_on : Form → Reading → Bool
-violated_on policy r = list_any (λ v. not (is_empty v.rows)) (verdicts (log_in r) policy)
+violated_on policy r = some_rows (verdicts (log_in r) policy)
 
 -- the numbers of the verdicts on what was read
 unfoldable pub tally_on : Form → Reading → Tally

@@ -22,7 +22,8 @@ impl<R: Wait, G> LoopContext<'_, R, G> {
         if busy {
             return 0;
         }
+        let idle = idle.saturating_add(1);
         self.bells.main.rest(self.rt, heard, idle);
-        idle.saturating_add(1)
+        idle
     }
 }

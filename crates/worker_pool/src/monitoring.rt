@@ -1,13 +1,13 @@
 //! The whole run over a log.
 ghost use Rattle.std.specs.Prelude.{◌≡◌, ◌<◌, ◌≤◌, [], All, IfOk, IsTrue, length};
-ghost use Rattle.std.specs.List.{AllByRecursion, range_with_len};
+ghost use Rattle.std.specs.List.{range_with_len};
 ghost use Rattle.log_reader.specs.Limits.{standard};
 ghost use Rattle.log_reader.specs.Progress.{nothing_fed};
 ghost use Rattle.log_reader.specs.Readers.{Reads, progress};
 ghost use Rattle.mfotl_model.specs.Strategies.{workers_of};
 ghost use Rattle.monitorable.specs.Cores.{core_form};
 ghost use Rattle.rescale_core.specs.Workers.{IsFor};
-ghost use Rattle.worker_pool.specs.Changes.{HaveCells, Suits};
+ghost use Rattle.worker_pool.specs.Changes.{AllSuit, HaveCells, Suits};
 ghost use Rattle.worker_pool.specs.Effects.{effect};
 ghost use Rattle.worker_pool.specs.Endings.{FollowsLog};
 ghost use Rattle.turn_hub.specs.Ends.{IsMainOf, cell_count};
@@ -52,7 +52,7 @@ struct Prepared {
 // Opens so many cells, each for the worker of its number, and deals the hands to threads.
 fn prepare(alloc: Global, plan: Plan, cells: u32, threads: u32) -> Result<Prepared, AllocError>
     requires suits { IsFor (core_form plan.core) plan.first }
-    requires changes { AllByRecursion (λ c. IsFor (core_form plan.core) c.strategy) plan.changes.items }
+    requires changes { AllSuit (core_form plan.core) plan.changes.items }
     requires some { 0 < cells }
     requires wide { All (λ c. workers_of c.strategy ≤ cells) plan.changes.items }
     ensures count { IfOk result (λ p. cells ≤ cell_count p.hub) }
@@ -65,7 +65,7 @@ fn prepare(alloc: Global, plan: Plan, cells: u32, threads: u32) -> Result<Prepar
     ensures groups { IfOk result (λ p. AreGroupsOf p.hub p.groups.items) }
     ensures own { IfOk result (λ p. AreHandsOf p.hub p.own.items) }
     ensures dealt { IfOk result (λ p. AreDealt (range_with_len 0 cells) threads p.groups.items p.own.items) }
-    ensures room { IfOk result (λ p. 0 < length p.buffer.items) }
+    ensures room { IfOk result (λ p. length p.buffer.items ≡ 65536) }
 {
     let Plan {
         core,
@@ -99,7 +99,7 @@ fn run_plan<R: Threads + Wait + Sync, I: Inputs, O: Sink, G: Gate + Sync>(
     gate: &G,
 ) -> Result<Tally, Stop>
     requires suits { IsFor (core_form plan.core) plan.first }
-    requires changes { AllByRecursion (λ c. IsFor (core_form plan.core) c.strategy) plan.changes.items }
+    requires changes { AllSuit (core_form plan.core) plan.changes.items }
     requires opened { IsTrue (I.is_open inputs.old) }
     requires fresh { progress log.old [] ≡ nothing_fed log.old.sig standard }
     requires reads { Reads log.old [] }
@@ -177,7 +177,7 @@ pub fn monitor<R: Threads + Wait + Sync, I: Inputs, O: Sink, G: Gate + Sync>(
     gate: &G,
 ) -> End
     requires suits { IsFor (core_form plan.core) plan.first }
-    requires changes { AllByRecursion (λ c. IsFor (core_form plan.core) c.strategy) plan.changes.items }
+    requires changes { AllSuit (core_form plan.core) plan.changes.items }
     requires few { threads ≤ 64 }
     requires opened { IsTrue (I.is_open inputs.old) }
     requires fresh { progress log.old [] ≡ nothing_fed log.old.sig standard }

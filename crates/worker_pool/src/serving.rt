@@ -54,10 +54,10 @@ fn serve_until<R: Wait, W: Work, G: Gate>(
 {
     let mut idle = 0u64;
     for _ in serving.rt.forever() {
+        let heard = serving.bell.rings();
         if serving.bell.is_stopped() {
             return hands;
         }
-        let heard = serving.bell.rings();
         if serve_each(serving.alloc, serving.hub, &mut hands, serving.gate) {
             idle = 0;
             serving.main.ring();

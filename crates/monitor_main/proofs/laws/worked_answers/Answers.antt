@@ -16,4 +16,4 @@ pub returns-clause-limits : goal.returns-clause-limits
 returns-clause-limits c = (refl, refl)
 
 pub returns-clause-threads : goal.returns-clause-threads
-returns-clause-threads c = refl
+returns-clause-threads c = (refl, refl)

@@ -1,6 +1,6 @@
 use Rattle.std.proofs.Common.{rules}
 use Rattle.monitor_main.proofs.DivisionLemmas.{all_divide}
-use Rattle.monitor_main.proofs.changes_file.changes_in.Goals as goal
+use Rattle.monitor_main.proofs.changes_file.short_changes.Goals as goal
 
 pub returns-clause-divides : goal.returns-clause-divides
 returns-clause-divides c =
