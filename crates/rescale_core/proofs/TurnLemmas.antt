@@ -8,7 +8,7 @@ use mathlib.Core.Option.{some, some-injective}
 use lib.ListN.{get_elem?}
 use Rattle.turn_hub.specs.Answers.{MayHand, swapped_line}
 use Rattle.turn_hub.specs.Ends.{main_view}
-use Rattle.turn_hub.proofs.Opens.{below_length}
+use Rattle.turn_hub.proofs.Keeps.{within}
 use Rattle.rescale_core.proofs.DriverLemmas.{answered_last, get_here, line_kept, lines_set, may_fed}
 use Rattle.rescale_core.proofs.CellLemmas.{seed_in}
 use Rattle.rescale_core.proofs.Taking.{Took, reaches_on, takes_all, took_router}
@@ -43,7 +43,7 @@ module _ (d e : Driver) (k n : ℕ) (outs : List Out) (l : CellLine) (at : get_e
     (n_is : n ≡ l.last) (told : ToldBy l.seed l.handed (l.back ++ outs))
     (main : lines_of e ≡ slice_set (lines_of d) k (swapped_line l outs [])) where
   near : k < length (lines_of d)
-  near = below_length (lines_of d) k l at
+  near = within (lines_of d) k l at
 
   has_turn : HasTurn (lines_of e) k
   has_turn = (
@@ -261,7 +261,7 @@ module _ (d : Driver) (router : Router) (k : ℕ) (items : List Item) (turn : Ha
                   omega arith;
               mine = refl;
             }) (λ q v other g. line_kept w x q v h.core h.first (h.others q other) (is.lines q v g));
-            beyond = beyond_kept d e w x k (swapped_line l outs items) main (below_length (lines_of d) k l at) is
+            beyond = beyond_kept d e w x k (swapped_line l outs items) main (within (lines_of d) k l at) is
                 h.others;
           },
         )

@@ -1,6 +1,5 @@
 use Rattle.std.proofs.Common.{◌<◌, subst, sym}
 use Rattle.turn_hub.proofs.Keeps.{there}
-use Rattle.thread_cases.specs.Echoes.{StandsFor, May}
 use Rattle.thread_cases.proofs.refusal.swap.Goals as goal
 
 -- main knows a line of each cell, and this one is near
@@ -8,5 +7,5 @@ pub swap-requires-clause-may : goal.swap-requires-clause-may
 swap-requires-clause-may c =
     let lines = c.args.main.now.seat.me.0.lines in
     let near = subst (λ n. c.args.number < n) (sym c.requires.main.4) c.requires.near in
-    let l = there StandsFor May lines c.args.number near in
+    let l = there lines c.args.number near in
     (l.0, l.1, tt)
