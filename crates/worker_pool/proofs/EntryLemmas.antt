@@ -11,7 +11,7 @@ use Rattle.worker_pool.specs.Changes.{changes_due, changes_later, entries_behind
 
 -- ---- the time-points among them
 
-points_more : (xs ys : List Entry) → points_in (xs ++ ys) ≡ points_in xs ++ points_in ys
+pub points_more : (xs ys : List Entry) → points_in (xs ++ ys) ≡ points_in xs ++ points_in ys
 points_more [] ys = refl
 points_more (Point p ∷ xs) ys = ap (λ ps. p ∷ ps) (points_more xs ys)
 points_more (ToStrategy s ∷ xs) ys = points_more xs ys

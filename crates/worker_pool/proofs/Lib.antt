@@ -6,6 +6,7 @@ pub mod TallyLemmas
 pub mod WritingLemmas
 pub mod EntryLemmas
 pub mod ChangeLemmas
+pub mod PlanLaws
 pub mod PointLemmas
 pub mod ChunkLemmas
 pub mod HandLemmas

@@ -81,3 +81,9 @@ abbrev pub points_in : List Entry → List TimePoint
 points_in [] = []
 points_in (Point p ∷ entries) = p ∷ points_in entries
 points_in (ToStrategy s ∷ entries) = points_in entries
+
+-- the strategies among them
+abbrev pub strategies_in : List Entry → List Strategy
+strategies_in [] = []
+strategies_in (Point p ∷ entries) = strategies_in entries
+strategies_in (ToStrategy s ∷ entries) = s ∷ strategies_in entries

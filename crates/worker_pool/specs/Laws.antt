@@ -1,13 +1,15 @@
 -- Laws and examples of what is due and of what is counted.
-use Rattle.std.specs.Prelude.{◌≡◌, ◌+◌, ℕ, List, [], ◌∷◌, nat_lt}
+use Rattle.std.specs.Prelude.{◌≡◌, ◌+◌, ◌≤◌, ◌<◌, ℕ, List, [], ◌∷◌, ◌++◌, map, take, drop, length, nat_lt}
+use Rattle.std.specs.List.{AllByRecursion}
 use Rattle.mfotl_model.specs.Formulas.{Form}
 use Rattle.mfotl_model.specs.Strategies.{Strategy}
 use Rattle.mfotl_model.specs.declared.event.TimePoint.{TimePoint}
 use Rattle.log_reader.specs.Limits.{standard}
 use Rattle.log_reader.specs.Readings.{Reading}
+use Rattle.rescale_core.specs.declared.item.Entry.{Entry}
 use Rattle.rescale_core.specs.declared.item.Entry.TheVariants.{Point, Change as ToStrategy}
 use Rattle.slice_strategy.specs.declared.change.Change.{Change}
-use Rattle.worker_pool.specs.Changes.{IsDue, NoneDue, entries_by, left_by}
+use Rattle.worker_pool.specs.Changes.{IsDue, NoneDue, entries_by, left_by, points_in, strategies_in}
 use Rattle.worker_pool.specs.Hands.{dealt}
 use Rattle.worker_pool.specs.Texts.{tally_of, tally_on, violated_on}
 use Rattle.worker_pool.specs.declared.schedule.Schedule.{Schedule}
@@ -47,6 +49,33 @@ pub record ChangesOfThree : Type 0 where
       ≡ ToStrategy s ∷ Point p ∷ Point q ∷ ToStrategy t ∷ ToStrategy u ∷ Point r ∷ []
   pub left : (s t u v : Strategy) (p q r : TimePoint) → left_by (four_changes s t u v) (p ∷ q ∷ r ∷ [])
       ≡ record { before = 3; strategy = v } ∷ []
+
+-- each time-point is read, once and in order
+abbrev pub EachPointOnce : Type 0
+EachPointOnce = (changes : List Change) (points : List TimePoint) → points_in (entries_by changes points) ≡ points
+
+-- the changes are made in their order, and those that aren't made are to come
+abbrev pub EachChangeInOrder : Type 0
+EachChangeInOrder = (changes : List Change) (points : List TimePoint)
+    → strategies_in (entries_by changes points) ++ map (λ (c : Change). c.strategy) (left_by changes points)
+    ≡ map (λ (c : Change). c.strategy) changes
+
+-- Of these changes just the first m are to be made before time-point n: each of them has its number or a lower one, and
+-- the next one's number is higher.
+pub record AreDue (n m : ℕ) (changes : List Change) : Type 0 where
+  pub made : AllByRecursion (λ (c : Change). c.before ≤ n) (take m changes)
+  pub next : (c : Change) (rest : List Change) → drop m changes ≡ c ∷ rest → n < c.before
+
+-- before each time-point just those changes were made that are to be made before it
+abbrev pub EachJustBefore : Type 0
+EachJustBefore = (changes : List Change) (points : List TimePoint) (front : List Entry) (p : TimePoint)
+    (back : List Entry) → entries_by changes points ≡ front ++ Point p ∷ back
+    → AreDue (length (points_in front)) (length (strategies_in front)) changes
+
+-- behind each change that is made a time-point is read
+abbrev pub NoneBehindTheLast : Type 0
+NoneBehindTheLast = (changes : List Change) (points : List TimePoint) (front : List Entry) (s : Strategy)
+    (back : List Entry) → entries_by changes points ≡ front ++ ToStrategy s ∷ back → 0 < length (points_in back)
 
 -- five cells dealt to two threads
 abbrev pub FiveDealtToTwo : Type 0

@@ -1,5 +1,6 @@
 //! Laws of the definitions, each the contract of a function.
-ghost use Rattle.worker_pool.specs.Laws.{ChangesOfThree, DueAtItsNumber, FiveDealtToTwo, LimitsInFull, TallyOfThree};
+ghost use Rattle.worker_pool.specs.Laws.{ChangesOfThree, DueAtItsNumber, EachChangeInOrder, EachJustBefore};
+ghost use Rattle.worker_pool.specs.Laws.{EachPointOnce, FiveDealtToTwo, LimitsInFull, NoneBehindTheLast, TallyOfThree};
 ghost use Rattle.worker_pool.specs.Laws.{ViolationsCounted};
 
 /// Some verdict on what was read has a row exactly where the number of those that have one isn't 0.
@@ -16,6 +17,15 @@ pub fn worked_numbers()
 /// A change is due just before the time-point of its number is read.
 pub fn due_at_its_number()
     ensures { DueAtItsNumber }
+{}
+
+/// What is read of a log's time-points by a plan of changes: all of them, and each change just before the time-point of
+/// its number.
+pub fn changes_just_before()
+    ensures points { EachPointOnce }
+    ensures order { EachChangeInOrder }
+    ensures timely { EachJustBefore }
+    ensures last { NoneBehindTheLast }
 {}
 
 /// What is read of three time-points by a plan of four changes, and to whom five hands are dealt.
