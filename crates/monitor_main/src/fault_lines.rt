@@ -17,7 +17,8 @@ use monitorable::FragmentFault;
 use slice_strategy::{ChangeFault, StrategyFault};
 use std::alloc::{AllocError, Global};
 
-const USAGE: &[u8] = b"usage: run --sig F --policy F --log F [--strategy S] [--changes F] [--threads T] \
+const USAGE: &[u8] =
+    b"usage: run --sig F --policy F --log F [--strategy S] [--changes F] [--threads T] \
     or check --sig F --policy F or demo SEED\n";
 
 fn file_text(file: InputFile) -> &'static str
