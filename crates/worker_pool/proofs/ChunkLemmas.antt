@@ -40,17 +40,17 @@ use Rattle.worker_pool.proofs.VerdictLemmas.{policy_verdicts}
 use Rattle.worker_pool.proofs.WritingLemmas.{nothing_read}
 
 -- the first time-points stay where more comes behind them
-front_same : (n : ℕ) (s a : Reading) → ExtendsReading s a → n ≡ length s.points → take n a.points ≡ take n s.points
+pub front_same : (n : ℕ) (s a : Reading) → ExtendsReading s a → n ≡ length s.points → take n a.points ≡ take n s.points
 front_same n s a k count = rw k.points (take-append-le n s.points k.more (omega (arith, count)))
 
 -- the reader's reading, by its signature and its limits
-read_is : (sig : List PredOf) (reader : Reader) (bytes : List ℕ) → reader.sig ≡ sig → reader.limits ≡ standard
+pub read_is : (sig : List PredOf) (reader : Reader) (bytes : List ℕ) → reader.sig ≡ sig → reader.limits ≡ standard
     → read (progress reader bytes) ≡ reading sig standard bytes reader.is_ended
 read_is sig reader bytes sig_is limits_is =
     ap₂ (λ (s : List PredOf) (l : Limits). reading s l bytes reader.is_ended) sig_is limits_is
 
 -- where all was read, that is the log
-whole_is : (first rest : Option (List ℕ)) (bytes : List ℕ) → Consumes first rest bytes → IsAtEnd rest
+pub whole_is : (first rest : Option (List ℕ)) (bytes : List ℕ) → Consumes first rest bytes → IsAtEnd rest
     → IfSome first (λ all. all ≡ bytes)
 whole_is first rest bytes taken end = Consumes-whole first rest bytes (λ all. all ≡ bytes) taken end refl
 
@@ -61,7 +61,7 @@ moved None after buffer count m = tt
 moved (Some all) after buffer count m = rw m.new_is m.next
 
 -- the lines stopped
-stops_end : (policy : Form) (e : Effect) (ended : Bool) (r : Reading) (before : ℕ) (why : Stop) → e.old.faults ≤ before
+pub stops_end : (policy : Form) (e : Effect) (ended : Bool) (r : Reading) (before : ℕ) (why : Stop) → e.old.faults ≤ before
     → StopsLines policy r e.old.written e.new.written before e.new.faults why
     → EndsBy ended policy r e (run_end (Err why))
 stops_end policy e ended r before (Log fault) later h = record { shows = h.0; written = h.1 }

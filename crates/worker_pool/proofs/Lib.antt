@@ -9,6 +9,9 @@ pub mod ChangeLemmas
 pub mod PlanLaws
 pub mod PointLemmas
 pub mod ChunkLemmas
+pub mod GivenPoints
+pub mod CourseLemmas
+pub mod AloneLemmas
 pub mod HandLemmas
 pub mod DealLemmas
 pub mod Sent

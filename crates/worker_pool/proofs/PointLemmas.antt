@@ -76,19 +76,19 @@ gives_fault ended [] (Fault other) fault e = record { none = refl; ending_is = c
 gives_fault true [] NoFault fault e = absurd cc
 gives_fault false [] NoFault fault e = absurd cc
 
-take_one : (n : ℕ) (ps : List TimePoint) (p : TimePoint) (rest : List TimePoint) → drop n ps ≡ p ∷ rest
+pub take_one : (n : ℕ) (ps : List TimePoint) (p : TimePoint) (rest : List TimePoint) → drop n ps ≡ p ∷ rest
     → take (suc n) ps ≡ take n ps ++ p ∷ []
 take_one zero [] p rest e = absurd cc
 take_one zero (q ∷ ps) p rest e = let head : q ≡ p = cc in ap (λ x. x ∷ []) head
 take_one (suc n) [] p rest e = absurd cc
 take_one (suc n) (q ∷ ps) p rest e = ap (λ xs. q ∷ xs) (take_one n ps p rest e)
 
-take_none_left : (n : ℕ) (ps : List TimePoint) → drop n ps ≡ [] → take n ps ≡ ps
+pub take_none_left : (n : ℕ) (ps : List TimePoint) → drop n ps ≡ [] → take n ps ≡ ps
 take_none_left n ps e = sym (append-nil (take n ps)) ∙ ap (λ xs. take n ps ++ xs) (sym e) ∙ take-append-drop n ps
 
 -- ---- a log and a front of it
 
-front_rises : (xs ys : List TimePoint) → NeverFalls (times (xs ++ ys)) → NeverFalls (times xs)
+pub front_rises : (xs ys : List TimePoint) → NeverFalls (times (xs ++ ys)) → NeverFalls (times xs)
 front_rises xs ys rising =
     front_never_falls (times xs) (times ys) (subst NeverFalls (map-append (λ p. p.ts) xs ys) rising)
 

@@ -7,6 +7,8 @@ pub mod Hands
 pub mod Opening
 pub mod Changes
 pub mod Writing
+pub mod Courses
+pub mod Alone
 pub mod Steps
 pub mod Chunks
 pub mod Laws

@@ -26,9 +26,9 @@ use rescale_core::Driver;
 use std::alloc::Global;
 use std::sync::Wait;
 
-// Reads once, and feeds what was given; no byte is the end. It waits for the log only where the output
-// holds nothing back.
-fn read_chunk<I: Inputs, O: Sink>(
+/// Reads once, and feeds what was given; no byte is the end. It waits for the log only where the output
+/// holds nothing back.
+pub(crate) fn read_chunk<I: Inputs, O: Sink>(
     alloc: Global,
     inputs: &mut I,
     buffer: &mut [u8],

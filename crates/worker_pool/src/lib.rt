@@ -1,6 +1,7 @@
 //! Monitors a log with a pool of threads: the layer above opens the log and says what the end means.
 #![tactic(auto)]
 
+mod alone;
 mod bell;
 mod bells;
 mod dealing;
@@ -11,6 +12,7 @@ mod hands;
 pub mod laws;
 mod line_front;
 mod line_writer;
+mod lone_worker;
 mod loop_context;
 mod main_loop;
 mod main_task;

@@ -1,0 +1,27 @@
+-- What was done with the time-points of a log, as far as it was read.
+use Rattle.std.specs.Prelude.{◌≡◌, ℕ, List, Option, length, take}
+use Rattle.mon_outside.specs.Sink.{Appends}
+use Rattle.mfotl_model.specs.declared.event.TimePoint.{TimePoint}
+use Rattle.monitorable.specs.CoreForms.{CoreForm}
+use Rattle.log_reader.specs.Progress.{Progress, read}
+use Rattle.log_reader.specs.Readers.{Reader, Reads, progress}
+use Rattle.log_reader.specs.Readings.{NoFault}
+use Rattle.worker_pool.specs.Texts.{lines, tally_of}
+use Rattle.worker_pool.specs.Writing.{all_verdicts}
+use Rattle.worker_pool.specs.declared.tally.Tally.{Tally}
+
+-- it was done with the time-points that were given
+pub record HasDone (Done : List TimePoint → Type 0) (r : Progress) : Type 0 where
+  pub counted : length (take r.given (read r).points) ≡ r.given
+  pub done : Done (take r.given (read r).points)
+
+-- it was done with all time-points that the bytes show, all their lines were written and counted, and the bytes show no
+-- fault
+pub record HasDoneAll (core : CoreForm) (Done : List TimePoint → Type 0) (reader : Reader) (bytes : List ℕ)
+    (old new : Option (List ℕ)) (tally : Tally) : Type 0 where
+  pub reads : Reads reader bytes
+  pub so_far : HasDone Done (progress reader bytes)
+  pub all : reader.given ≡ length (read (progress reader bytes)).points
+  pub clear : (read (progress reader bytes)).ending ≡ NoFault
+  pub written : Appends old new (lines (all_verdicts core (read (progress reader bytes)).points))
+  pub counts : tally ≡ tally_of (all_verdicts core (read (progress reader bytes)).points)
