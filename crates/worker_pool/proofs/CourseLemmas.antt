@@ -56,7 +56,7 @@ pub record Settled (core : CoreForm) (Done : List TimePoint → Type 0) (sig : L
 -- nothing was read
 pub course_begins : {Done : List TimePoint → Type 0} {sig : List PredOf} {reader : Reader} (first : Option (List ℕ))
     → progress reader [] ≡ nothing_fed sig standard → Reads reader [] → Done [] → Course Done sig first first reader
-course_begins {Done} first fresh reads begun = record {
+course_begins {Done} {reader = reader} first fresh reads begun = record {
   bytes = [];
   reads = reads;
   sig_is = ap (λ (p : Progress). p.sig) fresh;
@@ -164,10 +164,10 @@ module _ {core : CoreForm} {Done : List TimePoint → Type 0} {sig : List PredOf
 -- ---- how it ends
 
 module _ {core : CoreForm} {Done : List TimePoint → Type 0} {sig : List PredOf} (policy : Form)
-    (is : IsCoreOf core policy) (e : Effect) {reader : Reader} {tally : Tally} where
+    (is : IsCoreOf core policy) (e : Effect) {reader : Reader} where
   -- at the end of the log
-  pub finished : (s : Settled core Done sig e.before.rest e.after.rest reader e.old.written e.new.written tally)
-      → reader.is_ended ≡ true → FollowsLog sig policy e (run_end (Ok tally))
+  pub finished : {tally : Tally}
+      → (s : Settled core Done sig e.before.rest e.after.rest reader e.old.written e.new.written tally) → reader.is_ended ≡ true → FollowsLog sig policy e (run_end (Ok tally))
   finished s told =
       let all = settled_text policy is s in
       record {
@@ -199,7 +199,7 @@ module _ {core : CoreForm} {Done : List TimePoint → Type 0} {sig : List PredOf
       }
 
   -- the output failed behind the lines
-  pub output_failed : {mid : Option (List ℕ)} → e.new.written ≡ mid
+  pub output_failed : {mid : Option (List ℕ)} {tally : Tally} → e.new.written ≡ mid
       → (s : Settled core Done sig e.before.rest e.after.rest reader e.old.written mid tally)
       → Rose e.old.faults e.new.faults → FollowsLog sig policy e (run_end (Err Sink))
   output_failed same s rose = record {
@@ -212,7 +212,7 @@ module _ {core : CoreForm} {Done : List TimePoint → Type 0} {sig : List PredOf
   }
 
   -- no more could be read, or fed
-  module _ {mid rest : Option (List ℕ)} (same : e.new.written ≡ mid)
+  module _ {mid rest : Option (List ℕ)} {tally : Tally} (same : e.new.written ≡ mid)
       (s : Settled core Done sig e.before.rest rest reader e.old.written mid tally)
       (untold : reader.is_ended ≡ false) where
     chunk_ends : (chunk : List ℕ) (before : ℕ) (why : Stop) → e.before.faults ≤ before

@@ -1,5 +1,5 @@
 -- The time-points that a reader gives, and what is done with them.
-use Rattle.std.proofs.Common.{◌≡◌, ◌∙◌, ap, subst, sym, refl, ℕ, ◌+◌, ◌<◌, ◌^◌, arith, List, [], ◌∷◌, ◌++◌, length, take}
+use Rattle.std.proofs.Common.{◌≡◌, ◌∙◌, ap, subst, sym, refl, ℕ, ◌+◌, ◌<◌, ◌≤◌, ◌^◌, arith, List, [], ◌∷◌, ◌++◌, length, take}
 use Rattle.std.proofs.Common.{drop, Option, add-one, length-append}
 use Rattle.std.specs.Prelude.{Result, Ok, Err}
 use Rattle.std.proofs.lemmas.List.{take-append-drop}
@@ -28,6 +28,16 @@ use Rattle.worker_pool.specs.declared.tally.Tally.{Tally}
 use Rattle.worker_pool.proofs.PointLemmas.{GivesEnding, GivesPoint, falls_front, front_rises, gives_end, gives_fault}
 use Rattle.worker_pool.proofs.PointLemmas.{gives_more, gives_point, points_rise, split_one, take_none_left, take_one}
 use Rattle.worker_pool.proofs.VerdictLemmas.{policy_verdicts}
+
+-- the reader gave fewer time-points than its limit before it gave one more
+pub few_before : (first old new : Reader) → old ≡ record first { given = old.given; kept = old.kept }
+    → new ≡ record old { given = old.given + 1; kept = new.kept } → new.given ≤ new.limits.points
+    → first.limits.points < 2 ^ 63 → old.given < 2 ^ 63
+few_before first old new before after few small =
+    let given : new.given ≡ old.given + 1 = ap (λ (r : Reader). r.given) after in
+    let limits : new.limits.points ≡ first.limits.points =
+    ap (λ (r : Reader). r.limits.points) after ∙ ap (λ (r : Reader). r.limits.points) before in
+    omega (arith, given, limits, few, small)
 
 -- so many time-points of those that a progress shows were given, and this was done with them
 pub record IsAmid (Done : List TimePoint → Type 0) (start : Progress) (reader : Reader) : Type 0 where

@@ -105,7 +105,7 @@ first_text core policy is r xs ys split rising =
     (more.0, ap (λ ps. lines (verdicts (open_log ps) policy)) split ∙ more.1)
 
 -- the first n of these time-points, and the one behind them
-split_one : (n : ℕ) (ps : List TimePoint) (p : TimePoint) (rest : List TimePoint) → drop n ps ≡ p ∷ rest
+pub split_one : (n : ℕ) (ps : List TimePoint) (p : TimePoint) (rest : List TimePoint) → drop n ps ≡ p ∷ rest
     → ps ≡ (take n ps ++ p ∷ []) ++ rest
 split_one n ps p rest e =
     sym (take-append-drop n ps) ∙ ap (λ xs. take n ps ++ xs) e ∙ sym (append_assoc (take n ps) (p ∷ []) rest)

@@ -17,7 +17,7 @@ ghost use Rattle.worker_pool.specs.Endings.{FollowsLog};
 ghost use Rattle.worker_pool.specs.Policies.{ForEachPolicy};
 ghost use Rattle.worker_pool.specs.Texts.{text_on};
 
-use crate::following::read_chunk;
+use crate::following::{chunk_room, read_chunk};
 use crate::lone_worker::LoneWorker;
 use crate::plan::Plan;
 use crate::stop::Stop;
@@ -113,7 +113,6 @@ pub(crate) fn follow_alone<R: Wait, I: Inputs, O: Sink>(
     rt: &R,
     alloc: Global,
     plan: &Plan,
-    chunk: usize,
     log: &mut LogReader<'_>,
     inputs: &mut I,
     out: &mut O,
@@ -121,7 +120,6 @@ pub(crate) fn follow_alone<R: Wait, I: Inputs, O: Sink>(
     requires suits { IsFor (core_form plan.now.core) plan.now.first }
     requires one { workers_of plan.now.first ≡ 1 }
     requires unchanged { plan.now.changes.items ≡ [] }
-    requires room { 0 < chunk }
     requires opened { IsTrue (I.is_open inputs.old) }
     requires fresh { progress log.old [] ≡ nothing_fed log.old.sig standard }
     requires reads { Reads log.old [] }
@@ -133,7 +131,7 @@ pub(crate) fn follow_alone<R: Wait, I: Inputs, O: Sink>(
     ensures follows { ForEachPolicy (core_form plan.now.core) (λ policy. FollowsLog log.old.sig policy
         (effect I.Inputs O.Sink inputs.old inputs.new out.old out.new) (run_end result)) }
 {
-    let mut buffer = Vec::from_elem(alloc, 0, chunk)?;
+    let mut buffer = chunk_room(alloc)?;
     let mut worker = LoneWorker::new(alloc, &plan.core)?;
     follow_with(rt, alloc, &mut worker, &mut buffer, log, inputs, out)
 }

@@ -1,5 +1,5 @@
 //! The log in chunks: all lines of a chunk are written and handed on before the next chunk is read.
-ghost use Rattle.std.specs.Prelude.{◌≡◌, ◌<◌, ◌≤◌, IsTrue, OnOk, length, [], false};
+ghost use Rattle.std.specs.Prelude.{◌≡◌, ◌<◌, ◌≤◌, IfOk, IsTrue, OnOk, length, [], false};
 ghost use Rattle.log_reader.specs.Limits.{standard};
 ghost use Rattle.log_reader.specs.Progress.{nothing_fed};
 ghost use Rattle.log_reader.specs.Readers.{Reads, progress};
@@ -23,8 +23,19 @@ use crate::tally::Tally;
 use log_reader::LogReader;
 use mon_outside::{Failed, Gate, Inputs, Sink};
 use rescale_core::Driver;
-use std::alloc::Global;
+use std::alloc::{AllocError, Global};
 use std::sync::Wait;
+
+// The most bytes that one read gives.
+const CHUNK: usize = 65_536;
+
+/// Room for what a read gives.
+pub(crate) fn chunk_room(alloc: Global) -> Result<Vec<u8>, AllocError>
+    ensures { IfOk result (λ room. length room.items ≡ 65536) }
+{
+    let room = Vec::from_elem(alloc, 0, CHUNK)?;
+    Ok(room)
+}
 
 /// Reads once, and feeds what was given; no byte is the end. It waits for the log only where the output
 /// holds nothing back.

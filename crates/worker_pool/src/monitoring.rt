@@ -16,9 +16,11 @@ ghost use Rattle.worker_pool.specs.Hands.{AreDealt, AreGroupsOf, AreHandsOf};
 ghost use Rattle.worker_pool.specs.Policies.{ForEachPolicy};
 ghost use Rattle.worker_pool.specs.Writing.{HasReadNothing};
 
+use crate::alone::follow_alone;
 use crate::bells::Bells;
 use crate::dealing::deal;
 use crate::end::End;
+use crate::following::chunk_room;
 use crate::hands::{WorkerHand, WorkerHub};
 use crate::loop_context::LoopContext;
 use crate::main_loop::follow_beside;
@@ -30,12 +32,10 @@ use crate::tally::Tally;
 use log_reader::LogReader;
 use mon_outside::{Gate, Inputs, Sink};
 use rescale_core::Driver;
+use slice_strategy::Slicer;
 use std::alloc::{AllocError, Global};
 use std::sync::Wait;
 use std::thread::Threads;
-
-// The most bytes that one read gives.
-const CHUNK: usize = 65_536;
 
 // What main and the threads work with, before anything was read.
 #[derive(Drop)]
@@ -75,7 +75,7 @@ fn prepare(alloc: Global, plan: Plan, cells: u32, threads: u32) -> Result<Prepar
     let (hub, driver, hands) = open(alloc, core, first, cells)?;
     let (groups, own) = deal(alloc, hands, threads)?;
     let bells = Bells::new(alloc, groups.len())?;
-    let buffer = Vec::from_elem(alloc, 0, CHUNK)?;
+    let buffer = chunk_room(alloc)?;
     Ok(Prepared {
         hub,
         driver,
@@ -111,6 +111,9 @@ fn run_plan<R: Threads + Wait + Sync, I: Inputs, O: Sink, G: Gate + Sync>(
     ensures follows { ForEachPolicy (core_form plan.core) (λ policy. FollowsLog log.old.sig policy
         (effect I.Inputs O.Sink inputs.old inputs.new out.old out.new) (run_end result)) }
 {
+    if threads == 0 && plan.first.workers() == 1 && plan.changes.is_empty() {
+        return follow_alone(rt, alloc, &plan, log, inputs, out);
+    }
     let cells = most_workers(&plan.first, plan.changes.as_slice());
     let Ok(prepared) = prepare(alloc, plan, cells, threads) else {
         return Err(Stop::Memory);
