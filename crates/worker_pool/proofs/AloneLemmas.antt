@@ -1,5 +1,5 @@
 -- What one worker alone writes are the lines of the verdicts.
-use Rattle.std.proofs.Common.{◌≡◌, ◌∙◌, ap, ap₂, subst, sym, refl, arith, ℕ, zero, suc, ◌+◌, ◌-◌, ◌<◌, ◌≤◌, ◌^◌}
+use Rattle.std.proofs.Common.{◌≡◌, ◌∙◌, ap, ap₂, subst, sym, refl, arith, ℕ, zero, suc, ◌+◌, ◌-◌, ◌<◌, ◌≤◌}
 use Rattle.std.proofs.Common.{List, [], ◌∷◌, ◌++◌, Option, length, map, drop, get_or, slice_index}
 use Rattle.std.proofs.Common.{append-nil, length-append}
 use Rattle.std.proofs.KnownBytes.{Appends-nil, Appends-trans}
@@ -166,7 +166,6 @@ module _ {core : CoreForm} {start now : Option (List ℕ)} {old : Monitor} (new 
     {points : List TimePoint} {point : TimePoint} {tables : List TableOf} (follows : MayFollow points point)
     (w : WritesAlone core start old now tally points)
     (steps : Steps (monitor_of old).core (monitor_of old).state point (monitor_of new).state tables) where
-
   stepped : Stands (whole_view (points ++ point ∷ []) core) core (monitor_of new).state
       × News (whole_view points core) point core tables
   stepped =

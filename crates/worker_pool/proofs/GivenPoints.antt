@@ -21,8 +21,8 @@ use Rattle.worker_pool.specs.Alone.{Settles}
 use Rattle.worker_pool.specs.Chunks.{StopsLines, stop_for}
 use Rattle.worker_pool.specs.Courses.{HasDone, HasDoneAll}
 use Rattle.worker_pool.specs.Policies.{ForEachPolicy}
-use Rattle.worker_pool.specs.Texts.{lines, tally_of, text_on}
-use Rattle.worker_pool.specs.Writing.{Falls, all_verdicts}
+use Rattle.worker_pool.specs.Texts.{lines, text_on}
+use Rattle.worker_pool.specs.Writing.{Falls}
 use Rattle.worker_pool.specs.declared.stop.Stop.{Stop}
 use Rattle.worker_pool.specs.declared.tally.Tally.{Tally}
 use Rattle.worker_pool.proofs.PointLemmas.{GivesEnding, GivesPoint, falls_front, front_rises, gives_end, gives_fault}

@@ -89,7 +89,12 @@ impl LoneWorker {
     }
 
     /// Takes a time-point, and writes the lines of all positions that are settled now and weren't before.
-    pub(crate) fn take<O: Sink>(&mut self, alloc: Global, point: &TimePoint, out: &mut O) -> Result<(), Stop>
+    pub(crate) fn take<O: Sink>(
+        &mut self,
+        alloc: Global,
+        point: &TimePoint,
+        out: &mut O,
+    ) -> Result<(), Stop>
         requires may { MayTakeAlone self.old.monitor (O.written out.old) self.old.writer.tally point.now }
         ensures ok { OnOk result (ForEachNext self.old.monitor (O.written out.old) self.old.writer.tally point.now
             (λ core start points. WritesAlone core start self.new.monitor (O.written out.new) self.new.writer.tally

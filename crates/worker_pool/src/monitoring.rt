@@ -111,6 +111,7 @@ fn run_plan<R: Threads + Wait + Sync, I: Inputs, O: Sink, G: Gate + Sync>(
     ensures follows { ForEachPolicy (core_form plan.core) (λ policy. FollowsLog log.old.sig policy
         (effect I.Inputs O.Sink inputs.old inputs.new out.old out.new) (run_end result)) }
 {
+    // No other worker's rows are to be merged, and nobody is to be waited for.
     if threads == 0 && plan.first.workers() == 1 && plan.changes.is_empty() {
         return follow_alone(rt, alloc, &plan, log, inputs, out);
     }
