@@ -1,5 +1,5 @@
 -- Worked examples: the text of a log, in full.
-use Rattle.std.specs.Prelude.{◌≡◌, ℕ, ◌-◌, ◌^◌, false, List, [], ◌∷◌, codes, negsuc}
+use Rattle.std.specs.Prelude.{◌≡◌, ℕ, ◌-◌, ◌^◌, List, [], ◌∷◌, codes, negsuc}
 use Rattle.std.proofs.Common.{lit≤}
 use Rattle.mfotl_model.specs.Formulas.{Form}
 use Rattle.mfotl_model.specs.Formulas.Form.{False, And, Compare, Implies, Not, Once, Eventually, Previous, Next}
@@ -13,7 +13,7 @@ use Rattle.mfotl_model.specs.declared.value.Value.TheVariants.{Int, Text}
 
 -- the text of a log of these time-points, to which further ones may come
 abbrev pub text_of : List TimePoint → Form → List ℕ
-text_of points policy = text (record { points = points; closed = false }) policy
+text_of points policy = text (record { points = points }) policy
 
 -- what is published (0) was approved (1) at most seven days before; the seventh counts
 abbrev pub WithinSevenDays : Type 0

@@ -1,5 +1,5 @@
 //! The text that a monitor of a formula writes on a log.
-ghost use Rattle.std.specs.Prelude.{◌≡◌, ◌++◌, ◌<◌, length, OnOk, IfOk, false};
+ghost use Rattle.std.specs.Prelude.{◌≡◌, ◌++◌, ◌<◌, length, OnOk, IfOk};
 ghost use Rattle.mfotl_model.specs.Formulas.{form};
 ghost use Rattle.mfotl_model.specs.Log.{times};
 ghost use Rattle.mfotl_model.specs.VerdictText.{line_of, text, verdict_at};
@@ -12,8 +12,7 @@ use std::alloc::{AllocError, Global};
 
 /// The lines of the verdicts on a log, up to the first position that isn't settled.
 pub fn log_text(alloc: Global, formula: &Formula, log: &[TimePoint]) -> Result<Vec<u8>, AllocError>
-    ensures { IfOk result (λ bytes. bytes.items
-        ≡ text (record { points = log.now; closed = false }) (form formula.now)) }
+    ensures { IfOk result (λ bytes. bytes.items ≡ text (record { points = log.now }) (form formula.now)) }
 {
     let times = timestamps(alloc, log)?;
     let mut out = Vec::new(alloc);

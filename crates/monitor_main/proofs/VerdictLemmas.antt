@@ -18,7 +18,7 @@ use Rattle.monitorable.proofs.CoreLaws.{accepted}
 use Rattle.monitorable.proofs.FinalityLaw.{time_same, within_log}
 use Rattle.monitorable.proofs.ViolationsFinal.{violations_final}
 use Rattle.monitorable.specs.Fragment.{Names, frag}
-use Rattle.monitorable.specs.Laws.{open_log}
+use Rattle.monitorable.specs.Laws.{log_of}
 use Rattle.monitorable.specs.NormalForm.{negative}
 use Rattle.monitor_main.specs.TextLaw.{VerdictsGrow}
 use Rattle.monitor_main.specs.Verdicts.{news, reached}
@@ -32,7 +32,7 @@ mapped f g i (suc n) same =
 
 -- the verdicts are those on the positions that are counted
 pub counted : (log : List TimePoint) (policy : Form)
-    → verdicts (open_log log) policy ≡ map (verdict_at log policy) (range_with_len 0 (reached log policy))
+    → verdicts (log_of log) policy ≡ map (verdict_at log policy) (range_with_len 0 (reached log policy))
 unfolding settled_count
 counted log policy =
     ap (map (verdict_at log policy))
@@ -60,8 +60,8 @@ module _ (log : List TimePoint) (point : TimePoint) (policy : Form)
         (sym (time_same log (point ∷ []) j (within_log log policy j set)))
         (sym (violations_final log (point ∷ []) names policy j rising fits set))
 
-    pub grows : verdicts (open_log (log ++ point ∷ [])) policy
-        ≡ verdicts (open_log log) policy ++ news policy log point
+    pub grows : verdicts (log_of (log ++ point ∷ [])) policy
+        ≡ verdicts (log_of log) policy ++ news policy log point
     unfolding news
     grows =
         let n : ℕ = reached log policy in

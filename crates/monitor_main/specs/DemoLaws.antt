@@ -15,7 +15,7 @@ use Rattle.mfotl_model.specs.declared.term.Term.TheVariants as terms
 use Rattle.mfotl_parse.specs.Intervals.{distances}
 use Rattle.mfotl_parse.specs.Reading.{PolicyOf}
 use Rattle.monitorable.specs.Fragment.{frag_fault, free_names}
-use Rattle.monitorable.specs.Laws.{open_log}
+use Rattle.monitorable.specs.Laws.{log_of}
 use Rattle.worker_pool.specs.Texts.{tally_of}
 use Rattle.monitor_main.specs.declared.status.Status.TheVariants.{Clean}
 use Rattle.monitor_main.specs.Answer.{command_answer, demo_answer, demo_line}
@@ -99,7 +99,7 @@ DemoIsAnswered =
     ≡ record {
       status = Clean;
       out =
-          let tally = tally_of (verdicts (open_log (demo_points seed)) demo_policy.formula) in
+          let tally = tally_of (verdicts (log_of (demo_points seed)) demo_policy.formula) in
           demo_line seed tally.settled tally.violated tally.rows;
       err = [];
     }
@@ -115,4 +115,4 @@ abbrev pub DemoIsRun : Type 0
 DemoIsRun =
     (seed : ℕ) (sources : Sources) (options : RunOptions) (files : Files) → HoldsDemo seed sources options files
     → IsDividedBy demo_checked options files
-    → (command_answer (Run sources options) files).out ≡ text (open_log (demo_points seed)) demo_policy.formula
+    → (command_answer (Run sources options) files).out ≡ text (log_of (demo_points seed)) demo_policy.formula

@@ -6,7 +6,7 @@ use Rattle.mfotl_model.specs.Times.{NeverFalls}
 use Rattle.mfotl_model.specs.VerdictText.{verdicts}
 use Rattle.mfotl_model.specs.declared.event.TimePoint.{TimePoint}
 use Rattle.monitorable.specs.Fragment.{Names, frag_fault}
-use Rattle.monitorable.specs.Laws.{open_log}
+use Rattle.monitorable.specs.Laws.{log_of}
 use Rattle.monitor_main.specs.Verdicts.{news}
 
 -- with one time-point more, the verdicts stay, and those on the positions that it settles come behind them,
@@ -15,4 +15,4 @@ abbrev pub VerdictsGrow : Type 0
 VerdictsGrow =
     (log : List TimePoint) (point : TimePoint) (names : Names) (policy : Form)
     → NeverFalls (times (log ++ point ∷ [])) → frag_fault names policy ≡ None
-    → verdicts (open_log (log ++ point ∷ [])) policy ≡ verdicts (open_log log) policy ++ news policy log point
+    → verdicts (log_of (log ++ point ∷ [])) policy ≡ verdicts (log_of log) policy ++ news policy log point

@@ -14,7 +14,7 @@ use Rattle.monitorable.proofs.FinalityLaw.{time_same, within_log}
 use Rattle.monitorable.proofs.SettledStays.{settled_stays}
 use Rattle.monitorable.proofs.ViolationsFinal.{violations_final}
 use Rattle.monitorable.specs.Fragment.{frag}
-use Rattle.monitorable.specs.Laws.{TextFinal, open_log}
+use Rattle.monitorable.specs.Laws.{TextFinal, log_of}
 use Rattle.monitorable.specs.NormalForm.{negative}
 use Rattle.mfotl_model.specs.Times.{NeverFalls}
 
@@ -62,7 +62,7 @@ text_final log more names f rising h =
     0 (length log) (length (log ++ more)) (omega (arith, length-append log more)) in (
       flat_map line_of r.0,
       ap (flat_map line_of) r.1
-          ∙ flat_map-append line_of (verdicts (open_log log) f) r.0,
+          ∙ flat_map-append line_of (verdicts (log_of log) f) r.0,
     )
   where
     rises : (t u : List ℕ) → t ≡ u → NeverFalls t → NeverFalls u

@@ -117,18 +117,17 @@ ViolationsFinal =
     → NeverFalls (times (log ++ more)) → frag names (negative f) ≡ None → settled (times log) f i ≡ true
     → viol log f i ≡ viol (log ++ more) f i
 
--- a log of these time-points, all of them the input's: the last one is no closing one
-abbrev pub open_log : List TimePoint → Log
-open_log points = record { points = points; closed = false }
+-- the log of these time-points
+abbrev pub log_of : List TimePoint → Log
+log_of points = record { points = points }
 
--- the text of a log without a closing time-point is a prefix of the text of every longer one, where the policy
--- can be monitored
+-- the text of a log is a prefix of the text of every longer one, where the policy can be monitored
 abbrev pub TextFinal : Type 0
 TextFinal =
     (log more : List TimePoint) (names : Names) (f : Form)
     → NeverFalls (times (log ++ more)) → frag_fault names f ≡ None
     → (rest : List ℕ)
-    × (text (open_log (log ++ more)) f ≡ text (open_log log) f ++ rest)
+    × (text (log_of (log ++ more)) f ≡ text (log_of log) f ++ rest)
 
 -- with its quantifiers apart, a core that the fragment accepts is accepted, whatever its names
 abbrev pub ApartFragment : Type 0

@@ -1,5 +1,5 @@
-//! Whether a normal form can be monitored. Each operator's code is a call that isn't inlined, so that a level of a chain
-//! takes little of the stack.
+//! Whether a normal form can be monitored. Each operator's code is a call that isn't inlined, so that a level of a
+//! chain takes little of the stack.
 ghost use Rattle.std.specs.Prelude.{◌≡◌};
 ghost use Rattle.monitorable.specs.CoreForms.{node_form};
 ghost use Rattle.monitorable.specs.Fragment.{asked, covers, evens, fault_in, first, guards, is_conjunction};

@@ -20,7 +20,7 @@ use Rattle.log_reader.specs.Readers.{ForEach, Reader, Reads, progress}
 use Rattle.log_reader.specs.Readings.{NoFault, Reading, reading, shown}
 use Rattle.log_reader.specs.declared.limits.Limits.{Limits}
 use Rattle.monitorable.specs.CoreForms.{CoreForm}
-use Rattle.monitorable.specs.Laws.{open_log}
+use Rattle.monitorable.specs.Laws.{log_of}
 use Rattle.rescale_core.specs.declared.driver.Driver.{Driver}
 use Rattle.slice_strategy.specs.declared.change.Change.{Change}
 use Rattle.worker_pool.specs.Changes.{entries_by, left_by}
@@ -236,7 +236,7 @@ module _ {core : CoreForm} {sig : List PredOf} {plan : List Change} {first rest 
         let k = front_stays sig standard bytes chunk false in
         let text = first_text core policy is (shown sig standard (bytes ++ chunk)) (shown sig standard bytes).points
         k.more k.points (read_never_falls sig standard (bytes ++ chunk) false) in
-        let all : Appends old mid (lines (verdicts (open_log (shown sig standard bytes).points) policy)) =
+        let all : Appends old mid (lines (verdicts (log_of (shown sig standard bytes).points) policy)) =
         subst (λ vs. Appends old mid (lines vs)) (policy_verdicts core policy is (shown sig standard bytes).points)
         (subst (λ b. Appends old mid (lines (all_verdicts core (reading sig standard bytes b).points))) untold
         s.written) in

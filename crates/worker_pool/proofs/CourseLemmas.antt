@@ -16,7 +16,7 @@ use Rattle.log_reader.specs.Progress.{Progress, read, nothing_fed}
 use Rattle.log_reader.specs.Readers.{Reader, Reads, progress}
 use Rattle.log_reader.specs.Readings.{NoFault, Reading, reading, shown}
 use Rattle.monitorable.specs.CoreForms.{CoreForm}
-use Rattle.monitorable.specs.Laws.{open_log}
+use Rattle.monitorable.specs.Laws.{log_of}
 use Rattle.worker_pool.specs.Chunks.{Feeds, IsChunkStop, ReadsChunk, StopsLines, run_end}
 use Rattle.worker_pool.specs.Courses.{HasDone, HasDoneAll}
 use Rattle.worker_pool.specs.Effects.{Effect}
@@ -155,7 +155,7 @@ module _ {core : CoreForm} {Done : List TimePoint → Type 0} {sig : List PredOf
         let k = front_stays sig standard bytes chunk false in
         let text = first_text core policy is (shown sig standard (bytes ++ chunk)) (shown sig standard bytes).points
         k.more k.points (read_never_falls sig standard (bytes ++ chunk) false) in
-        let all : Appends old mid (lines (verdicts (open_log (shown sig standard bytes).points) policy)) =
+        let all : Appends old mid (lines (verdicts (log_of (shown sig standard bytes).points) policy)) =
         subst (λ vs. Appends old mid (lines vs)) (policy_verdicts core policy is (shown sig standard bytes).points)
         (subst (λ b. Appends old mid (lines (all_verdicts core (reading sig standard bytes b).points))) untold
         s.written) in

@@ -22,7 +22,7 @@ use Rattle.log_reader.specs.declared.next.Next.{Next}
 use Rattle.log_reader.specs.declared.next.Next.TheVariants.{Point, More, End}
 use Rattle.monitorable.proofs.TextFinal.{text_final}
 use Rattle.monitorable.specs.CoreForms.{CoreForm}
-use Rattle.monitorable.specs.Laws.{open_log}
+use Rattle.monitorable.specs.Laws.{log_of}
 use Rattle.rescale_core.specs.Workers.{MayFollow}
 use Rattle.rescale_core.specs.declared.driver.Driver.{Driver}
 use Rattle.rescale_core.specs.declared.item.Entry.TheVariants.{Point as ToPoint}
@@ -98,11 +98,11 @@ points_rise start = read_never_falls start.sig start.limits start.bytes start.is
 -- the text on what was read begins with that on its first time-points
 pub first_text : (core : CoreForm) (policy : Form) → IsCoreOf core policy → (r : Reading) (xs ys : List TimePoint)
     → r.points ≡ xs ++ ys → NeverFalls (times r.points)
-    → (rest : List ℕ) × (text_on policy r ≡ lines (verdicts (open_log xs) policy) ++ rest)
+    → (rest : List ℕ) × (text_on policy r ≡ lines (verdicts (log_of xs) policy) ++ rest)
 unfolding text_on
 first_text core policy is r xs ys split rising =
     let more = text_final xs ys is.names policy (subst (λ ps. NeverFalls (times ps)) split rising) is.accepted in
-    (more.0, ap (λ ps. lines (verdicts (open_log ps) policy)) split ∙ more.1)
+    (more.0, ap (λ ps. lines (verdicts (log_of ps) policy)) split ∙ more.1)
 
 -- the first n of these time-points, and the one behind them
 pub split_one : (n : ℕ) (ps : List TimePoint) (p : TimePoint) (rest : List TimePoint) → drop n ps ≡ p ∷ rest

@@ -14,7 +14,7 @@ use Rattle.mfotl_model.specs.VerdictText.{VerdictOf, line_of, verdict_at, verdic
 use Rattle.mfotl_model.specs.declared.event.TimePoint.{TimePoint}
 use Rattle.mfotl_model.proofs.CountLemmas.{passing_taken}
 use Rattle.monitorable.specs.CoreForms.{CoreForm, meaning}
-use Rattle.monitorable.specs.Laws.{open_log}
+use Rattle.monitorable.specs.Laws.{log_of}
 use Rattle.rescale_core.proofs.LogLemmas.{policy_violations}
 use Rattle.rescale_core.specs.Workers.{settled_in}
 use Rattle.rescale_core.specs.Worlds.{verdict_on}
@@ -34,7 +34,7 @@ passing_same p q same i (suc n) = ap₂ (λ b k. cond b (k + 1) 0) (same i) (pas
 
 -- the verdicts are those on the positions that are counted
 counted : (log : List TimePoint) (policy : Form)
-    → verdicts (open_log log) policy
+    → verdicts (log_of log) policy
     ≡ map (verdict_at log policy) (range_with_len 0 (settled_count (times log) policy))
 unfolding settled_count
 counted log policy =
@@ -55,7 +55,7 @@ module _ (core : CoreForm) (policy : Form) (is : IsCoreOf core policy) (points :
       ap (λ rows. record { point = i; ts = time_at (times points) i; rows = rows })
       (policy_violations core policy points i is.violations)
 
-  pub policy_verdicts : all_verdicts core points ≡ verdicts (open_log points) policy
+  pub policy_verdicts : all_verdicts core points ≡ verdicts (log_of points) policy
   policy_verdicts =
       map_same (λ i. seen (verdict_on core points i)) (verdict_at points policy) one_same
       (range_with_len 0 (settled_in core points))

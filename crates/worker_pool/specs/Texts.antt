@@ -34,7 +34,7 @@ tally_of verdicts = record {
 
 -- the time-points that were read, behind which more could come
 abbrev pub log_in : Reading → Log
-log_in r = record { points = r.points; closed = false }
+log_in r = record { points = r.points }
 
 -- the text of the verdicts on what was read
 unfoldable pub text_on : Form → Reading → List ℕ

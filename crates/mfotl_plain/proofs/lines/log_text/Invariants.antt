@@ -1,4 +1,4 @@
-use Rattle.std.proofs.Common.{◌≡◌, ◌++◌, ◌-◌, false, length, map}
+use Rattle.std.proofs.Common.{◌≡◌, ◌++◌, ◌-◌, length, map}
 use Rattle.std.specs.List.{flat_map, range_with_len, take_while}
 use Rattle.mfotl_model.specs.Formulas.{form}
 use Rattle.mfotl_model.specs.Log.{times}
@@ -11,4 +11,4 @@ invariant-loop-at l =
     l.out.items
     ++ flat_map line_of (map (verdict_at l.log (form l.formula))
     (take_while (settled (times l.log) (form l.formula)) (range_with_len l.at (length l.log - l.at))))
-    ≡ text (record { points = l.log; closed = false }) (form l.formula)
+    ≡ text (record { points = l.log }) (form l.formula)
