@@ -99,7 +99,8 @@ awaited_open c q pieces t count (suc n) j e =
     ∷ map (chance c q pieces) (map (λ i. Hole t i) (range_with_len (j + 1) n))) (sym e)
 
 awaited_stand : (t : ChangeOfStrategy) (n j : ℕ)
-    → map standing_of (map (λ i. Awaited t.generation t.new (nat_eq (i + 1) (workers_of t.old)) None) (range_with_len j n))
+    → map standing_of
+    (map (λ i. Awaited t.generation t.new (nat_eq (i + 1) (workers_of t.old)) None) (range_with_len j n))
     ≡ map standing (map (λ i. Hole t i) (range_with_len j n))
 awaited_stand t zero j = refl
 awaited_stand t (suc n) j =

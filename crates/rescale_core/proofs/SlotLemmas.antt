@@ -200,7 +200,8 @@ unfilled p xs e = sym (fills_none p xs (found_none (position_or_len (lacks p.gen
 -- one piece more
 pub awaited_more : (g : ℕ) (now : Strategy) (count n : ℕ)
     → first_awaited g now count (n + 1) ≡ first_awaited g now count n ++ Awaited g now (nat_eq (n + 1) count) None ∷ []
-awaited_more g now count n = map-range_with_len_more (λ j. Awaited g now (nat_eq (j + 1) count) None) 0 n n (omega arith)
+awaited_more g now count n =
+    map-range_with_len_more (λ j. Awaited g now (nat_eq (j + 1) count) None) 0 n n (omega arith)
 
 pub awaited_pushed : (old new : List Slot) (start : List Slot) (g : ℕ) (now copy : Strategy) (count n : ℕ)
     → old ≡ start ++ first_awaited g now count n → copy ≡ now
