@@ -23,8 +23,8 @@ pub returns-in_err-write_tables-clause-err : goal.returns-in_err-write_tables-cl
 returns-in_err-write_tables-clause-err g c =
     on_err c.from_residual-in_err-write_tables.result _ (λ core start points follows w.
     c.in_err-write_tables.ensures.err core (points ++ c.args.point.now ∷ []) start
-    (subst (λ n. Owes core (points ++ c.args.point.now ∷ []) start (monitor_of c.step.new.self).state (g.O.Sink.written c.args.out.now)
-    c.args.self.now.writer.tally n c.in_ok-tables.tables) (sym c.given-first.ensures)
+    (subst (λ n. Owes core (points ++ c.args.point.now ∷ []) start (monitor_of c.step.new.self).state
+    (g.O.Sink.written c.args.out.now) c.args.self.now.writer.tally n c.in_ok-tables.tables) (sym c.given-first.ensures)
     (owes_new c.step.new.self follows w c.in_ok-tables.ensures.steps)))
 
 pub returns-clause-ok : goal.returns-clause-ok
@@ -32,6 +32,6 @@ returns-clause-ok g c core start points follows w =
     let steps = c.in_ok-tables.ensures.steps in
     took_one c.step.new.self follows w steps c.write_tables.ensures.same c.in_ok-tables.ensures.core
     (c.in_ok-write_tables.ensures.ok core (points ++ c.args.point.now ∷ []) start
-    (subst (λ n. Owes core (points ++ c.args.point.now ∷ []) start (monitor_of c.step.new.self).state (g.O.Sink.written c.args.out.now)
-    c.args.self.now.writer.tally n c.in_ok-tables.tables) (sym c.given-first.ensures)
+    (subst (λ n. Owes core (points ++ c.args.point.now ∷ []) start (monitor_of c.step.new.self).state
+    (g.O.Sink.written c.args.out.now) c.args.self.now.writer.tally n c.in_ok-tables.tables) (sym c.given-first.ensures)
     (owes_new c.step.new.self follows w steps)))
