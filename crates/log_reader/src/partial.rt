@@ -108,6 +108,16 @@ impl<'a> Partial<'a> {
         }
     }
 
+    /// Takes room for events, where none stand yet.
+    pub fn take_room(&mut self, room: Vec<Event>)
+        requires { room.items ≡ [] }
+        ensures { self.new ≡ self.old }
+    {
+        if self.events.is_empty() {
+            self.events = room;
+        }
+    }
+
     /// Takes the present time-point out.
     pub fn finish(&mut self, alloc: Global) -> TimePoint
         ensures point { result ≡ point_of self.old }

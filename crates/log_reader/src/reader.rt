@@ -13,6 +13,7 @@ use crate::fault::LogFault;
 use crate::limits::Limits;
 use crate::next::Next;
 use crate::stretch::Stretch;
+use mfotl_model::TimePoint;
 use mfotl_sig::Signature;
 use std::alloc::{AllocError, Global};
 use std::marker::Model;
@@ -135,6 +136,14 @@ impl<'a> LogReader<'a> {
         self.is_fed = true;
         // Nothing was read before.
         self.cursor = Cursor::new(alloc);
+    }
+
+    /// Takes back a time-point that nobody asks for any more: the events of the next one stand in its memory.
+    pub fn take_back(&mut self, point: TimePoint)
+        ensures { self.new ≡ self.old }
+    {
+        let TimePoint { ts: _, db } = point;
+        self.cursor.partial.take_room(db.into_room());
     }
 
     /// The next time-point, or the first fault, which is answered again at each later call.

@@ -34,7 +34,7 @@ use Rattle.rescale_core.specs.declared.item.Item.TheVariants.{Adopt, Part}
 use Rattle.monitor_state.specs.declared.state.Piece.{Piece}
 use Rattle.rescale_core.specs.declared.router.Router.{Router}
 use Rattle.rescale_core.specs.declared.slot.Slot.{Slot}
-use Rattle.rescale_core.specs.declared.slot.Slot.TheVariants.{Ready, Room}
+use Rattle.rescale_core.specs.declared.slot.Slot.TheVariants.{Ready, Awaited}
 
 -- ---- where reading stands
 
@@ -88,22 +88,23 @@ if_map f true xs = refl
 if_map f false xs = refl
 
 -- a place of which no piece came
-rooms_open : (c : CoreForm) (q : ℕ) (pieces : List Piece) (t : ChangeOfStrategy) (count n j : ℕ)
+awaited_open : (c : CoreForm) (q : ℕ) (pieces : List Piece) (t : ChangeOfStrategy) (count n j : ℕ)
     → for_place t.generation q pieces ≡ []
-    → chances (map (λ i. Room t.generation t.new (nat_eq (i + 1) count) None) (range_with_len j n))
+    → chances (map (λ i. Awaited t.generation t.new (nat_eq (i + 1) count) None) (range_with_len j n))
     ≡ map (chance c q pieces) (map (λ i. Hole t i) (range_with_len j n))
-rooms_open c q pieces t count zero j e = refl
-rooms_open c q pieces t count (suc n) j e =
-    ap (λ cs. Open t.generation t.new ∷ cs) (rooms_open c q pieces t count n (j + 1) e)
+awaited_open c q pieces t count zero j e = refl
+awaited_open c q pieces t count (suc n) j e =
+    ap (λ cs. Open t.generation t.new ∷ cs) (awaited_open c q pieces t count n (j + 1) e)
     ∙ ap (λ xs. chance_from (Hole t j) (option_map (λ p. Adopt p t.new) (nth xs j))
     ∷ map (chance c q pieces) (map (λ i. Hole t i) (range_with_len (j + 1) n))) (sym e)
 
-rooms_stand : (t : ChangeOfStrategy) (n j : ℕ)
-    → map standing_of (map (λ i. Room t.generation t.new (nat_eq (i + 1) (workers_of t.old)) None) (range_with_len j n))
+awaited_stand : (t : ChangeOfStrategy) (n j : ℕ)
+    → map standing_of
+    (map (λ i. Awaited t.generation t.new (nat_eq (i + 1) (workers_of t.old)) None) (range_with_len j n))
     ≡ map standing (map (λ i. Hole t i) (range_with_len j n))
-rooms_stand t zero j = refl
-rooms_stand t (suc n) j =
-    ap (λ ns. cond (nat_eq (j + 1) (workers_of t.old)) Last Within ∷ ns) (rooms_stand t n (j + 1))
+awaited_stand t zero j = refl
+awaited_stand t (suc n) j =
+    ap (λ ns. cond (nat_eq (j + 1) (workers_of t.old)) Last Within ∷ ns) (awaited_stand t n (j + 1))
 
 -- what a change adds to worker q's queue
 abbrev pub changes_for : ℕ → Spot → Strategy → List Slot
@@ -123,10 +124,10 @@ change_chances c q pieces a s e =
     ∙ sym (if_map (chance c q pieces) (nat_lt q (workers_of a.strategy)) (Parting t ∷ [])))
     ∙ ap (λ x. map (chance c q pieces) (if_below q (workers_of a.strategy) (Parting t ∷ [])) ++ x)
     (if_map chance_of (nat_lt q (workers_of s))
-    (map (λ i. Room (a.generation + 1) s (nat_eq (i + 1) (workers_of a.strategy)) None)
+    (map (λ i. Awaited (a.generation + 1) s (nat_eq (i + 1) (workers_of a.strategy)) None)
     (range_with_len 0 (workers_of a.strategy)))
     ∙ ap (λ x. cond (nat_lt q (workers_of s)) x [])
-    (rooms_open c q pieces t (workers_of a.strategy) (workers_of a.strategy) 0 e)
+    (awaited_open c q pieces t (workers_of a.strategy) (workers_of a.strategy) 0 e)
     ∙ sym (if_map (chance c q pieces) (nat_lt q (workers_of s)) (place t)))
     ∙ sym (map-append (chance c q pieces) (if_below q (workers_of a.strategy) (Parting t ∷ []))
     (if_below q (workers_of s) (place t)))
@@ -143,9 +144,9 @@ change_standings q a s =
     ∙ sym (if_map standing (nat_lt q (workers_of a.strategy)) (Parting t ∷ [])))
     ∙ ap (λ x. map standing (if_below q (workers_of a.strategy) (Parting t ∷ [])) ++ x)
     (if_map standing_of (nat_lt q (workers_of s))
-    (map (λ i. Room (a.generation + 1) s (nat_eq (i + 1) (workers_of a.strategy)) None)
+    (map (λ i. Awaited (a.generation + 1) s (nat_eq (i + 1) (workers_of a.strategy)) None)
     (range_with_len 0 (workers_of a.strategy)))
-    ∙ ap (λ x. cond (nat_lt q (workers_of s)) x []) (rooms_stand t (workers_of a.strategy) 0)
+    ∙ ap (λ x. cond (nat_lt q (workers_of s)) x []) (awaited_stand t (workers_of a.strategy) 0)
     ∙ sym (if_map standing (nat_lt q (workers_of s)) (place t)))
     ∙ sym (map-append standing (if_below q (workers_of a.strategy) (Parting t ∷ []))
     (if_below q (workers_of s) (place t)))

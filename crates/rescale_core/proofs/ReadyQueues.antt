@@ -28,7 +28,7 @@ use Rattle.rescale_core.specs.declared.item.Item.{Item}
 use Rattle.rescale_core.specs.declared.item.Item.TheVariants.{Adopt, Part, Slice}
 use Rattle.rescale_core.specs.declared.router.Router.{Router}
 use Rattle.rescale_core.specs.declared.slot.Slot.{Slot}
-use Rattle.rescale_core.specs.declared.slot.Slot.TheVariants.{Ready, Room}
+use Rattle.rescale_core.specs.declared.slot.Slot.TheVariants.{Ready, Awaited}
 
 -- ---- queues
 
@@ -44,9 +44,9 @@ ready_by (Sure i ∷ cs) (Last ∷ ss) = i ∷ []
 slots_ready : (xs : List Slot) → ready_of xs ≡ ready_by (chances xs) (map standing_of xs)
 slots_ready [] = refl
 slots_ready (Ready i ∷ xs) = ap (λ is. i ∷ is) (slots_ready xs)
-slots_ready (Room g now last None ∷ xs) = refl
-slots_ready (Room g now true (Some p) ∷ xs) = refl
-slots_ready (Room g now false (Some p) ∷ xs) = ap (λ is. Adopt p now ∷ is) (slots_ready xs)
+slots_ready (Awaited g now last None ∷ xs) = refl
+slots_ready (Awaited g now true (Some p) ∷ xs) = refl
+slots_ready (Awaited g now false (Some p) ∷ xs) = ap (λ is. Adopt p now ∷ is) (slots_ready xs)
 
 -- ---- lines
 

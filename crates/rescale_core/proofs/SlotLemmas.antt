@@ -14,21 +14,21 @@ use Rattle.rescale_core.specs.Chances.{Chance}
 use Rattle.rescale_core.specs.Chances.Chance.{Sure, Open}
 use Rattle.rescale_core.specs.Chances.Standing.{Last, Outside, Within}
 use Rattle.rescale_core.specs.Queues.{all_put, chances, queue_filled}
-use Rattle.rescale_core.specs.Slots.{chance_of, ends_place, first_ends, first_rooms, is_there, lacks, slot_filled}
+use Rattle.rescale_core.specs.Slots.{chance_of, ends_place, first_ends, first_awaited, is_there, lacks, slot_filled}
 use Rattle.rescale_core.specs.Slots.{ready_of}
 use Rattle.rescale_core.specs.Slots.{standing_of, weight_of}
 use Rattle.rescale_core.specs.declared.item.Item.{Item}
 use Rattle.rescale_core.specs.declared.item.Item.TheVariants.{Adopt}
 use Rattle.monitor_state.specs.declared.state.Piece.{Piece}
 use Rattle.rescale_core.specs.declared.slot.Slot.{Slot}
-use Rattle.rescale_core.specs.declared.slot.Slot.TheVariants.{Ready, Room}
+use Rattle.rescale_core.specs.declared.slot.Slot.TheVariants.{Ready, Awaited}
 
 -- ---- what counts
 
 pub one_weight : (x : Slot) → weight_of x ≤ 1
 one_weight (Ready i) = omega arith
-one_weight (Room g now true piece) = omega arith
-one_weight (Room g now false piece) = omega arith
+one_weight (Awaited g now true piece) = omega arith
+one_weight (Awaited g now false piece) = omega arith
 
 pub few_weigh : (xs : List Slot) → sum_by weight_of xs ≤ length xs
 few_weigh [] = omega arith
@@ -47,20 +47,20 @@ one_more n = omega arith
 one_ready : (x : Slot) (xs : List Slot) → is_there x ≡ true → ends_place x ≡ false
     → length (ready_of (x ∷ xs)) ≡ 1 + length (ready_of xs)
 one_ready (Ready i) xs t e = one_more (length (ready_of xs))
-one_ready (Room g now last None) xs t e = cc
-one_ready (Room g now true (Some p)) xs t e = cc
-one_ready (Room g now false (Some p)) xs t e = one_more (length (ready_of xs))
+one_ready (Awaited g now last None) xs t e = cc
+one_ready (Awaited g now true (Some p)) xs t e = cc
+one_ready (Awaited g now false (Some p)) xs t e = one_more (length (ready_of xs))
 
 last_ready : (x : Slot) (xs : List Slot) → is_there x ≡ true → ends_place x ≡ true → length (ready_of (x ∷ xs)) ≡ 1
 last_ready (Ready i) xs t e = cc
-last_ready (Room g now last None) xs t e = cc
-last_ready (Room g now true (Some p)) xs t e = refl
-last_ready (Room g now false (Some p)) xs t e = cc
+last_ready (Awaited g now last None) xs t e = cc
+last_ready (Awaited g now true (Some p)) xs t e = refl
+last_ready (Awaited g now false (Some p)) xs t e = cc
 
 none_ready : (x : Slot) (xs : List Slot) → is_there x ≡ false → ready_of (x ∷ xs) ≡ []
 none_ready (Ready i) xs t = cc
-none_ready (Room g now last None) xs t = refl
-none_ready (Room g now last (Some p)) xs t = cc
+none_ready (Awaited g now last None) xs t = refl
+none_ready (Awaited g now last (Some p)) xs t = cc
 
 -- where so many are ready and more may be, the count goes on behind them
 pub ready_more : (xs : List Slot) (i : ℕ) (d : Slot) → i < length xs
@@ -95,25 +95,25 @@ ready_ends xs i d low h t =
 pub ready_most : (xs : List Slot) → length (ready_of xs) ≤ length xs
 ready_most [] = omega arith
 ready_most (Ready i ∷ xs) = let h = ready_most xs in omega arith
-ready_most (Room g now last None ∷ xs) = omega arith
-ready_most (Room g now true (Some p) ∷ xs) = omega arith
-ready_most (Room g now false (Some p) ∷ xs) = let h = ready_most xs in omega arith
+ready_most (Awaited g now last None ∷ xs) = omega arith
+ready_most (Awaited g now true (Some p) ∷ xs) = omega arith
+ready_most (Awaited g now false (Some p) ∷ xs) = let h = ready_most xs in omega arith
 
 -- the item of a first slot is ready first, with what is ready behind it
 pub took_on : (x : Slot) (xs : List Slot) (i : Item) → chance_of x ≡ Sure i → ends_place x ≡ false
     → ready_of (x ∷ xs) ≡ i ∷ ready_of xs
 took_on (Ready j) xs i h e = let same : j ≡ i = cc in ap (λ y. y ∷ ready_of xs) same
-took_on (Room g now last None) xs i h e = cc
-took_on (Room g now true (Some p)) xs i h e = cc
-took_on (Room g now false (Some p)) xs i h e = let same : Adopt p now ≡ i = cc in ap (λ y. y ∷ ready_of xs) same
+took_on (Awaited g now last None) xs i h e = cc
+took_on (Awaited g now true (Some p)) xs i h e = cc
+took_on (Awaited g now false (Some p)) xs i h e = let same : Adopt p now ≡ i = cc in ap (λ y. y ∷ ready_of xs) same
 
 -- or alone, where it ends a place
 pub took_last : (x : Slot) (xs : List Slot) (i : Item) → chance_of x ≡ Sure i → ends_place x ≡ true
     → ready_of (x ∷ xs) ≡ i ∷ []
 took_last (Ready j) xs i h e = cc
-took_last (Room g now last None) xs i h e = cc
-took_last (Room g now true (Some p)) xs i h e = let same : Adopt p now ≡ i = cc in ap (λ y. y ∷ []) same
-took_last (Room g now false (Some p)) xs i h e = cc
+took_last (Awaited g now last None) xs i h e = cc
+took_last (Awaited g now true (Some p)) xs i h e = let same : Adopt p now ≡ i = cc in ap (λ y. y ∷ []) same
+took_last (Awaited g now false (Some p)) xs i h e = cc
 
 -- one item more was taken out of what is ready
 pub taken_on : (old new : List Slot) (x : Slot) (i : Item) (items all : List Item) → old ≡ x ∷ new
@@ -197,19 +197,20 @@ filled_at p xs i x e here =
 pub unfilled : (p : Piece) (xs : List Slot) → position (lacks p.generation) xs ≡ None → xs ≡ queue_filled p xs
 unfilled p xs e = sym (fills_none p xs (found_none (position_or_len (lacks p.generation) xs) (length xs) e))
 
--- one room more
-pub rooms_more : (g : ℕ) (now : Strategy) (count n : ℕ)
-    → first_rooms g now count (n + 1) ≡ first_rooms g now count n ++ Room g now (nat_eq (n + 1) count) None ∷ []
-rooms_more g now count n = map-range_with_len_more (λ j. Room g now (nat_eq (j + 1) count) None) 0 n n (omega arith)
+-- one piece more
+pub awaited_more : (g : ℕ) (now : Strategy) (count n : ℕ)
+    → first_awaited g now count (n + 1) ≡ first_awaited g now count n ++ Awaited g now (nat_eq (n + 1) count) None ∷ []
+awaited_more g now count n =
+    map-range_with_len_more (λ j. Awaited g now (nat_eq (j + 1) count) None) 0 n n (omega arith)
 
-pub room_pushed : (old new : List Slot) (start : List Slot) (g : ℕ) (now copy : Strategy) (count n : ℕ)
-    → old ≡ start ++ first_rooms g now count n → copy ≡ now
-    → new ≡ old ++ Room g copy (nat_eq (n + 1) count) None ∷ [] → new ≡ start ++ first_rooms g now count (n + 1)
-room_pushed old new start g now copy count n e same pushed =
-    pushed ∙ ap (λ x. x ++ Room g copy (nat_eq (n + 1) count) None ∷ []) e
-    ∙ ap (λ s. (start ++ first_rooms g now count n) ++ Room g s (nat_eq (n + 1) count) None ∷ []) same
-    ∙ append_assoc start (first_rooms g now count n) (Room g now (nat_eq (n + 1) count) None ∷ [])
-    ∙ ap (λ x. start ++ x) (sym (rooms_more g now count n))
+pub awaited_pushed : (old new : List Slot) (start : List Slot) (g : ℕ) (now copy : Strategy) (count n : ℕ)
+    → old ≡ start ++ first_awaited g now count n → copy ≡ now
+    → new ≡ old ++ Awaited g copy (nat_eq (n + 1) count) None ∷ [] → new ≡ start ++ first_awaited g now count (n + 1)
+awaited_pushed old new start g now copy count n e same pushed =
+    pushed ∙ ap (λ x. x ++ Awaited g copy (nat_eq (n + 1) count) None ∷ []) e
+    ∙ ap (λ s. (start ++ first_awaited g now count n) ++ Awaited g s (nat_eq (n + 1) count) None ∷ []) same
+    ∙ append_assoc start (first_awaited g now count n) (Awaited g now (nat_eq (n + 1) count) None ∷ [])
+    ∙ ap (λ x. start ++ x) (sym (awaited_more g now count n))
 
 -- ---- pieces, in what may be handed over
 
@@ -227,11 +228,11 @@ fillings q (p ∷ ps) cs = fillings q ps (cond (nat_eq p.to q) (filling p cs) cs
 filled_chances : (p : Piece) (xs : List Slot) → chances (queue_filled p xs) ≡ filling p (chances xs)
 filled_chances p [] = refl
 filled_chances p (Ready i ∷ xs) = ap (λ cs. Sure i ∷ cs) (filled_chances p xs)
-filled_chances p (Room g now last (Some q) ∷ xs) = ap (λ cs. Sure (Adopt q now) ∷ cs) (filled_chances p xs)
-filled_chances p (Room g now last None ∷ xs) = at (nat_eq g p.generation) (filled_chances p xs)
+filled_chances p (Awaited g now last (Some q) ∷ xs) = ap (λ cs. Sure (Adopt q now) ∷ cs) (filled_chances p xs)
+filled_chances p (Awaited g now last None ∷ xs) = at (nat_eq g p.generation) (filled_chances p xs)
   where
     at : (b : Bool) → chances (queue_filled p xs) ≡ filling p (chances xs)
-        → chances (cond b (Room g now last (Some p) ∷ xs) (Room g now last None ∷ queue_filled p xs))
+        → chances (cond b (Awaited g now last (Some p) ∷ xs) (Awaited g now last None ∷ queue_filled p xs))
         ≡ cond b (Sure (Adopt p now) ∷ chances xs) (Open g now ∷ filling p (chances xs))
     at true rest = refl
     at false rest = ap (λ cs. Open g now ∷ cs) rest
@@ -239,11 +240,11 @@ filled_chances p (Room g now last None ∷ xs) = at (nat_eq g p.generation) (fil
 filled_standings : (p : Piece) (xs : List Slot) → map standing_of (queue_filled p xs) ≡ map standing_of xs
 filled_standings p [] = refl
 filled_standings p (Ready i ∷ xs) = ap (λ ss. Outside ∷ ss) (filled_standings p xs)
-filled_standings p (Room g now last (Some q) ∷ xs) = ap (λ ss. cond last Last Within ∷ ss) (filled_standings p xs)
-filled_standings p (Room g now last None ∷ xs) = at (nat_eq g p.generation) (filled_standings p xs)
+filled_standings p (Awaited g now last (Some q) ∷ xs) = ap (λ ss. cond last Last Within ∷ ss) (filled_standings p xs)
+filled_standings p (Awaited g now last None ∷ xs) = at (nat_eq g p.generation) (filled_standings p xs)
   where
     at : (b : Bool) → map standing_of (queue_filled p xs) ≡ map standing_of xs
-        → map standing_of (cond b (Room g now last (Some p) ∷ xs) (Room g now last None ∷ queue_filled p xs))
+        → map standing_of (cond b (Awaited g now last (Some p) ∷ xs) (Awaited g now last None ∷ queue_filled p xs))
         ≡ cond last Last Within ∷ map standing_of xs
     at true rest = refl
     at false rest = ap (λ ss. cond last Last Within ∷ ss) rest

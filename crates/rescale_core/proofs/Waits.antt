@@ -25,7 +25,7 @@ use Rattle.rescale_core.specs.declared.item.Entry.{Entry}
 use Rattle.rescale_core.specs.declared.item.Entry.TheVariants.{Point, Change}
 use Rattle.rescale_core.specs.declared.item.Item.{Item}
 use Rattle.rescale_core.specs.declared.slot.Slot.{Slot}
-use Rattle.rescale_core.specs.declared.slot.Slot.TheVariants.{Ready, Room}
+use Rattle.rescale_core.specs.declared.slot.Slot.TheVariants.{Ready, Awaited}
 use Rattle.rescale_core.specs.declared.router.Router.{Router}
 
 -- ---- queues
@@ -45,8 +45,8 @@ slots_stand (x ∷ xs) =
   where
     at : (x : Slot) → weight_of x ≡ counts (standing_of x)
     at (Ready i) = refl
-    at (Room g now true piece) = refl
-    at (Room g now false piece) = refl
+    at (Awaited g now true piece) = refl
+    at (Awaited g now false piece) = refl
 
 dues_stand : (ds : List Due) → sum_by weight ds ≡ sum_by counts (map standing ds)
 dues_stand [] = refl

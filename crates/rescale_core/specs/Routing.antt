@@ -15,7 +15,7 @@ use Rattle.rescale_core.specs.Lines.{spot_after, first_spot}
 use Rattle.rescale_core.specs.Lines.Due.{Slicing}
 use Rattle.rescale_core.specs.Chances.Chance.{Sure}
 use Rattle.rescale_core.specs.Queues.{chances, queue_at}
-use Rattle.rescale_core.specs.Slots.{ready_of, rooms, standing_of}
+use Rattle.rescale_core.specs.Slots.{awaited, ready_of, standing_of}
 use Rattle.rescale_core.specs.Worlds.{World, Step, spot_in, queue_in, slice_at, standings_in, GatheredIn, IsGathered}
 use Rattle.rescale_core.specs.Worlds.Step.{Feed}
 use Rattle.rescale_core.specs.Soundly.{IsSound}
@@ -38,7 +38,7 @@ part_below q n generation old new = cond (nat_lt q n) (Ready (Part generation ol
 
 -- the place for so many pieces for worker q, if there are more than q workers
 abbrev pub place_below : ℕ → ℕ → ℕ → Strategy → ℕ → List Slot
-place_below q n generation now count = cond (nat_lt q n) (rooms generation now count) []
+place_below q n generation now count = cond (nat_lt q n) (awaited generation now count) []
 
 -- the slices of a time-point for all workers
 abbrev pub all_slices : CoreForm → Strategy → TimePoint → List TimePoint

@@ -2,7 +2,7 @@
 ghost use Rattle.std.specs.Prelude.{◌≡◌, ◌++◌, ◌∷◌, ◌≤◌, [], IfOk, length, sum_by};
 ghost use Rattle.std.specs.List.{list_all, position};
 ghost use Rattle.rescale_core.specs.Queues.{queue_filled, is_clear};
-ghost use Rattle.rescale_core.specs.Slots.{TakesOut, first_ends, lacks, ready_of, rooms, sure, weight_of};
+ghost use Rattle.rescale_core.specs.Slots.{TakesOut, awaited, first_ends, lacks, ready_of, sure, weight_of};
 ghost use Rattle.rescale_core.specs.Waiting.{is_short};
 ghost use Rattle.rescale_core.specs.declared.slot.Slot.TheVariants.{Ready};
 
@@ -16,7 +16,7 @@ use std::collections::VecDeque;
 use std::marker::Model;
 use std::mem;
 
-/// The items that were not handed over, and room for pieces that are missing.
+/// The items that were not handed over, and pieces that are awaited.
 #[derive(Drop)]
 pub(crate) struct Queue {
     // what stands before the first place
@@ -61,7 +61,7 @@ impl Queue {
         Ok(())
     }
 
-    /// Room for so many pieces of the generation, whose strategy is `now`.
+    /// Awaits so many pieces of the generation, whose strategy is `now`.
     pub(crate) fn push_place(
         &mut self,
         alloc: Global,
@@ -69,11 +69,11 @@ impl Queue {
         now: &Strategy,
         count: u32,
     ) -> Result<(), AllocError>
-        ensures { IfOk result (λ _. self.new ≡ self.old ++ rooms generation now.now count) }
+        ensures { IfOk result (λ _. self.new ≡ self.old ++ awaited generation now.now count) }
     {
         for j in 0..count {
             let now = BoxedStrategy::copied(alloc, now)?;
-            self.append(Slot::Room {
+            self.append(Slot::Awaited {
                 generation,
                 now,
                 last: j + 1 == count,

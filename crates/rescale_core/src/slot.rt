@@ -5,12 +5,12 @@ ghost use Rattle.rescale_core.specs.Slots.{ends_place, is_there, item_in, lacks,
 use crate::boxed::{BoxedPiece, BoxedStrategy};
 use crate::item::Item;
 
-/// An item, or room for a piece.
+/// An item, or a piece that is awaited.
 #[derive(Drop)]
 pub(crate) enum Slot {
     Ready(Item),
-    /// Room for a piece of this generation, whose strategy is `now`. `last` is said of the last one of a place.
-    Room {
+    /// A piece of this generation, once it came, whose strategy is `now`. `last` is said of the last one of a place.
+    Awaited {
         generation: u64,
         now: BoxedStrategy,
         last: bool,
@@ -25,7 +25,7 @@ impl Slot {
     {
         match self {
             Slot::Ready(_) => true,
-            Slot::Room { piece, .. } => piece.is_some(),
+            Slot::Awaited { piece, .. } => piece.is_some(),
         }
     }
 
@@ -35,7 +35,7 @@ impl Slot {
     {
         match self {
             Slot::Ready(_) => false,
-            Slot::Room { last, .. } => *last,
+            Slot::Awaited { last, .. } => *last,
         }
     }
 
@@ -45,7 +45,7 @@ impl Slot {
     {
         match self {
             Slot::Ready(_) => false,
-            Slot::Room {
+            Slot::Awaited {
                 generation: own,
                 piece,
                 ..
@@ -59,7 +59,7 @@ impl Slot {
     {
         match self {
             Slot::Ready(_) => 1,
-            Slot::Room { last, .. } => *last as u64,
+            Slot::Awaited { last, .. } => *last as u64,
         }
     }
 
@@ -69,20 +69,20 @@ impl Slot {
     {
         match self {
             Slot::Ready(item) => Some(item),
-            Slot::Room { piece, now, .. } => {
+            Slot::Awaited { piece, now, .. } => {
                 let piece = piece?;
                 Some(Item::Adopt { piece, now })
             }
         }
     }
 
-    /// Puts the piece where there is room.
+    /// Puts the piece where one is awaited.
     pub(crate) fn put(&mut self, piece: BoxedPiece)
         ensures { self.new ≡ slot_filled piece self.old }
     {
         match self {
             Slot::Ready(_) => {}
-            Slot::Room { piece: room, .. } => *room = Some(piece),
+            Slot::Awaited { piece: awaited, .. } => *awaited = Some(piece),
         }
     }
 }

@@ -54,7 +54,10 @@ fn take_complete<R: Wait, O: Sink>(
 {
     'points: for _ in rt.forever() {
         match reader.next(alloc) {
-            Ok(Next::Point(point)) => worker.take(alloc, &point, out)?,
+            Ok(Next::Point(point)) => {
+                worker.take(alloc, &point, out)?;
+                reader.take_back(point);
+            }
             Ok(Next::More) => return Ok(()),
             Ok(Next::End) => return Ok(()),
             Err(fault) => return Err(Stop::from(fault)),
