@@ -24,8 +24,7 @@ pub strategy_fits : (vars : List Var) (core : CoreForm) (s : Strategy) → IsMon
     → all_apart (fv (meaning core) ++ binders core) ≡ true → fv (meaning core) ≡ range_with_len 0 (length vars)
     → length s ≡ length vars → HasWorkers s → IsFor core s
 strategy_fits vars core s fits apart variables sized workers = record {
-  fits = fits;
-  apart = apart;
+  evaluable = record { fits = fits; apart = apart };
   variables = variables ∙ ap (range_with_len 0) (sym sized);
   workers = workers;
 }

@@ -43,8 +43,7 @@ module _ (core : CoreForm) (policy : Form) (is : IsCoreOf core policy) (vars : L
     (has : HasVariables vars core) where
   pub first_for : (s : Strategy) → Divides vars s → IsFor core s
   first_for s d = record {
-    fits = is.evaluable.fits;
-    apart = is.evaluable.apart;
+    evaluable = is.evaluable;
     variables = has ∙ ap (range_with_len 0) (sym d.0);
     workers = d.1;
   }

@@ -120,7 +120,7 @@ suits core s k log is =
       whole = refl;
       suits = record {
         passes = region_passes core s k is;
-        sound = parts_are_sound (λ y. []) core (is.fits (λ y. [])) is.apart;
+        sound = parts_are_sound (λ y. []) core (is.evaluable.fits (λ y. [])) is.evaluable.apart;
       };
     }
 

@@ -61,7 +61,7 @@ slice_premises c s k log q is follows =
       rising = follows.rising;
       passes = passes;
       whole_is = refl;
-      sound = parts_are_sound (λ y. []) c (is.fits (λ y. [])) is.apart;
+      sound = parts_are_sound (λ y. []) c (is.evaluable.fits (λ y. [])) is.evaluable.apart;
       ts = refl;
       same = slice_is_enough (view_of c (near_of s k) log) c (slice (near_of s k) (atoms_of c) q.db) q.db passes
           (λ e h. h) (λ e h. filtered_found _ _ q.db h);

@@ -35,7 +35,7 @@ verdict_stays w e i r may h =
     let more : spot_in (world_after w (Read e)) ≡ moved (spot_in w) e =
     spot_more (first_spot w.first) w.read (e ∷ []) in
     let v : violations_at w.core (spot_in w).points i ≡ violations_at w.core (moved (spot_in w) e).points i =
-    viol_stays w.core r.first.fits (e ∷ []) (spot_in w) i (may, tt) h in
+    viol_stays w.core r.first.evaluable.fits (e ∷ []) (spot_in w) i (may, tt) h in
     let n = settled_within w.core (spot_in w).points in
     let t = time_stays (e ∷ []) (spot_in w) i (omega arith) in
     ap (λ x. record { point = i; ts = x; rows = violations_at w.core (spot_in w).points i }) (sym t)

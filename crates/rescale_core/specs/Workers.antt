@@ -19,10 +19,14 @@ use Rattle.slice_strategy.specs.Entries.{HasWorkers}
 use Rattle.slice_strategy.specs.Slicers.{full_row}
 use Rattle.event_splitter.specs.Parts.{part_for}
 
--- the core can be monitored, and the strategy divides the rows over its free variables among workers
-pub record IsFor (core : CoreForm) (strategy : Strategy) : Type 0 where
+-- the core can be evaluated: the fragment accepts it, and no variable of it stands for two
+pub record IsEvaluable (core : CoreForm) : Type 0 where
   pub fits : IsMonitorable core
   pub apart : all_apart (fv (meaning core) ++ binders core) ≡ true
+
+-- the core can be evaluated, and the strategy divides the rows over its free variables among workers
+pub record IsFor (core : CoreForm) (strategy : Strategy) : Type 0 where
+  pub evaluable : IsEvaluable core
   pub variables : fv (meaning core) ≡ range_with_len 0 (length strategy)
   pub workers : HasWorkers strategy
 

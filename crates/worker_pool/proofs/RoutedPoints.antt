@@ -33,8 +33,7 @@ pub under : {first reader : Reader} {driver here : Driver} {changes left : List 
     (λ core plan bytes start. IsAmid (Routes core plan start here left now v) (progress first bytes) reader)
     → Runs here now v
 under {first} {reader} u runs =
-    let amid = runs u.core u.plan u.bytes u.start u.reads u.so_far in
-    (
+    let amid = runs u.core u.plan u.bytes u.start u.reads u.so_far in (
       u.core,
       entries_by u.plan (take reader.given (read (progress first u.bytes)).points),
       u.start,

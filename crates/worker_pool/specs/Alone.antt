@@ -13,9 +13,8 @@ use Rattle.monitorable.specs.Laws.{whole_view}
 use Rattle.monitor_state.specs.MonitorView.{monitor_of}
 use Rattle.monitor_state.specs.Stands.{StateOf, Stands}
 use Rattle.monitor_state.specs.declared.monitor.Monitor.{Monitor}
-use Rattle.rescale_core.specs.Workers.{MayFollow, settled_in}
+use Rattle.rescale_core.specs.Workers.{IsEvaluable, MayFollow, settled_in}
 use Rattle.worker_pool.specs.Courses.{HasDone, Settles}
-use Rattle.worker_pool.specs.Policies.{IsEvaluable}
 use Rattle.worker_pool.specs.Texts.{lines, tally_of}
 use Rattle.worker_pool.specs.Writing.{first_verdicts}
 use Rattle.worker_pool.specs.declared.tally.Tally.{Tally}

@@ -1,18 +1,11 @@
 -- Which policies a core is one of.
-use Rattle.std.specs.Prelude.{◌≡◌, ◌++◌, true, None}
+use Rattle.std.specs.Prelude.{◌≡◌, None}
 use Rattle.mfotl_model.specs.Formulas.{Form}
-use Rattle.mfotl_model.specs.FreeVariables.{fv}
-use Rattle.mfotl_model.specs.Tables.{all_apart}
-use Rattle.monitorable.specs.CoreForms.{CoreForm, meaning}
-use Rattle.monitorable.specs.Fragment.{IsMonitorable, Names, frag_fault}
+use Rattle.monitorable.specs.CoreForms.{CoreForm}
+use Rattle.monitorable.specs.Fragment.{Names, frag_fault}
 use Rattle.monitorable.specs.Negation.{SettlesWith}
-use Rattle.monitorable.specs.Renaming.{binders}
 use Rattle.monitorable.specs.SatisfyingRows.{HasViolationsOf}
-
--- the core can be evaluated: the fragment accepts it, and no variable of it stands for two
-pub record IsEvaluable (core : CoreForm) : Type 0 where
-  pub fits : IsMonitorable core
-  pub apart : all_apart (fv (meaning core) ++ binders core) ≡ true
+use Rattle.rescale_core.specs.Workers.{IsEvaluable}
 
 -- the policy can be monitored by this core: it is settled where the policy is, and its rows are the violations
 pub record IsCoreOf (core : CoreForm) (policy : Form) : Type 0 where
