@@ -1,5 +1,6 @@
 -- A number that is read straight from the bytes is what the token there stands for.
-use Rattle.std.proofs.Common.{◌≡◌, ℕ, suc, ◌+◌, ◌-◌, ◌*◌, ◌≤◌, ◌<◌, true, false, List, [], ◌∷◌, ◌++◌, length}
+use native.Mathlib.Nat.{pow-succ', pow-le-pow_right}
+use Rattle.std.proofs.Common.{◌≡◌, ℕ, suc, ◌+◌, ◌-◌, ◌*◌, ◌^◌, ◌≤◌, ◌<◌, true, false, List, [], ◌∷◌, ◌++◌, length}
 use Rattle.std.proofs.Common.{get_or, drop-cons, take, drop, zero, Result, Option, Some, None, Ok, ℤ, nat_lt, refl}
 use Rattle.std.proofs.Common.{sym, ap, ◌∙◌, inl, inr, arith}
 use Rattle.std.specs.Prelude.{◌==◌, nat_le, unwrap_or}
@@ -205,12 +206,41 @@ value_takes sig limits p q at bytes (Completed point) stage t = absurd t
 
 -- ---- the loop over the digits
 
+-- so few digits leave room for one more
+pub few_digits : (number count : ℕ) → number < 10 ^ count → count ≤ 17 → number < room
+few_digits number count small few =
+    let power : 10 ^ 17 ≡ room = refl in
+    omega (arith, small, power, pow-le-pow_right {n = 10} (omega arith) few)
+
+pub one_more_digit : (number count next b : ℕ) → suc count ≡ next → number < 10 ^ count → is_ascii_digit b ≡ true
+    → 10 * number + (b - 48) < 10 ^ next
+one_more_digit number count next b is small digit =
+    rw (sym is) (omega (arith, small, digit_most b digit, pow-succ' 10 count))
+
+-- what is read of the first bytes is read of all
+pub first_digits : (number count k : ℕ) (bytes : List ℕ) (found : ℕ × ℕ)
+    → digits_before number count (take k bytes) ≡ Some found → digits_before number count bytes ≡ Some found
+unfolding digits_before
+first_digits number count zero bytes found e = absurd cc
+first_digits number count (suc k) [] found e = absurd cc
+first_digits number count (suc k) (b ∷ bytes) found e =
+    elim (cases_Bool (is_ascii_digit b)) [
+      | inl digit ↦ elim (cases_Bool (nat_lt number room)) [
+        | inl more ↦
+            rw (digit, more) (first_digits (10 * number + (b - 48)) (suc count) k bytes found (rw (digit, more) at e))
+        | inr full ↦ let lost : None ≡ Some found = rw (digit, full) at e in absurd cc
+      ]
+      | inr none ↦ rw none (rw none at e)
+    ]
+
 module _ (number at : ℕ) (bytes : List ℕ) (inner : at < length bytes) where
-  -- one more digit would be too many
-  pub full_at : is_ascii_digit (get_or bytes at 0) ≡ true → nat_lt number room ≡ false
-      → digits_before number at (drop at bytes) ≡ None
+  -- one more digit
+  pub goes_at : (next : ℕ) → suc at ≡ next → is_ascii_digit (get_or bytes at 0) ≡ true → number < room
+      → digits_before number at (drop at bytes)
+      ≡ digits_before (10 * number + (get_or bytes at 0 - 48)) next (drop next bytes)
   unfolding digits_before
-  full_at digit full = rw (drop-cons bytes at 0 inner) (rw (digit, full) refl)
+  goes_at next is digit small =
+      rw (sym is) (rw (drop-cons bytes at 0 inner) (rw (digit, lt-ltb number room small) refl))
 
   -- the digits end
   pub ends_at : is_ascii_digit (get_or bytes at 0) ≡ false → ends_number (get_or bytes at 0) ≡ true

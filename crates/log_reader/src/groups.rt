@@ -8,18 +8,24 @@ use crate::grammar::may_open;
 use crate::limits::{Limits, Look};
 use crate::partial::{Partial, push_event};
 use crate::plain_tokens::{blank_before, word_before};
+use crate::recent_texts::RecentTexts;
 use crate::short_numbers::integer_before;
 use crate::stage::Stage;
-use mfotl_model::{Row, Sort, Text, Value};
+use mfotl_model::{Row, Sort, Value};
 use std::alloc::{AllocError, Global};
 
 // A Word at the front of bytes as a text, and how many bytes it has.
-fn plain_text(alloc: Global, at: usize, bytes: &[u8]) -> Result<Option<(Value, usize)>, AllocError>
+fn plain_text(
+    alloc: Global,
+    texts: &mut RecentTexts,
+    at: usize,
+    bytes: &[u8],
+) -> Result<Option<(Value, usize)>, AllocError>
     ensures { IfOk result (λ found. IfSome found (λ x. TakesPlain sorts.Text at bytes.now x.0 x.1)) }
 {
     match word_before(bytes, at) {
         Some(word) => {
-            let text = Text::from_slice(alloc, word.text)?;
+            let text = texts.text(alloc, word.text)?;
             Ok(Some((Value::Text(text), word.text.len())))
         }
         None => Ok(None),
@@ -30,6 +36,7 @@ fn plain_text(alloc: Global, at: usize, bytes: &[u8]) -> Result<Option<(Value, u
 // also where only a token says what stands there.
 fn plain_value(
     alloc: Global,
+    texts: &mut RecentTexts,
     sort: Sort,
     at: usize,
     bytes: &[u8],
@@ -41,13 +48,14 @@ fn plain_value(
             Some((number, count)) => Ok(Some((Value::Int(number), count))),
             None => Ok(None),
         },
-        Sort::Text => plain_text(alloc, at, bytes),
+        Sort::Text => plain_text(alloc, texts, at, bytes),
     }
 }
 
 // The values of a group behind its `(`, and the offset behind its `)`.
 fn values_at(
     alloc: Global,
+    texts: &mut RecentTexts,
     sorts: &[Sort],
     look: Look<'_>,
     start: usize,
@@ -62,7 +70,7 @@ fn values_at(
     let mut at = start;
     while let Some((sort, more)) = due.split_first() {
         let (_, rest) = look.bytes.split_at(at);
-        let Some((value, count)) = plain_value(alloc, *sort, look.from + at, rest)? else {
+        let Some((value, count)) = plain_value(alloc, texts, *sort, look.from + at, rest)? else {
             return Ok(None);
         };
         let (_, behind) = rest.split_at(count);
@@ -86,6 +94,7 @@ fn values_at(
 // tokens say what stands there.
 fn group_at(
     alloc: Global,
+    texts: &mut RecentTexts,
     sorts: &[Sort],
     look: Look<'_>,
     at: usize,
@@ -99,7 +108,7 @@ fn group_at(
     let blanks = blank_before(front);
     let (_, rest) = front.split_at(blanks);
     match rest {
-        [mark, ..] if *mark == b'(' => values_at(alloc, sorts, look, at + blanks + 1),
+        [mark, ..] if *mark == b'(' => values_at(alloc, texts, sorts, look, at + blanks + 1),
         _ => Ok(None),
     }
 }
@@ -123,7 +132,7 @@ impl<'a> Partial<'a> {
         if !may_open(self.stage) || self.groups >= limits.events || !self.args.values().is_empty() {
             return Ok(None);
         }
-        let Some((args, behind)) = group_at(alloc, self.sorts, look, at)? else {
+        let Some((args, behind)) = group_at(alloc, &mut self.texts, self.sorts, look, at)? else {
             return Ok(None);
         };
         push_event(&mut self.events, self.pred, args)?;

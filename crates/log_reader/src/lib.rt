@@ -15,6 +15,7 @@ mod next;
 mod partial;
 mod plain_tokens;
 mod reader;
+mod recent_texts;
 mod short_numbers;
 mod stage;
 mod stamps;

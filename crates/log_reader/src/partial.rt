@@ -15,6 +15,7 @@ use crate::grammar::{ends_point, is_whole, stage_behind};
 use crate::limits::Limits;
 use crate::next::Next;
 use crate::plain_tokens::word_before;
+use crate::recent_texts::RecentTexts;
 use crate::short_numbers::integer_before;
 use crate::stage::Stage;
 use crate::values::{timestamp_of, value_at};
@@ -37,6 +38,7 @@ pub struct Partial<'a> {
     pub(crate) sorts: &'a [Sort],
     pub(crate) args: Row,
     pub(crate) due: &'a [Sort],
+    pub(crate) texts: RecentTexts,
 }
 
 /// What was taken straight from a log's bytes.
@@ -105,6 +107,7 @@ impl<'a> Partial<'a> {
             sorts: &[],
             args: Row::empty(),
             due: &[],
+            texts: RecentTexts::new(alloc),
         }
     }
 
@@ -196,7 +199,14 @@ impl<'a> Partial<'a> {
         match self.due {
             [] => Err(LogFault::WrongArity(at)),
             [sort, due @ ..] => {
-                let value = value_at(alloc, *sort, at, token.kind, token.content())?;
+                let value = value_at(
+                    alloc,
+                    &mut self.texts,
+                    *sort,
+                    at,
+                    token.kind,
+                    token.content(),
+                )?;
                 self.push(alloc, value)?;
                 self.stage = Stage::AfterValue;
                 self.due = due;

@@ -1,12 +1,9 @@
 //! Short numbers, read without cutting a token.
-ghost use Rattle.std.specs.Prelude.{◌≡◌, IfSome};
+ghost use Rattle.std.specs.Prelude.{◌≡◌, ◌≤◌, IfSome, length, take};
 ghost use Rattle.log_reader.specs.Quick.{ends_number, digits_before, BeginsWithNumber, IsInteger};
 
-// A number below this has room for one more digit.
-const ROOM: u64 = 100_000_000_000_000_000;
-
-// As many digits as a word of a log may have bytes.
-const MOST_DIGITS: usize = 4_096;
+// So many digits fit a number of 64 bits.
+const MOST_DIGITS: usize = 18;
 
 fn ends_number(b: u8) -> bool
     ensures { result ≡ ends_number b }
@@ -14,19 +11,27 @@ fn ends_number(b: u8) -> bool
     matches!(b, b',' | b')' | b' ' | b'\n')
 }
 
+// The first bytes, as many as digits are read, or all.
+fn first_bytes(bytes: &[u8]) -> &[u8]
+    ensures { result.now ≡ take 18 bytes.now }
+{
+    if bytes.len() > MOST_DIGITS {
+        bytes.split_at(MOST_DIGITS).0
+    } else {
+        bytes
+    }
+}
+
 // The number that the digits in front of such a byte write, and how many they are.
 #[tactic(auto, unfolding(crate::specs::Quick::digits_before))]
 fn digits_before(bytes: &[u8]) -> Option<(u64, usize)>
+    requires { length bytes.now ≤ 18 }
     ensures { result ≡ digits_before 0 0 bytes.now }
 {
     let mut number: u64 = 0;
     for (count, b) in bytes.iter().enumerate() {
         if b.is_ascii_digit() {
-            if number < ROOM {
-                number = 10 * number + u64::from(b.saturating_sub(b'0'));
-            } else {
-                return None;
-            }
+            number = 10 * number + u64::from(b.saturating_sub(b'0'));
         } else if ends_number(*b) {
             return Some((number, count));
         } else {
@@ -41,7 +46,7 @@ fn digits_before(bytes: &[u8]) -> Option<(u64, usize)>
 pub fn number_before(bytes: &[u8]) -> Option<(u64, usize)>
     ensures { IfSome result (λ x. BeginsWithNumber bytes.now x.0 x.1) }
 {
-    match digits_before(bytes) {
+    match digits_before(first_bytes(bytes)) {
         Some((number, count)) if count > 0 && count <= MOST_DIGITS => Some((number, count)),
         _ => None,
     }

@@ -7,8 +7,9 @@ ghost use Rattle.log_reader.specs.ValuesRead.{is_number, integer_at, value_at, t
 use crate::fault::LogFault;
 use crate::grammar::is_digits;
 use crate::limits::{LAST_TIMESTAMP, TIMESTAMP_ROOM};
+use crate::recent_texts::RecentTexts;
 use mfotl_lex::{Kind, read_integer};
-use mfotl_model::{Sort, Text, Value};
+use mfotl_model::{Sort, Value};
 use std::alloc::Global;
 
 fn is_number(text: &[u8]) -> bool
@@ -34,15 +35,16 @@ fn integer_at(at: u64, word: &[u8]) -> Result<Value, LogFault>
     }
 }
 
-fn string_of(alloc: Global, content: &[u8]) -> Result<Value, LogFault>
+fn string_of(alloc: Global, texts: &mut RecentTexts, content: &[u8]) -> Result<Value, LogFault>
     ensures { Gives (λ v. v) result (Ok (Value.Text content.now)) }
 {
-    Ok(Value::Text(Text::from_slice(alloc, content)?))
+    Ok(Value::Text(texts.text(alloc, content)?))
 }
 
 /// What a Word or a Text stands for at a place of this sort.
-pub fn value_at(
+pub(crate) fn value_at(
     alloc: Global,
+    texts: &mut RecentTexts,
     sort: Sort,
     at: u64,
     kind: Kind,
@@ -53,7 +55,7 @@ pub fn value_at(
     match (sort, kind) {
         (Sort::Int, Kind::Text) => Err(LogFault::WrongSort(at)),
         (Sort::Int, _) => integer_at(at, content),
-        (Sort::Text, _) => string_of(alloc, content),
+        (Sort::Text, _) => string_of(alloc, texts, content),
     }
 }
 
