@@ -30,6 +30,10 @@ use Rattle.log_reader.specs.Tokens.{IsInFront}
 
 -- ---- numbers
 
+-- so many digits fit a number of 64 bits
+abbrev pub most_digits : ℕ
+most_digits = 18
+
 -- a number below this has room for one more digit
 abbrev pub room : ℕ
 room = 100000000000000000

@@ -1,6 +1,6 @@
 //! Short numbers, read without cutting a token.
 ghost use Rattle.std.specs.Prelude.{◌≡◌, ◌≤◌, IfSome, length, take};
-ghost use Rattle.log_reader.specs.Quick.{ends_number, digits_before, BeginsWithNumber, IsInteger};
+ghost use Rattle.log_reader.specs.Quick.{ends_number, digits_before, most_digits, BeginsWithNumber, IsInteger};
 
 // So many digits fit a number of 64 bits.
 const MOST_DIGITS: usize = 18;
@@ -13,7 +13,7 @@ fn ends_number(b: u8) -> bool
 
 // The first bytes, as many as digits are read, or all.
 fn first_bytes(bytes: &[u8]) -> &[u8]
-    ensures { result.now ≡ take 18 bytes.now }
+    ensures { result.now ≡ take most_digits bytes.now }
 {
     if bytes.len() > MOST_DIGITS {
         bytes.split_at(MOST_DIGITS).0
@@ -25,7 +25,7 @@ fn first_bytes(bytes: &[u8]) -> &[u8]
 // The number that the digits in front of such a byte write, and how many they are.
 #[tactic(auto, unfolding(crate::specs::Quick::digits_before))]
 fn digits_before(bytes: &[u8]) -> Option<(u64, usize)>
-    requires { length bytes.now ≤ 18 }
+    requires { length bytes.now ≤ most_digits }
     ensures { result ≡ digits_before 0 0 bytes.now }
 {
     let mut number: u64 = 0;
