@@ -31,7 +31,8 @@ use Rattle.rescale_core.proofs.LogLemmas.{settled_more, settled_within, times_mo
 use Rattle.rescale_core.specs.Settlings.{IsKept}
 use Rattle.rescale_core.specs.Workers.{IsEvaluable, MayFollow, settled_in, violations_at}
 use Rattle.rescale_core.specs.Worlds.{verdict_on}
-use Rattle.worker_pool.specs.Alone.{Owes, Settles, WritesAlone, told_of}
+use Rattle.worker_pool.specs.Alone.{Owes, WritesAlone, told_of}
+use Rattle.worker_pool.specs.Courses.{Settles}
 use Rattle.worker_pool.specs.Texts.{lines, tally_of}
 use Rattle.worker_pool.specs.Writing.{Falls, all_verdicts, first_verdicts, seen}
 use Rattle.worker_pool.specs.declared.tally.Tally.{Tally}

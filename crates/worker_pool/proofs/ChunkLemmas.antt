@@ -11,6 +11,7 @@ use Rattle.mon_outside.specs.Inputs.{Consumes, Moves}
 use Rattle.mon_outside.specs.Sink.{Appends, AppendsFront}
 use Rattle.mfotl_model.specs.Formulas.{Form}
 use Rattle.mfotl_model.specs.VerdictText.{verdicts}
+use Rattle.mfotl_model.specs.declared.event.TimePoint.{TimePoint}
 use Rattle.mfotl_sig.specs.Preds.{PredOf}
 use Rattle.log_reader.proofs.GrowthLemmas.{front_stays}
 use Rattle.log_reader.specs.Growth.{ExtendsReading}
@@ -23,34 +24,34 @@ use Rattle.monitorable.specs.CoreForms.{CoreForm}
 use Rattle.monitorable.specs.Laws.{log_of}
 use Rattle.rescale_core.specs.declared.driver.Driver.{Driver}
 use Rattle.slice_strategy.specs.declared.change.Change.{Change}
-use Rattle.worker_pool.specs.Changes.{entries_by, left_by}
-use Rattle.worker_pool.specs.Chunks.{Feeds, IsChunkStop, ReadsChunk, ReadsPlan, SoFar, StopsLines, TakesAll, run_end}
+use Rattle.worker_pool.specs.Changes.{entries_by}
+use Rattle.worker_pool.specs.Chunks.{Feeds, IsChunkStop, ReadsChunk, ReadsPlan, Routes, StopsLines, run_end}
+use Rattle.worker_pool.specs.Courses.{HasDone, HasDoneAll, Settles}
 use Rattle.worker_pool.specs.Effects.{Effect}
 use Rattle.worker_pool.specs.Endings.{EndsBy, FollowsLog}
 use Rattle.worker_pool.specs.Policies.{IsCoreOf}
 use Rattle.worker_pool.specs.Texts.{lines, tally_of, tally_on, text_on}
-use Rattle.worker_pool.specs.Writing.{HasReadNothing, Writes, all_verdicts}
+use Rattle.worker_pool.specs.Writing.{all_verdicts}
 use Rattle.worker_pool.specs.declared.stop.Stop.{Stop}
 use Rattle.worker_pool.specs.declared.stop.Stop.TheVariants.{Log, Read, Sink, Memory}
 use Rattle.worker_pool.specs.declared.tally.Tally.{Tally}
 use Rattle.worker_pool.proofs.LogTimes.{read_never_falls}
-use Rattle.worker_pool.proofs.PointLemmas.{begins, first_text, front, rose_later}
+use Rattle.worker_pool.proofs.PointLemmas.{first_text, rose_later}
 use Rattle.worker_pool.proofs.SinkLemmas.{longer_front, whole_front}
 use Rattle.worker_pool.proofs.VerdictLemmas.{policy_verdicts}
-use Rattle.worker_pool.proofs.WritingLemmas.{nothing_read}
 
 -- the first time-points stay where more comes behind them
-pub front_same : (n : ℕ) (s a : Reading) → ExtendsReading s a → n ≡ length s.points → take n a.points ≡ take n s.points
+front_same : (n : ℕ) (s a : Reading) → ExtendsReading s a → n ≡ length s.points → take n a.points ≡ take n s.points
 front_same n s a k count = rw k.points (take-append-le n s.points k.more (omega (arith, count)))
 
 -- the reader's reading, by its signature and its limits
-pub read_is : (sig : List PredOf) (reader : Reader) (bytes : List ℕ) → reader.sig ≡ sig → reader.limits ≡ standard
+read_is : (sig : List PredOf) (reader : Reader) (bytes : List ℕ) → reader.sig ≡ sig → reader.limits ≡ standard
     → read (progress reader bytes) ≡ reading sig standard bytes reader.is_ended
 read_is sig reader bytes sig_is limits_is =
     ap₂ (λ (s : List PredOf) (l : Limits). reading s l bytes reader.is_ended) sig_is limits_is
 
 -- where all was read, that is the log
-pub whole_is : (first rest : Option (List ℕ)) (bytes : List ℕ) → Consumes first rest bytes → IsAtEnd rest
+whole_is : (first rest : Option (List ℕ)) (bytes : List ℕ) → Consumes first rest bytes → IsAtEnd rest
     → IfSome first (λ all. all ≡ bytes)
 whole_is first rest bytes taken end = Consumes-whole first rest bytes (λ all. all ≡ bytes) taken end refl
 
@@ -61,7 +62,7 @@ moved None after buffer count m = tt
 moved (Some all) after buffer count m = rw m.new_is m.next
 
 -- the lines stopped
-pub stops_end : (policy : Form) (e : Effect) (ended : Bool) (r : Reading) (before : ℕ) (why : Stop) → e.old.faults ≤ before
+stops_end : (policy : Form) (e : Effect) (ended : Bool) (r : Reading) (before : ℕ) (why : Stop) → e.old.faults ≤ before
     → StopsLines policy r e.old.written e.new.written before e.new.faults why
     → EndsBy ended policy r e (run_end (Err why))
 stops_end policy e ended r before (Log fault) later h = record { shows = h.0; written = h.1 }
@@ -82,9 +83,8 @@ fed old new before chunk untold e reads =
       whole = λ end. absurd cc;
     }
 
--- What was read of the log so far, what of it was routed by the plan, and what was written.
-pub record Course (core : CoreForm) (sig : List PredOf) (plan : List Change) (first rest : Option (List ℕ))
-    (reader : Reader) (driver : Driver) (changes : List Change) (old now : Option (List ℕ)) (tally : Tally)
+-- What was read of the log so far, and that this was done with the time-points that were given.
+pub record Course (Done : List TimePoint → Type 0) (sig : List PredOf) (first rest : Option (List ℕ)) (reader : Reader)
     : Type 0 where
   pub bytes : List ℕ
   pub reads : Reads reader bytes
@@ -92,43 +92,37 @@ pub record Course (core : CoreForm) (sig : List PredOf) (plan : List Change) (fi
   pub limits_is : reader.limits ≡ standard
   pub taken : Consumes first rest bytes
   pub whole : reader.is_ended ≡ true → IfSome first (λ all. all ≡ bytes)
-  pub so_far : SoFar core plan (progress reader bytes) driver changes old now tally
+  pub so_far : HasDone Done (progress reader bytes)
 
--- Besides, all that the bytes show was routed, all its lines written, and they show no fault.
-pub record Settled (core : CoreForm) (sig : List PredOf) (plan : List Change) (first rest : Option (List ℕ))
-    (reader : Reader) (driver : Driver) (changes : List Change) (old now : Option (List ℕ)) (tally : Tally)
-    : Type 0 where
-  pub course : Course core sig plan first rest reader driver changes old now tally
+-- Besides, it was done with all that the bytes show, all its lines were written, and they show no fault.
+pub record Settled (core : CoreForm) (Done : List TimePoint → Type 0) (sig : List PredOf)
+    (first rest : Option (List ℕ)) (reader : Reader) (old now : Option (List ℕ)) (tally : Tally) : Type 0 where
+  pub course : Course Done sig first rest reader
   pub all : reader.given ≡ length (reading sig standard course.bytes reader.is_ended).points
   pub clear : (reading sig standard course.bytes reader.is_ended).ending ≡ NoFault
-  pub written : Appends old now (lines (all_verdicts core (reading sig standard course.bytes reader.is_ended).points))
-  pub counts : tally ≡ tally_of (all_verdicts core (reading sig standard course.bytes reader.is_ended).points)
+  pub settles : Settles core (reading sig standard course.bytes reader.is_ended).points old now tally
 
 -- nothing was read
-pub course_begins : {core : CoreForm} {sig : List PredOf} {tally : Tally} {driver : Driver} {reader : Reader}
-    (plan : List Change) (first old : Option (List ℕ)) → progress reader [] ≡ nothing_fed sig standard → Reads reader []
-    → HasReadNothing core driver → tally ≡ tally_of []
-    → Course core sig plan first first reader driver plan old old tally
-course_begins {core} {sig} {tally} {driver} {reader} plan first old fresh reads begun none = record {
+pub course_begins : {Done : List TimePoint → Type 0} {sig : List PredOf} {reader : Reader} (first : Option (List ℕ))
+    → progress reader [] ≡ nothing_fed sig standard → Reads reader [] → Done [] → Course Done sig first first reader
+course_begins {Done} {reader = reader} first fresh reads begun = record {
   bytes = [];
   reads = reads;
   sig_is = ap (λ (p : Progress). p.sig) fresh;
   limits_is = ap (λ (p : Progress). p.limits) fresh;
   taken = Consumes-nil first;
   whole = λ told. let is : reader.is_ended ≡ false = ap (λ (p : Progress). p.is_ended) fresh in absurd cc;
-  so_far = subst (λ (p : Progress). SoFar core plan p driver plan old old tally) (sym fresh)
-      (record { counted = refl; left = refl; writes = nothing_read core driver old tally begun none });
+  so_far = subst (λ (p : Progress). HasDone Done p) (sym fresh) (record { counted = refl; done = begun });
 }
 
-module _ {core : CoreForm} {sig : List PredOf} {plan : List Change} {first rest : Option (List ℕ)} {reader : Reader}
-    {driver : Driver} {changes : List Change} {old mid : Option (List ℕ)} {t : Tally} where
+module _ {core : CoreForm} {Done : List TimePoint → Type 0} {sig : List PredOf} {first rest : Option (List ℕ)}
+    {reader : Reader} where
   -- the time-points that are complete were taken
-  pub settles : {next : Reader} {after : Driver} {left : List Change} {now : Option (List ℕ)} {u : Tally}
-      → (course : Course core sig plan first rest reader driver changes old mid t)
+  pub settles : {Next : List TimePoint → Type 0} {next : Reader} {old now : Option (List ℕ)} {tally : Tally}
+      → (course : Course Done sig first rest reader)
       → next ≡ record reader { given = next.given; kept = next.kept }
-      → TakesAll core plan next course.bytes after left old now u
-      → Settled core sig plan first rest next after left old now u
-  settles {next} {now} course is all =
+      → HasDoneAll core Next next course.bytes old now tally → Settled core Next sig first rest next old now tally
+  settles {next = next} {old = old} {now = now} {tally = tally} course is all =
       let sig_is : next.sig ≡ sig = ap (λ (r : Reader). r.sig) is ∙ course.sig_is in
       let limits_is : next.limits ≡ standard = ap (λ (r : Reader). r.limits) is ∙ course.limits_is in
       let same = read_is sig next course.bytes sig_is limits_is in
@@ -144,15 +138,15 @@ module _ {core : CoreForm} {sig : List PredOf} {plan : List Change} {first rest 
         };
         all = all.all ∙ ap (λ (r : Reading). length r.points) same;
         clear = ap (λ (r : Reading). r.ending) (sym same) ∙ all.clear;
-        written = subst (λ (r : Reading). Appends old now (lines (all_verdicts core r.points))) same all.written;
-        counts = all.counts ∙ ap (λ (r : Reading). tally_of (all_verdicts core r.points)) same;
+        settles = subst (λ (r : Reading). Settles core r.points old now tally) same all.settles;
       }
 
+module _ {core : CoreForm} {Done : List TimePoint → Type 0} {sig : List PredOf} {first rest : Option (List ℕ)}
+    {reader : Reader} {old mid : Option (List ℕ)} {tally : Tally} where
   -- one chunk more was fed
-  pub one_more_chunk : {next : Reader} {more : Option (List ℕ)}
-      → Settled core sig plan first rest reader driver changes old mid t → reader.is_ended ≡ false
-      → (chunk : List ℕ) → Consumes rest more chunk → Feeds reader next rest chunk
-      → Course core sig plan first more next driver changes old mid t
+  pub one_more_chunk : {next : Reader} {more : Option (List ℕ)} → Settled core Done sig first rest reader old mid tally
+      → reader.is_ended ≡ false → (chunk : List ℕ) → Consumes rest more chunk → Feeds reader next rest chunk
+      → Course Done sig first more next
   one_more_chunk {next} {more} s untold chunk taken feeds =
       let c = s.course in
       let bytes = c.bytes ++ chunk in
@@ -181,55 +175,28 @@ module _ {core : CoreForm} {sig : List PredOf} {plan : List Change} {first rest 
             (whole_is first rest c.bytes c.taken w.0);
         so_far = record {
           counted = ap length points ∙ c.so_far.counted ∙ sym given;
-          left = c.so_far.left ∙ ap (left_by plan) (sym points);
-          writes = subst (λ ps. Writes core (entries_by plan ps) old driver mid t) (sym points) c.so_far.writes;
+          done = subst Done (sym points) c.so_far.done;
         };
       }
 
-  -- at the end of the log all of the plan that was due was read
-  pub plan_read : Settled core sig plan first rest reader driver changes old mid t → reader.is_ended ≡ true
-      → ReadsPlan sig plan first rest driver
-  plan_read s told =
-      let c = s.course in
-      let points = (reading sig standard c.bytes reader.is_ended).points in
-      let all : take reader.given (read (progress reader c.bytes)).points ≡ points =
-      ap₂ (λ n (r : Reading). take n r.points) s.all (read_is sig reader c.bytes c.sig_is c.limits_is)
-      ∙ take-length points in
-      record {
-        bytes = c.bytes;
-        taken = c.taken;
-        whole = c.whole told;
-        world = c.so_far.writes.world;
-        stands = c.so_far.writes.stands;
-        read_is = c.so_far.writes.read_is ∙ ap (entries_by plan) all
-            ∙ ap (λ b. entries_by plan (reading sig standard c.bytes b).points) told;
-      }
-
   module _ (policy : Form) (is : IsCoreOf core policy) where
-    -- what was written is a front of the text on the bytes
-    course_front : (c : Course core sig plan first rest reader driver changes old mid t)
-        → AppendsFront old mid (text_on policy (reading sig standard c.bytes reader.is_ended))
-    course_front c =
-        subst (λ (r : Reading). AppendsFront old mid (text_on policy r))
-        (read_is sig reader c.bytes c.sig_is c.limits_is) (front (begins c.reads c.so_far) policy is)
-
     -- all lines were written
-    settled_text : (s : Settled core sig plan first rest reader driver changes old mid t)
+    settled_text : (s : Settled core Done sig first rest reader old mid tally)
         → Appends old mid (text_on policy (reading sig standard s.course.bytes reader.is_ended))
     unfolding text_on
     settled_text s =
         subst (λ vs. Appends old mid (lines vs))
-        (policy_verdicts core policy is (reading sig standard s.course.bytes reader.is_ended).points) s.written
+        (policy_verdicts core policy is (reading sig standard s.course.bytes reader.is_ended).points) s.settles.text
 
-    settled_tally : (s : Settled core sig plan first rest reader driver changes old mid t)
-        → tally_on policy (reading sig standard s.course.bytes reader.is_ended) ≡ t
+    settled_tally : (s : Settled core Done sig first rest reader old mid tally)
+        → tally_on policy (reading sig standard s.course.bytes reader.is_ended) ≡ tally
     unfolding tally_on
     settled_tally s =
-        sym (s.counts
+        sym (s.settles.counts
         ∙ ap tally_of (policy_verdicts core policy is (reading sig standard s.course.bytes reader.is_ended).points))
 
     -- though more bytes come
-    longer_text : (s : Settled core sig plan first rest reader driver changes old mid t) → reader.is_ended ≡ false
+    longer_text : (s : Settled core Done sig first rest reader old mid tally) → reader.is_ended ≡ false
         → (chunk : List ℕ) → AppendsFront old mid (text_on policy (shown sig standard (s.course.bytes ++ chunk)))
     longer_text s untold chunk =
         let bytes = s.course.bytes in
@@ -239,16 +206,39 @@ module _ {core : CoreForm} {sig : List PredOf} {plan : List Change} {first rest 
         let all : Appends old mid (lines (verdicts (log_of (shown sig standard bytes).points) policy)) =
         subst (λ vs. Appends old mid (lines vs)) (policy_verdicts core policy is (shown sig standard bytes).points)
         (subst (λ b. Appends old mid (lines (all_verdicts core (reading sig standard bytes b).points))) untold
-        s.written) in
+        s.settles.text) in
         rw text.1 (longer_front old mid _ _ (whole_front old mid _ all))
+
+-- at the end of the log all of the plan that was due was read
+pub plan_read : {core : CoreForm} {sig : List PredOf} {plan : List Change} {first rest : Option (List ℕ)}
+    {reader : Reader} {driver : Driver} {changes : List Change} {old mid : Option (List ℕ)} {tally : Tally}
+    → Settled core (Routes core plan old driver changes mid tally) sig first rest reader old mid tally
+    → reader.is_ended ≡ true → ReadsPlan sig plan first rest driver
+plan_read {sig = sig} {plan = plan} {reader = reader} s told =
+    let c = s.course in
+    let points = (reading sig standard c.bytes reader.is_ended).points in
+    let all : take reader.given (read (progress reader c.bytes)).points ≡ points =
+    ap₂ (λ n (r : Reading). take n r.points) s.all (read_is sig reader c.bytes c.sig_is c.limits_is)
+    ∙ take-length points in
+    let writes = c.so_far.done.writes in
+    record {
+      bytes = c.bytes;
+      taken = c.taken;
+      whole = c.whole told;
+      world = writes.world;
+      stands = writes.stands;
+      read_is = writes.read_is ∙ ap (entries_by plan) all
+          ∙ ap (λ b. entries_by plan (reading sig standard c.bytes b).points) told;
+    }
 
 -- ---- how it ends
 
-module _ {core : CoreForm} {sig : List PredOf} {plan : List Change} (policy : Form) (is : IsCoreOf core policy)
-    (e : Effect) {reader : Reader} {driver : Driver} {changes : List Change} {t : Tally} where
+module _ {core : CoreForm} {Done : List TimePoint → Type 0} {sig : List PredOf} (policy : Form)
+    (is : IsCoreOf core policy) (e : Effect) {reader : Reader} where
   -- at the end of the log
-  pub finished : (s : Settled core sig plan e.before.rest e.after.rest reader driver changes e.old.written e.new.written
-      t) → reader.is_ended ≡ true → FollowsLog sig policy e (run_end (Ok t))
+  pub finished : {tally : Tally}
+      → (s : Settled core Done sig e.before.rest e.after.rest reader e.old.written e.new.written tally)
+      → reader.is_ended ≡ true → FollowsLog sig policy e (run_end (Ok tally))
   finished s told =
       let all = settled_text policy is s in
       record {
@@ -261,9 +251,8 @@ module _ {core : CoreForm} {sig : List PredOf} {plan : List Change} (policy : Fo
       }
 
   -- no more lines could be written, or a fault stands behind them
-  pub lines_stop : {mid : Option (List ℕ)}
-      → (c : Course core sig plan e.before.rest e.after.rest reader driver changes e.old.written mid t)
-      → (why : Stop) (before : ℕ) → e.old.faults ≤ before
+  pub lines_stop : (c : Course Done sig e.before.rest e.after.rest reader) → (why : Stop) (before : ℕ)
+      → e.old.faults ≤ before
       → StopsLines policy (read (progress reader c.bytes)) e.old.written e.new.written before e.new.faults why
       → AppendsFront e.old.written e.new.written (text_on policy (read (progress reader c.bytes)))
       → FollowsLog sig policy e (run_end (Err why))
@@ -281,8 +270,8 @@ module _ {core : CoreForm} {sig : List PredOf} {plan : List Change} (policy : Fo
       }
 
   -- the output failed behind the lines
-  pub output_failed : {mid : Option (List ℕ)} → e.new.written ≡ mid
-      → (s : Settled core sig plan e.before.rest e.after.rest reader driver changes e.old.written mid t)
+  pub output_failed : {mid : Option (List ℕ)} {tally : Tally} → e.new.written ≡ mid
+      → (s : Settled core Done sig e.before.rest e.after.rest reader e.old.written mid tally)
       → Rose e.old.faults e.new.faults → FollowsLog sig policy e (run_end (Err Sink))
   output_failed same s rose = record {
     bytes = s.course.bytes;
@@ -290,12 +279,12 @@ module _ {core : CoreForm} {sig : List PredOf} {plan : List Change} (policy : Fo
     taken = s.course.taken;
     whole = s.course.whole;
     ends = rose;
-    front = rw same (course_front policy is s.course);
+    front = rw same (whole_front _ _ _ (settled_text policy is s));
   }
 
   -- no more could be read, or fed
-  module _ {mid rest : Option (List ℕ)} (same : e.new.written ≡ mid)
-      (s : Settled core sig plan e.before.rest rest reader driver changes e.old.written mid t)
+  module _ {mid rest : Option (List ℕ)} {tally : Tally} (same : e.new.written ≡ mid)
+      (s : Settled core Done sig e.before.rest rest reader e.old.written mid tally)
       (untold : reader.is_ended ≡ false) where
     chunk_ends : (chunk : List ℕ) (before : ℕ) (why : Stop) → e.before.faults ≤ before
         → IsChunkStop chunk before e.after.faults why

@@ -1,5 +1,6 @@
 -- The time-points that a reader gives, and what is done with them.
-use Rattle.std.proofs.Common.{◌≡◌, ◌∙◌, ap, subst, sym, refl, ℕ, ◌+◌, ◌<◌, ◌≤◌, ◌^◌, arith, List, [], ◌∷◌, ◌++◌, length, take}
+use Rattle.std.proofs.Common.{◌≡◌, ◌∙◌, ap, subst, sym, refl, ℕ, ◌+◌, ◌<◌, ◌≤◌, ◌^◌, arith}
+use Rattle.std.proofs.Common.{List, [], ◌∷◌, ◌++◌, length, take}
 use Rattle.std.proofs.Common.{drop, Option, add-one, length-append}
 use Rattle.std.specs.Prelude.{Result, Ok, Err}
 use Rattle.std.proofs.lemmas.List.{take-append-drop}
@@ -17,9 +18,8 @@ use Rattle.log_reader.specs.declared.next.Next.{Next}
 use Rattle.log_reader.specs.declared.next.Next.TheVariants.{Point, More, End}
 use Rattle.monitorable.specs.CoreForms.{CoreForm}
 use Rattle.rescale_core.specs.Workers.{MayFollow}
-use Rattle.worker_pool.specs.Alone.{Settles}
 use Rattle.worker_pool.specs.Chunks.{StopsLines, stop_for}
-use Rattle.worker_pool.specs.Courses.{HasDone, HasDoneAll}
+use Rattle.worker_pool.specs.Courses.{HasDone, HasDoneAll, Settles}
 use Rattle.worker_pool.specs.Policies.{ForEachPolicy}
 use Rattle.worker_pool.specs.Texts.{lines, text_on}
 use Rattle.worker_pool.specs.Writing.{Falls}
@@ -44,6 +44,15 @@ pub record IsAmid (Done : List TimePoint → Type 0) (start : Progress) (reader 
   pub reads : Reads reader start.bytes
   pub reader_is : progress reader start.bytes ≡ record start { given = reader.given }
   pub so_far : HasDone Done (record start { given = reader.given })
+
+-- what was done stays done, in another way
+pub still_amid : {Done More : List TimePoint → Type 0} {start : Progress} {reader : Reader}
+    → IsAmid Done start reader → ((points : List TimePoint) → Done points → More points) → IsAmid More start reader
+still_amid amid keeps = record {
+  reads = amid.reads;
+  reader_is = amid.reader_is;
+  so_far = record { counted = amid.so_far.counted; done = keeps _ amid.so_far.done };
+}
 
 -- as many as were given before
 pub is_amid : {Done : List TimePoint → Type 0} {reader : Reader} {bytes : List ℕ} → Reads reader bytes
@@ -98,7 +107,8 @@ module _ {Done : List TimePoint → Type 0} {start : Progress} {reader : Reader}
     -- it was done with
     pub one_done : {More : List TimePoint → Type 0} {next : Reader}
         → next ≡ record reader { given = reader.given + 1; kept = next.kept } → Reads next start.bytes
-        → ((points : List TimePoint) → MayFollow points point → Done points → More (points ++ point ∷ []))
+        → ((points : List TimePoint) → length points ≡ reader.given → MayFollow points point → Done points
+        → More (points ++ point ∷ []))
         → IsAmid More start next
     one_done {More} {next} next_is reads does =
         let ps : List TimePoint = (read start).points in
@@ -114,7 +124,7 @@ module _ {Done : List TimePoint → Type 0} {start : Progress} {reader : Reader}
           so_far = record {
             counted = ap length one ∙ length-append (take n ps) (point ∷ []) ∙ ap (λ k. k + 1) amid.so_far.counted
                 ∙ sym one_given;
-            done = subst More (sym one) (does (take n ps) may_follow amid.so_far.done);
+            done = subst More (sym one) (does (take n ps) amid.so_far.counted may_follow amid.so_far.done);
           };
         }
 
@@ -144,14 +154,12 @@ module _ {Done : List TimePoint → Type 0} {start : Progress} {reader : Reader}
         sym amid.so_far.counted ∙ ap (λ (ps : List TimePoint). length ps) (none_left g settles) in
         let points : (read start).points ≡ (read (progress next start.bytes)).points =
         ap (λ (p : Progress). (read p).points) (sym is) in
-        let all = subst (λ ps. Settles core ps old now tally) points (all_settled g settles) in
         record {
           reads = reads;
           so_far = subst (HasDone Done) (sym is) amid.so_far;
           all = ap (λ (p : Progress). p.given) is ∙ count ∙ ap (λ (ps : List TimePoint). length ps) points;
           clear = ap (λ (p : Progress). (read p).ending) is ∙ g.ending_is;
-          written = all.text;
-          counts = all.counts;
+          settles = subst (λ ps. Settles core ps old now tally) points (all_settled g settles);
         }
 
     pub done_for_more : {next : Reader} → next ≡ record reader { kept = next.kept } → Reads next start.bytes

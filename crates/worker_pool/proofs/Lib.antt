@@ -8,9 +8,9 @@ pub mod EntryLemmas
 pub mod ChangeLemmas
 pub mod PlanLaws
 pub mod PointLemmas
-pub mod ChunkLemmas
 pub mod GivenPoints
-pub mod CourseLemmas
+pub mod RoutedPoints
+pub mod ChunkLemmas
 pub mod AloneLemmas
 pub mod HandLemmas
 pub mod DealLemmas

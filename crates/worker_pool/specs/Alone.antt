@@ -14,16 +14,10 @@ use Rattle.monitor_state.specs.MonitorView.{monitor_of}
 use Rattle.monitor_state.specs.Stands.{StateOf, Stands}
 use Rattle.monitor_state.specs.declared.monitor.Monitor.{Monitor}
 use Rattle.rescale_core.specs.Workers.{IsEvaluable, MayFollow, settled_in}
-use Rattle.worker_pool.specs.Courses.{HasDone}
+use Rattle.worker_pool.specs.Courses.{HasDone, Settles}
 use Rattle.worker_pool.specs.Texts.{lines, tally_of}
-use Rattle.worker_pool.specs.Writing.{all_verdicts, first_verdicts}
+use Rattle.worker_pool.specs.Writing.{first_verdicts}
 use Rattle.worker_pool.specs.declared.tally.Tally.{Tally}
-
--- since `start` the lines of the verdicts on all settled positions were written, and these were counted
-pub record Settles (core : CoreForm) (points : List TimePoint) (start now : Option (List ℕ)) (tally : Tally)
-    : Type 0 where
-  pub text : Appends start now (lines (all_verdicts core points))
-  pub counts : tally ≡ tally_of (all_verdicts core points)
 
 -- The monitor is one of this core and stands for these time-points, in the region of all rows, and the lines of all
 -- verdicts on them were written and counted.

@@ -1,17 +1,17 @@
 -- How far the monitoring of a log has come that is read in chunks.
-use Rattle.std.specs.Prelude.{◌≡◌, ℕ, true, List, [], ◌++◌, length, take, Option, Result, IfErr, IfSome, OnOk}
+use Rattle.std.specs.Prelude.{◌≡◌, ℕ, true, List, [], ◌++◌, Option, Result, IfErr, IfSome, OnOk}
 use Rattle.std.specs.Prelude.{Ok, Err}
 use Rattle.std.specs.Io.KnownBytes.{IsAtEnd}
 use Rattle.mon_outside.specs.Causes.{Rose}
 use Rattle.mon_outside.specs.Inputs.{Consumes}
 use Rattle.mon_outside.specs.Sink.{Appends}
 use Rattle.mfotl_model.specs.Formulas.{Form}
+use Rattle.mfotl_model.specs.declared.event.TimePoint.{TimePoint}
 use Rattle.mfotl_sig.specs.Preds.{PredOf}
 use Rattle.monitorable.specs.CoreForms.{CoreForm}
 use Rattle.log_reader.specs.Limits.{standard}
-use Rattle.log_reader.specs.Progress.{Progress, read}
 use Rattle.log_reader.specs.Readers.{ForEach, Reader, Reads, progress}
-use Rattle.log_reader.specs.Readings.{Fault, NoFault, Reading, accepted}
+use Rattle.log_reader.specs.Readings.{Fault, Reading, accepted}
 use Rattle.log_reader.specs.declared.fault.LogFault.{LogFault}
 use Rattle.log_reader.specs.declared.fault.LogFault.TheVariants as log
 use Rattle.rescale_core.specs.Moving.{IsDriverOf}
@@ -19,8 +19,9 @@ use Rattle.rescale_core.specs.Worlds.{World}
 use Rattle.rescale_core.specs.declared.driver.Driver.{Driver}
 use Rattle.slice_strategy.specs.declared.change.Change.{Change}
 use Rattle.worker_pool.specs.Changes.{entries_by, left_by}
-use Rattle.worker_pool.specs.Texts.{lines, tally_of, text_on}
-use Rattle.worker_pool.specs.Writing.{IsOutputStop, Writes, all_verdicts}
+use Rattle.worker_pool.specs.Courses.{HasDone}
+use Rattle.worker_pool.specs.Texts.{text_on}
+use Rattle.worker_pool.specs.Writing.{IsOutputStop, Writes}
 use Rattle.worker_pool.specs.declared.end.End.{End}
 use Rattle.worker_pool.specs.declared.end.End.TheVariants.{Finished, LogEnds, ReadFailed, SinkFailed}
 use Rattle.worker_pool.specs.declared.end.End.TheVariants as end
@@ -43,13 +44,12 @@ stop_for fault = Log fault
 
 -- ---- the time-points of the bytes so far
 
--- The time-points that were given were read, just before each the changes of the plan that were due, and the lines of
--- what was emitted were written; these changes are to come.
-pub record SoFar (core : CoreForm) (plan : List Change) (r : Progress) (driver : Driver) (changes : List Change)
-    (old new : Option (List ℕ)) (tally : Tally) : Type 0 where
-  pub counted : length (take r.given (read r).points) ≡ r.given
-  pub left : changes ≡ left_by plan (take r.given (read r).points)
-  pub writes : Writes core (entries_by plan (take r.given (read r).points)) old driver new tally
+-- These time-points were read, just before each the changes of the plan that were due, and the lines of what was
+-- emitted were written; these changes are to come.
+pub record Routes (core : CoreForm) (plan : List Change) (old : Option (List ℕ)) (driver : Driver)
+    (changes : List Change) (new : Option (List ℕ)) (tally : Tally) (points : List TimePoint) : Type 0 where
+  pub left : changes ≡ left_by plan points
+  pub writes : Writes core (entries_by plan points) old driver new tally
 
 -- the reader was fed some bytes, of which the time-points that it gave were read
 pub record IsUnderWay (reader : Reader) (driver : Driver) (changes : List Change) (now : Option (List ℕ))
@@ -59,7 +59,7 @@ pub record IsUnderWay (reader : Reader) (driver : Driver) (changes : List Change
   pub bytes : List ℕ
   pub start : Option (List ℕ)
   pub reads : Reads reader bytes
-  pub so_far : SoFar core plan (progress reader bytes) driver changes start now tally
+  pub so_far : HasDone (Routes core plan start driver changes now tally) (progress reader bytes)
 
 -- whatever the core, the plan, the bytes that the reader may have been fed, and what stood in the output before the
 -- lines
@@ -67,17 +67,7 @@ abbrev pub ForEachRun : Reader → Driver → List Change → Option (List ℕ) 
     → (CoreForm → List Change → List ℕ → Option (List ℕ) → Type 0) → Type 0
 ForEachRun reader driver changes now tally P =
     (core : CoreForm) (plan : List Change) (bytes : List ℕ) (start : Option (List ℕ)) → Reads reader bytes
-    → SoFar core plan (progress reader bytes) driver changes start now tally → P core plan bytes start
-
--- all time-points that the bytes show were read, all their lines written and counted, and the bytes show no fault
-pub record TakesAll (core : CoreForm) (plan : List Change) (reader : Reader) (bytes : List ℕ) (driver : Driver)
-    (changes : List Change) (old new : Option (List ℕ)) (tally : Tally) : Type 0 where
-  pub reads : Reads reader bytes
-  pub so_far : SoFar core plan (progress reader bytes) driver changes old new tally
-  pub all : reader.given ≡ length (read (progress reader bytes)).points
-  pub clear : (read (progress reader bytes)).ending ≡ NoFault
-  pub written : Appends old new (lines (all_verdicts core (read (progress reader bytes)).points))
-  pub counts : tally ≡ tally_of (all_verdicts core (read (progress reader bytes)).points)
+    → HasDone (Routes core plan start driver changes now tally) (progress reader bytes) → P core plan bytes start
 
 -- The log was read to its end, and just before each of its time-points the changes of the plan that were due then.
 pub record ReadsPlan (sig : List PredOf) (plan : List Change) (before after : Option (List ℕ)) (driver : Driver)

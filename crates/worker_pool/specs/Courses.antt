@@ -10,6 +10,12 @@ use Rattle.worker_pool.specs.Texts.{lines, tally_of}
 use Rattle.worker_pool.specs.Writing.{all_verdicts}
 use Rattle.worker_pool.specs.declared.tally.Tally.{Tally}
 
+-- since `start` the lines of the verdicts on all settled positions were written, and these were counted
+pub record Settles (core : CoreForm) (points : List TimePoint) (start now : Option (List ℕ)) (tally : Tally)
+    : Type 0 where
+  pub text : Appends start now (lines (all_verdicts core points))
+  pub counts : tally ≡ tally_of (all_verdicts core points)
+
 -- it was done with the time-points that were given
 pub record HasDone (Done : List TimePoint → Type 0) (r : Progress) : Type 0 where
   pub counted : length (take r.given (read r).points) ≡ r.given
@@ -23,5 +29,4 @@ pub record HasDoneAll (core : CoreForm) (Done : List TimePoint → Type 0) (read
   pub so_far : HasDone Done (progress reader bytes)
   pub all : reader.given ≡ length (read (progress reader bytes)).points
   pub clear : (read (progress reader bytes)).ending ≡ NoFault
-  pub written : Appends old new (lines (all_verdicts core (read (progress reader bytes)).points))
-  pub counts : tally ≡ tally_of (all_verdicts core (read (progress reader bytes)).points)
+  pub settles : Settles core (read (progress reader bytes)).points old new tally

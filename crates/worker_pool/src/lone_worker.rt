@@ -7,8 +7,8 @@ ghost use Rattle.monitor_state.specs.MonitorView.{monitor_of};
 ghost use Rattle.relations.specs.Tables.{IsTable};
 ghost use Rattle.rescale_core.specs.Settlings.{IsKept};
 ghost use Rattle.rescale_core.specs.Workers.{IsEvaluable};
-ghost use Rattle.worker_pool.specs.Alone.{ForEachDebt, ForEachNext, HasTakenNone, MayTakeAlone, Settles};
-ghost use Rattle.worker_pool.specs.Alone.{WritesAlone, told_of};
+ghost use Rattle.worker_pool.specs.Alone.{ForEachDebt, ForEachNext, HasTakenNone, MayTakeAlone, WritesAlone, told_of};
+ghost use Rattle.worker_pool.specs.Courses.{Settles};
 ghost use Rattle.worker_pool.specs.Texts.{tally_of};
 ghost use Rattle.worker_pool.specs.Writing.{Falls, IsOutputStop};
 

@@ -5,7 +5,8 @@ ghost use Rattle.log_reader.specs.Progress.{read};
 ghost use Rattle.log_reader.specs.Readers.{progress};
 ghost use Rattle.turn_hub.specs.Ends.{IsMainOf, cell_count};
 ghost use Rattle.worker_pool.specs.Changes.{HaveCells, Suits};
-ghost use Rattle.worker_pool.specs.Chunks.{ForEachRun, IsUnderWay, StopsLines, TakesAll};
+ghost use Rattle.worker_pool.specs.Chunks.{ForEachRun, IsUnderWay, Routes, StopsLines};
+ghost use Rattle.worker_pool.specs.Courses.{HasDoneAll};
 ghost use Rattle.worker_pool.specs.Hands.{AreHandsOf};
 ghost use Rattle.worker_pool.specs.Policies.{ForEachPolicy};
 ghost use Rattle.worker_pool.specs.Texts.{text_on};
@@ -60,8 +61,9 @@ pub(crate) fn route_complete<R: Wait, O: Sink, G: Gate>(
     ensures reader { OnOk result (reader.new
         ≡ record reader.old { given = reader.new.given; kept = reader.new.kept }) }
     ensures ok { OnOk result (ForEachRun reader.old driver.old schedule.old.changes.items (O.written out.old)
-        writer.old.tally (λ core plan bytes start. TakesAll core plan reader.new bytes driver.new
-        schedule.new.changes.items start (O.written out.new) writer.new.tally)) }
+        writer.old.tally (λ core plan bytes start. HasDoneAll core (Routes core plan start driver.new
+        schedule.new.changes.items (O.written out.new) writer.new.tally) reader.new bytes start
+        (O.written out.new) writer.new.tally)) }
     ensures stops { IfErr result (λ stop. ForEachRun reader.old driver.old schedule.old.changes.items
         (O.written out.old) writer.old.tally (λ core plan bytes start. ForEachPolicy core (λ policy. StopsLines policy
         (read (progress reader.old bytes)) start (O.written out.new) (O.faults out.old) (O.faults out.new) stop))) }

@@ -3,8 +3,8 @@ use Rattle.log_reader.specs.Progress.{Progress}
 use Rattle.log_reader.specs.Readers.{Reader}
 use Rattle.log_reader.specs.declared.limits.Limits.{Limits}
 use Rattle.worker_pool.specs.Effects.{effect}
-use Rattle.worker_pool.proofs.CourseLemmas.{chunk_failed, course_begins, finished, lines_stop, one_more_chunk}
-use Rattle.worker_pool.proofs.CourseLemmas.{output_failed, settles}
+use Rattle.worker_pool.proofs.ChunkLemmas.{chunk_failed, course_begins, finished, lines_stop, one_more_chunk}
+use Rattle.worker_pool.proofs.ChunkLemmas.{output_failed, settles}
 use Rattle.worker_pool.proofs.PointLemmas.{rose_later}
 use Rattle.worker_pool.proofs.alone.follow_with.Goals as goal
 

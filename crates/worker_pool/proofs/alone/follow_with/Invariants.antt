@@ -1,7 +1,7 @@
 use Rattle.std.proofs.Common.{◌≡◌, ◌≤◌, ◌<◌, false, length}
 use Rattle.monitorable.specs.CoreForms.{CoreForm}
 use Rattle.worker_pool.specs.Alone.{HasTakenNone, WritesAlone}
-use Rattle.worker_pool.proofs.CourseLemmas.{Course}
+use Rattle.worker_pool.proofs.ChunkLemmas.{Course}
 use Rattle.worker_pool.proofs.alone.follow_with.Given as goal
 
 abbrev pub invariant-chunks : goal.invariant-chunks

@@ -83,7 +83,7 @@ points-preserved g c =
           let here = inv.so_far core bytes start reads so_far in
           let gives = rw c.in-Ok-Point.field-0-is at (c.in-Ok-Point.ensures.answer bytes here.reads) in
           one_done here c.in-Ok-Point.point gives room after (reads_on bytes here.reads)
-          (λ points follows w. c.in_ok-take-in-Ok-Point.ensures.ok core start points follows w);
+          (λ points counted follows w. c.in_ok-take-in-Ok-Point.ensures.ok core start points follows w);
       can = tt;
       finite = tt;
     }

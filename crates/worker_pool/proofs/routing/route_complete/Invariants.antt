@@ -2,9 +2,9 @@ use Rattle.std.proofs.Common.{◌≡◌, ◌≤◌, false}
 use Rattle.log_reader.specs.Readers.{progress}
 use Rattle.turn_hub.specs.Ends.{IsMainOf}
 use Rattle.worker_pool.specs.Changes.{HaveCells, Suits}
-use Rattle.worker_pool.specs.Chunks.{ForEachRun}
+use Rattle.worker_pool.specs.Chunks.{ForEachRun, Routes}
 use Rattle.worker_pool.specs.Hands.{AreHandsOf}
-use Rattle.worker_pool.proofs.PointLemmas.{Takes}
+use Rattle.worker_pool.proofs.GivenPoints.{IsAmid}
 use Rattle.worker_pool.proofs.routing.route_complete.Given as goal
 
 abbrev pub invariant-points : goal.invariant-points
@@ -18,8 +18,8 @@ invariant-points g l = record {
   seated : HaveCells l.context.cells l.schedule;
   routed : l.schedule.routed ≡ l.reader.given;
   so_far : ForEachRun l.fn.reader l.fn.driver l.fn.schedule.changes.items (g.O.Sink.written l.fn.out)
-      l.fn.writer.tally (λ core plan bytes start. Takes core plan (progress l.fn.reader bytes) l.reader l.driver
-      l.schedule.changes.items start (g.O.Sink.written l.out) l.writer.tally);
+      l.fn.writer.tally (λ core plan bytes start. IsAmid (Routes core plan start l.driver l.schedule.changes.items
+      (g.O.Sink.written l.out) l.writer.tally) (progress l.fn.reader bytes) l.reader);
   can : (goal.iterator-points g).can_next l.iterator';
   finite : (goal.iterator-points g).is_finite l.iterator';
 }

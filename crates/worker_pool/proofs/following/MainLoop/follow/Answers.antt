@@ -6,6 +6,7 @@ use Rattle.worker_pool.specs.Effects.{effect}
 use Rattle.worker_pool.proofs.ChunkLemmas.{chunk_failed, course_begins, finished, lines_stop, one_more_chunk}
 use Rattle.worker_pool.proofs.ChunkLemmas.{output_failed, plan_read, settles}
 use Rattle.worker_pool.proofs.PointLemmas.{rose_later}
+use Rattle.worker_pool.proofs.RoutedPoints.{routes_none}
 use Rattle.worker_pool.proofs.following.MainLoop.follow.Goals as goal
 
 pub chunks-init : goal.chunks-init
@@ -27,9 +28,9 @@ chunks-init g c = record {
   asks_nothing = refl;
   later = omega arith;
   later_out = omega arith;
-  course = λ core begins. course_begins c.args.self.now.schedule.now.changes.items
-      (g.I.Inputs.rest c.args.self.now.inputs.now) (g.O.Sink.written c.args.self.now.out.now) c.requires.fresh
-      c.requires.reads begins c.new-writer.ensures;
+  course = λ core begins. course_begins (g.I.Inputs.rest c.args.self.now.inputs.now) c.requires.fresh c.requires.reads
+      (routes_none c.args.self.now.schedule.now.changes.items (g.O.Sink.written c.args.self.now.out.now) begins
+      c.new-writer.ensures);
   can = tt;
   finite = tt;
 }

@@ -2,6 +2,7 @@ use Rattle.std.proofs.Common.{◌≡◌, ◌≤◌, ◌<◌, false, length}
 use Rattle.monitorable.specs.CoreForms.{CoreForm}
 use Rattle.turn_hub.specs.Ends.{IsMainOf}
 use Rattle.worker_pool.specs.Changes.{HaveCells, Suits}
+use Rattle.worker_pool.specs.Chunks.{Routes}
 use Rattle.worker_pool.specs.Hands.{AreHandsOf}
 use Rattle.worker_pool.specs.Writing.{HasReadNothing}
 use Rattle.worker_pool.proofs.ChunkLemmas.{Course}
@@ -27,9 +28,9 @@ invariant-chunks g l = record {
   later : g.I.Inputs.faults l.fn.self.inputs.now ≤ g.I.Inputs.faults l.self.inputs.now;
   later_out : g.O.Sink.faults l.fn.self.out.now ≤ g.O.Sink.faults l.self.out.now;
   course : (core : CoreForm) → HasReadNothing core l.fn.self.driver.now
-      → Course core l.fn.self.log.now.sig l.fn.self.schedule.now.changes.items (g.I.Inputs.rest l.fn.self.inputs.now)
-      (g.I.Inputs.rest l.self.inputs.now) l.self.log.now l.self.driver.now l.self.schedule.now.changes.items
-      (g.O.Sink.written l.fn.self.out.now) (g.O.Sink.written l.self.out.now) l.writer.tally;
+      → Course (Routes core l.fn.self.schedule.now.changes.items (g.O.Sink.written l.fn.self.out.now) l.self.driver.now
+      l.self.schedule.now.changes.items (g.O.Sink.written l.self.out.now) l.writer.tally) l.fn.self.log.now.sig
+      (g.I.Inputs.rest l.fn.self.inputs.now) (g.I.Inputs.rest l.self.inputs.now) l.self.log.now;
   can : (goal.iterator-chunks g).can_next l.iterator';
   finite : (goal.iterator-chunks g).is_finite l.iterator';
 }
