@@ -1,6 +1,6 @@
-use Rattle.std.proofs.Common.{◌∙◌, ap, arith, refl, take}
+use Rattle.std.proofs.Common.{◌≡◌, ◌∙◌, ◌+◌, ap, arith, refl, subst, sym, take}
 use Rattle.log_reader.specs.Progress.{read}
-use Rattle.log_reader.specs.Readers.{Reader, progress}
+use Rattle.log_reader.specs.Readers.{Reader, Reads, progress}
 use Rattle.worker_pool.proofs.AloneLemmas.{falls_none}
 use Rattle.worker_pool.proofs.GivenPoints.{done_at_end, done_for_more, few_before, front_amid, front_behind_one}
 use Rattle.worker_pool.proofs.GivenPoints.{is_amid, may_follow, one_done, stops_at}
@@ -71,18 +71,22 @@ returns-in-Ok-End-clause-front g c core bytes start reads so_far =
 pub points-preserved : goal.points-preserved
 points-preserved g c =
     let inv = c.points.invariant in
-    let after = rw c.in-Ok-Point.field-0-is at c.in-Ok-Point.ensures.after in
-    let reads_on = c.in-Ok-Point.ensures.reads in
-    let room = few_before c.args.reader.now c.points.reader c.next-in-points.new.self inv.reader after
+    let gave = rw c.in-Ok-Point.field-0-is at c.in-Ok-Point.ensures.after in
+    let room = few_before c.args.reader.now c.points.reader c.next-in-points.new.self inv.reader gave
     c.in-Ok-Point.ensures.few c.requires.few in
+    let back : c.next-in-points.new.self ≡ c.take_back.new.self = sym c.take_back.ensures in
+    let after : c.take_back.new.self
+    ≡ record c.points.reader { given = c.points.reader.given + 1; kept = c.take_back.new.self.kept } =
+    subst (λ (r : Reader). r ≡ record c.points.reader { given = c.points.reader.given + 1; kept = r.kept }) back gave in
     record {
       works = ap (λ (r : Reader). r.is_broken) after ∙ inv.works;
-      reader = one_more_given c.args.reader.now c.points.reader c.next-in-points.new.self inv.reader after;
+      reader = one_more_given c.args.reader.now c.points.reader c.take_back.new.self inv.reader after;
       later = omega (arith, inv.later, c.take.ensures.later);
       so_far = λ core bytes start reads so_far.
           let here = inv.so_far core bytes start reads so_far in
           let gives = rw c.in-Ok-Point.field-0-is at (c.in-Ok-Point.ensures.answer bytes here.reads) in
-          one_done here c.in-Ok-Point.point gives room after (reads_on bytes here.reads)
+          one_done here c.in-Ok-Point.point gives room after
+          (subst (λ (r : Reader). Reads r bytes) back (c.in-Ok-Point.ensures.reads bytes here.reads))
           (λ points counted follows w. c.in_ok-take-in-Ok-Point.ensures.ok core start points follows w);
       can = tt;
       finite = tt;
