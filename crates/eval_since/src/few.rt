@@ -1,5 +1,6 @@
 //! A few rows with the times kept for them, each found by looking at them in turn.
-ghost use Rattle.std.specs.Prelude.{◌≡◌, ◌||◌, ◌&&◌, ◌==◌, ◌∷◌, ◌<◌, [], IfOk, List, OnOk, cond, length, nat_lt, position};
+ghost use Rattle.std.specs.Prelude.{◌≡◌, ◌||◌, ◌&&◌, ◌==◌, ◌∷◌, ◌<◌, [], IfOk, List, OnOk, cond};
+ghost use Rattle.std.specs.Prelude.{length, nat_lt, position};
 ghost use Rattle.std.specs.BTreeMap.{is_at};
 ghost use Rattle.std.specs.Option.{is_some, option_or};
 ghost use Rattle.mfotl_model.specs.Tables.{has_row, part};

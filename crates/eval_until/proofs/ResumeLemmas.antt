@@ -38,7 +38,8 @@ named_own (r ∷ rs) u = by (is_at (row_cmp u) r.0) refl (named_own rs u)
         → list_all (λ e. is_recalled (r ∷ rs) u e.place) (unwrap_or (cond b (Some r.1) (kept_for rs u)) []) ≡ true
     by true at rest = all_own (λ (e : Entry). e.place) (is_recalled (r ∷ rs) u) r.1 (λ j there.
         or_left (own j) (is_recalled rs u j)
-        (any_with (λ (e : Entry). e.place) (has_row (r.0 ∷ []) u) j r.1 (or_left (is_at (row_cmp u) r.0) false at) there))
+        (any_with (λ (e : Entry). e.place) (has_row (r.0 ∷ []) u) j r.1
+        (or_left (is_at (row_cmp u) r.0) false at) there))
     by false at rest =
         all_weaker (λ (e : Entry). is_recalled rs u e.place) (λ (e : Entry). is_recalled (r ∷ rs) u e.place)
         (list_for rs u) (λ e there. or_right (own e.place) (is_recalled rs u e.place) there) rest

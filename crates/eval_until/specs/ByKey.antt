@@ -13,7 +13,8 @@ pub record KeyedRows : Type 0 where
 
 -- whether a row over the columns `right` is listed by its own part; where rows are found by no columns, none need be
 abbrev pub is_listed : List ℕ → KeyedRows → List Value → Bool
-is_listed right keyed u = nat_eq (length keyed.columns) 0 || has_row (list_for keyed.sets (part right keyed.columns u)) u
+is_listed right keyed u =
+    nat_eq (length keyed.columns) 0 || has_row (list_for keyed.sets (part right keyed.columns u)) u
 
 -- each row that has entries is listed; others may be, too
 abbrev pub Listed : List ℕ → KeyedRows → List (List Value × List Entry) → Type 0

@@ -156,8 +156,8 @@ module _ (w : World) (sound : IsSound w) (i : ℕ) where
       x.log log x.point p sound.read x.is is low2 high2 low high in
       let s_is : x.strategy ≡ s = cc in
       let g_is : r.generation ≡ g = cc in
-      let final = slice_final w.core sound.first.evaluable.fits w.read (first_spot w.first) i (length x.log) r.generation
-      x.strategy x.log x.point sound.read x.is high2 in
+      let final = slice_final w.core sound.first.evaluable.fits w.read (first_spot w.first) i (length x.log)
+      r.generation x.strategy x.log x.point sound.read x.is high2 in
       record {
         ts = ap (λ (y : Rows). y.ts) x.row ∙ ap (λ n. slice_index (times (x.log ++ x.point ∷ [])) n) at ∙ final.1;
         rows = ap (λ (y : Rows). y.rows) x.row

@@ -115,7 +115,8 @@ module _ (c : CoreForm) (s : Strategy) (k : ℕ) (log : List TimePoint) (i : ℕ
   inside row size holds =
       row_within vars row dom (fv_apart (meaning c)) size
       (λ y m.
-      (domain log dom (λ y. []) c (is.evaluable.fits (λ y. [])) (has_log log (meaning c)) (has_constants log (meaning c))
+      (domain log dom (λ y. []) c (is.evaluable.fits (λ y. [])) (has_log log (meaning c))
+      (has_constants log (meaning c))
       (valuation vars row) i).0 dom y holds m)
 
   member : (row : List Value)

@@ -67,7 +67,8 @@ module _ {P : Type 0} (give : P → P) where
   -- the next one is given it
   pub given_next : (test : ℕ → Bool) (from k next : ℕ) (parts : List P) (other : P) → from ≤ k → k < length parts
       → k < next → test k ≡ true → NoneFrom from k test → NoneFrom (k + 1) next test
-      → set (given_to give (up_to test from) 0 parts) k (give (get_or (given_to give (up_to test from) 0 parts) k other))
+      → set (given_to give (up_to test from) 0 parts) k
+      (give (get_or (given_to give (up_to test from) 0 parts) k other))
       ≡ given_to give (up_to test next) 0 parts
   given_next test from k next parts other high low up is before behind =
       given_at (up_to test from) (up_to test next) 0 k parts other low out inside

@@ -28,6 +28,7 @@ returns-clause-all c = λ test.
 
 pub returns-clause-rising : goal.returns-clause-rising
 returns-clause-rising c =
-    subst Rising (sym c.from_vec.ensures.items) (rises_from (λ (q : Taken). q.place) c.sort_unstable_by_key.new.self.items
+    subst Rising (sym c.from_vec.ensures.items)
+    (rises_from (λ (q : Taken). q.place) c.sort_unstable_by_key.new.self.items
     (IsNonDecreasingBy-from_sort_by_key (λ (q : Taken). q.place) c.sort_unstable_by_key.new.self.items
     c.sort_unstable_by_key.ensures.sorted (λ a r q k. search rules)))

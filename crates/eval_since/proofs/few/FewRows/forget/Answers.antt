@@ -48,7 +48,8 @@ invariant_of-self-else-is_empty c =
 pub returns-else-is_empty-clause-times : goal.returns-else-is_empty-clause-times
 returns-else-is_empty-clause-times c = rw (← c.self.view_is) (
     let row = c.args.row.now in
-    list_written row (recent c.args.hi c.args.now) c.self.inside.rows.items c.in-Some.place c.index_mut.result.now c.forget.new.self
+    list_written row (recent c.args.hi c.args.now) c.self.inside.rows.items c.in-Some.place c.index_mut.result.now
+    c.forget.new.self
     (ap (position (is_its row)) (sym c.as_slice.ensures.value) ∙ sym c.in-Some.ensures) c.index_mut.ensures.value
     c.forget.ensures)
 

@@ -9,7 +9,8 @@ pub invariant_of-self : goal.invariant_of-self
 invariant_of-self c =
     let row = c.args.row in
     written_differ row c.self.inside.rows.items c.in-Some.place c.index_mut.result.now c.args.times
-    (ap (position (is_its row)) (sym c.as_slice.ensures.value) ∙ sym c.in-Some.ensures) c.index_mut.ensures.value c.self.invariant
+    (ap (position (is_its row)) (sym c.as_slice.ensures.value) ∙ sym c.in-Some.ensures) c.index_mut.ensures.value
+    c.self.invariant
 
 pub returns-in-Some-clause-times : goal.returns-in-Some-clause-times
 returns-in-Some-clause-times c = rw (← c.self.view_is) (

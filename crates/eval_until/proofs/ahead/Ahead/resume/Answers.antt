@@ -17,7 +17,8 @@ invariant_of-result c =
           (keeps_resumed c.args.negated c.args.right.items c.args.pulled c.args.taken c.args.starts.entries
           c.args.rows.entries c.in_ok-queue.queue.items c.requires.apart c.requires.sized c.requires.some
           c.requires.waiting c.requires.ascend c.requires.below c.requires.above c.in_ok-queue.ensures.ascend
-          c.in_ok-queue.ensures.starts c.in_ok-queue.ensures.names c.in_ok-queue.ensures.breaks c.in_ok-queue.ensures.all c.in_ok-queue.ensures.rising);
+          c.in_ok-queue.ensures.starts c.in_ok-queue.ensures.names c.in_ok-queue.ensures.breaks
+          c.in_ok-queue.ensures.all c.in_ok-queue.ensures.rising);
       listed = none_listed c.args.right.items c.new-by_key.result c.in_ok-rows.rows.entries
           (ap (λ (keyed : KeyedRows). keyed.columns) c.new-by_key.ensures ∙ c.new.ensures.items);
     }
