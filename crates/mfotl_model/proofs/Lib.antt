@@ -2,6 +2,7 @@ pub mod LogicLemmas
 pub mod AscendingLemmas
 pub mod RowLemmas
 pub mod SortedLemmas
+pub mod TextLemmas
 pub mod EventLemmas
 pub mod RunLemmas
 pub mod VariableLemmas

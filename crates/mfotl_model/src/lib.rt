@@ -15,6 +15,7 @@ mod policy;
 mod row;
 mod term;
 mod text;
+mod text_order;
 mod value;
 mod variables;
 mod verdict_text;

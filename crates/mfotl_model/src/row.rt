@@ -185,6 +185,18 @@ fn by_values(left: &Row, right: &Row) -> Ordering
     left.values().cmp(right.values())
 }
 
+// The order of two rows of two values.
+#[inline(never)]
+fn by_pair(left: &[Value; 2], right: &[Value; 2]) -> Ordering
+    ensures { result ≡ row_cmp left.now right.now }
+{
+    let ([left, last], [right, end]) = (left, right);
+    match left.cmp(right) {
+        Ordering::Equal => last.cmp(end),
+        unequal => unequal,
+    }
+}
+
 impl PartialEq for Row {
     ghost eq = { eq_by_cmp row_cmp };
 
@@ -223,7 +235,7 @@ impl Ord for Row {
 
     ghost matches_eq = { λ x y. refl };
 
-    // Most rows have no value, one or two integers, and are compared often: then no list is walked.
+    // Most rows have up to two values, and are compared often: then no list is walked, and for integers nothing called.
     fn cmp(&self, other: &Row) -> Ordering {
         match (&self.held, &other.held) {
             (Held::Zero, Held::Zero) => Ordering::Equal,
@@ -234,6 +246,7 @@ impl Ord for Row {
                     Ordering::Equal => last.cmp(end),
                     unequal => unequal,
                 },
+            (Held::Two(left), Held::Two(right)) => by_pair(left, right),
             _ => by_values(self, other),
         }
     }

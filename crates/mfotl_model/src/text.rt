@@ -5,6 +5,7 @@ ghost use Rattle.std.specs.Ordering.{as_partial_cmp, eq_by_cmp};
 ghost use Rattle.mfotl_model.specs.Hashes.{text_writes, texts_alike};
 ghost use Rattle.mfotl_model.specs.Values.{text_cmp, text_total};
 
+use crate::text_order::by_eights;
 use smallvec::SmallVec;
 use std::alloc::{AllocError, Global};
 use std::cmp::Ordering;
@@ -68,7 +69,7 @@ impl Text {
 fn by_bytes(left: &Text, right: &Text) -> Ordering
     ensures { result ≡ text_cmp left.now right.now }
 {
-    left.as_bytes().cmp(right.as_bytes())
+    by_eights(left.as_bytes(), right.as_bytes())
 }
 
 impl PartialEq for Text {
