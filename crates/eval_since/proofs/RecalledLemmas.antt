@@ -55,14 +55,6 @@ recalls_is interval rows x u up = pairs rows
     pairs [] = refl
     pairs (k ∷ ks) = ap (λ b. (eq_by_cmp row_cmp u k.row && reaches interval k.times.items x) || b) (pairs ks)
 
--- one row more is put
-pub put_more : (right left : List ℕ) (k : KeptRow) (ks : List KeptRow) (key q v : List Value) (new old : List ℕ)
-    → key ≡ part right left k.row
-    → new ≡ cond (is_at (row_cmp key) q && is_at (row_cmp k.row) v) k.times.items old
-    → put_times right left (times_kept ks) q v new ≡ put_times right left (times_kept (k ∷ ks)) q v old
-put_more right left k ks key q v new old is step = ap (put_times right left (times_kept ks) q v)
-    (step ∙ ap (λ r. cond (is_at (row_cmp r) q && is_at (row_cmp k.row) v) k.times.items old) is)
-
 -- what is put into the groups of parts is found there
 pub put_is : (right left : List ℕ) (es : List (List Value × List ℕ)) → RowsAscend es
     → (q v : List Value) (times : List ℕ) → put_times right left es q v times

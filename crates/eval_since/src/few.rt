@@ -1,5 +1,5 @@
 //! A few rows with the times kept for them, each found by looking at them in turn.
-ghost use Rattle.std.specs.Prelude.{◌≡◌, ◌||◌, ◌&&◌, ◌==◌, ◌∷◌, ◌<◌, [], IfOk, List, OnOk, cond};
+ghost use Rattle.std.specs.Prelude.{◌≡◌, ◌||◌, ◌&&◌, ◌==◌, ◌∷◌, ◌<◌, [], IfOk, List, None, OnOk, cond};
 ghost use Rattle.std.specs.Prelude.{length, nat_lt, position};
 ghost use Rattle.std.specs.BTreeMap.{is_at};
 ghost use Rattle.std.specs.Option.{is_some, option_or};
@@ -79,11 +79,20 @@ impl FewRows {
         ensures some { OnOk result (HaveTimes self.old → HaveTimes self.new) }
     {
         if let Some(place) = place_of(self.rows.as_slice(), &row) {
-            self.rows[place].1.add(alloc, x, bounded)?;
-            return Ok(());
+            return self.rows[place].1.add(alloc, x, bounded);
         }
-        let mut times = Times::new();
-        times.add(alloc, x, bounded)?;
+        self.add_row(alloc, row, x, bounded)
+    }
+
+    // The same of a row that isn't there yet.
+    fn add_row(&mut self, alloc: Global, row: Row, x: u64, bounded: bool) -> Result<(), AllocError>
+        requires { position (λ e. is_at (row_cmp row) e.0) self.old ≡ None }
+        ensures times { OnOk result ((v : List Value) → list_for self.new v
+            ≡ cond (is_at (row_cmp row) v)
+            (added bounded (list_for self.old v) x) (list_for self.old v)) }
+        ensures some { OnOk result (HaveTimes self.old → HaveTimes self.new) }
+    {
+        let times = Times::first(alloc, x, bounded)?;
         self.rows.push((row, times))?;
         Ok(())
     }

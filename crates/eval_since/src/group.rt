@@ -119,14 +119,20 @@ impl Group {
             (recent hi now (list_for self.old v)) (list_for self.old v) }
         ensures some { HaveTimes self.old → HaveTimes self.new }
     {
-        if let Held::Many(rows) = &mut self.held {
-            rows.forget(row, hi, now);
-            return;
+        match &mut self.held {
+            Held::Many(rows) => rows.forget(row, hi, now),
+            Held::Few(rows) => rows.forget(&row, hi, now),
+            _ => self.forget_anew(row, hi, now),
         }
-        if let Held::Few(rows) = &mut self.held {
-            rows.forget(&row, hi, now);
-            return;
-        }
+    }
+
+    // The same where the row may have to go from its place.
+    fn forget_anew(&mut self, row: Row, hi: u64, now: u64)
+        ensures times { (v : List Value) → list_for self.new v
+            ≡ cond (is_at (row_cmp row) v)
+            (recent hi now (list_for self.old v)) (list_for self.old v) }
+        ensures some { HaveTimes self.old → HaveTimes self.new }
+    {
         let held = mem::replace(&mut self.held, Held::Zero);
         self.held = with_recent(held, row, hi, now);
     }

@@ -54,19 +54,18 @@ fn forget_row(groups: &mut HashMap<Row, Group>, key: Row, row: Row, hi: u64, now
         (recent hi now (times_at groups.old.entries q v)) (times_at groups.old.entries q v) }
     ensures some { NoneEmpty groups.old.entries → NoneEmpty groups.new.entries }
 {
-    let slot = match groups.entry(key) {
-        Ok(slot) => slot,
-        Err(_absent) => return,
-    };
-    match slot {
-        Entry::Occupied(mut kept) => {
-            let group = kept.get_mut();
-            group.forget(row, hi, now);
-            if group.is_empty() {
-                kept.remove();
+    match groups.entry(key) {
+        Ok(slot) => match slot {
+            Entry::Occupied(mut kept) => {
+                let group = kept.get_mut();
+                group.forget(row, hi, now);
+                if group.is_empty() {
+                    kept.remove();
+                }
             }
-        }
-        Entry::Vacant(vacant) => drop(vacant.into_key()),
+            Entry::Vacant(vacant) => drop(vacant.into_key()),
+        },
+        Err(_absent) => {}
     }
 }
 
@@ -83,21 +82,23 @@ fn forget_ungrouped(
         (recent hi now (times_at groups.old.entries q v)) (times_at groups.old.entries q v)) }
     ensures some { OnOk result (NoneEmpty groups.old.entries → NoneEmpty groups.new.entries) }
 {
-    let slot = match groups.entry(Row::empty()) {
-        Ok(slot) => slot,
-        Err(_absent) => return Ok(()),
-    };
-    match slot {
-        Entry::Occupied(mut found) => {
-            let group = found.get_mut();
-            group.forget_all(alloc, rows, hi, now)?;
-            if group.is_empty() {
-                found.remove();
+    match groups.entry(Row::empty()) {
+        Ok(slot) => match slot {
+            Entry::Occupied(mut found) => {
+                let group = found.get_mut();
+                let forgotten = group.forget_all(alloc, rows, hi, now);
+                if group.is_empty() {
+                    found.remove();
+                }
+                forgotten
             }
-        }
-        Entry::Vacant(vacant) => drop(vacant.into_key()),
+            Entry::Vacant(vacant) => {
+                drop(vacant.into_key());
+                Ok(())
+            }
+        },
+        Err(_absent) => Ok(()),
     }
-    Ok(())
 }
 
 impl Groups {

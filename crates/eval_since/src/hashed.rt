@@ -126,17 +126,24 @@ impl Hashed {
         ensures some { OnOk result (HaveTimes self.old → HaveTimes self.new) }
     {
         match &mut self.stored {
-            Stored::Wide(rows) => {
-                rows.add(alloc, row, x, bounded)?;
-                return Ok(());
-            }
+            Stored::Wide(rows) => rows.add(alloc, row, x, bounded),
             Stored::Ints(rows) => {
                 if let Some(number) = int_of(&row) {
-                    rows.add(alloc, number, x, bounded)?;
-                    return Ok(());
+                    return rows.add(alloc, number, x, bounded);
                 }
+                self.add_wide(alloc, row, x, bounded)
             }
         }
+    }
+
+    // The same once all stand as rows.
+    fn add_wide(&mut self, alloc: Global, row: Row, x: u64, bounded: bool) -> Result<(), AllocError>
+        requires { ArePast x (list_for self.old row) }
+        ensures times { OnOk result ((v : List Value) → list_for self.new v
+            ≡ cond (is_at (row_cmp row) v)
+            (added bounded (list_for self.old v) x) (list_for self.old v)) }
+        ensures some { OnOk result (HaveTimes self.old → HaveTimes self.new) }
+    {
         let stored = mem::replace(&mut self.stored, Stored::Ints(KeyedRows::new(alloc)));
         self.stored = wide_time(alloc, stored, row, x, bounded)?;
         Ok(())
@@ -212,17 +219,22 @@ impl Hashed {
         ensures some { OnOk result (0 < length times → HaveTimes self.old → HaveTimes self.new) }
     {
         match &mut self.stored {
-            Stored::Wide(rows) => {
-                rows.put(row, times)?;
-                return Ok(());
-            }
+            Stored::Wide(rows) => rows.put(row, times),
             Stored::Ints(rows) => {
                 if let Some(number) = int_of(&row) {
-                    rows.put(number, times)?;
-                    return Ok(());
+                    return rows.put(number, times);
                 }
+                self.put_wide(alloc, row, times)
             }
         }
+    }
+
+    // The same once all stand as rows.
+    fn put_wide(&mut self, alloc: Global, row: Row, times: Times) -> Result<(), AllocError>
+        ensures times { OnOk result ((v : List Value) → list_for self.new v
+            ≡ cond (is_at (row_cmp row) v) times (list_for self.old v)) }
+        ensures some { OnOk result (0 < length times → HaveTimes self.old → HaveTimes self.new) }
+    {
         let stored = mem::replace(&mut self.stored, Stored::Ints(KeyedRows::new(alloc)));
         self.stored = wide_put(alloc, stored, row, times)?;
         Ok(())

@@ -28,8 +28,7 @@ fn first_time(alloc: Global, row: Row, x: u64, bounded: bool) -> Result<Held, Al
         ≡ cond (is_at (row_cmp row) v) (added bounded [] x) []) }
     ensures some { IfOk result (λ held. HaveTimes (held_times held)) }
 {
-    let mut times = Times::new();
-    times.add(alloc, x, bounded)?;
+    let times = Times::first(alloc, x, bounded)?;
     Ok(Held::One(row, times))
 }
 
@@ -161,6 +160,16 @@ pub(crate) fn with_recent(held: Held, row: Row, hi: u64, now: u64) -> Held
     }
 }
 
+fn many_with_times(alloc: Global, few: FewRows, row: Row, times: Times) -> Result<Held, AllocError>
+    ensures times { IfOk result (λ held. (v : List Value) → list_for (held_times held) v
+        ≡ cond (is_at (row_cmp row) v) times (list_for few v)) }
+    ensures some { IfOk result (λ held. 0 < length times → HaveTimes few → HaveTimes (held_times held)) }
+{
+    let mut rows = few.into_hashed(alloc)?;
+    rows.put(alloc, row, times)?;
+    Ok(Held::Many(Box::new(alloc, rows)?))
+}
+
 fn few_with_times(
     alloc: Global,
     mut few: FewRows,
@@ -171,13 +180,11 @@ fn few_with_times(
         ≡ cond (is_at (row_cmp row) v) times (list_for few v)) }
     ensures some { IfOk result (λ held. 0 < length times → HaveTimes few → HaveTimes (held_times held)) }
 {
-    if few.has_room_for(&row) {
-        few.put(row, times)?;
-        return Ok(Held::Few(few));
+    if !few.has_room_for(&row) {
+        return many_with_times(alloc, few, row, times);
     }
-    let mut rows = few.into_hashed(alloc)?;
-    rows.put(alloc, row, times)?;
-    Ok(Held::Many(Box::new(alloc, rows)?))
+    few.put(row, times)?;
+    Ok(Held::Few(few))
 }
 
 pub(crate) fn with_times(

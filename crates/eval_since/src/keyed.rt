@@ -1,5 +1,5 @@
 //! Many rows with the times kept for them, each found by the hash of a key that stands for it.
-ghost use Rattle.std.specs.Prelude.{◌≡◌, ◌||◌, ◌&&◌, ◌==◌, ◌<◌, [], IfOk, List, OnOk, cond, length};
+ghost use Rattle.std.specs.Prelude.{◌≡◌, ◌||◌, ◌&&◌, ◌==◌, ◌<◌, ◌++◌, ◌∷◌, [], IfOk, List, None, OnOk, Some, cond, length};
 ghost use Rattle.std.specs.BTreeMap.{is_at};
 ghost use Rattle.std.specs.Option.{option_or};
 ghost use Rattle.mfotl_model.specs.Tables.{has_row, part};
@@ -42,20 +42,33 @@ fn forget_times<K: RowKey>(rows: &mut HashMap<K, Times>, key: K, hi: u64, now: u
         (list_for (by_rows K.row_of rows.old.entries) v) }
     ensures some { HaveTimes (by_rows K.row_of rows.old.entries) → HaveTimes (by_rows K.row_of rows.new.entries) }
 {
-    let slot = match rows.entry(key) {
-        Ok(slot) => slot,
-        Err(_absent) => return,
-    };
-    match slot {
-        Entry::Occupied(mut kept) => {
-            let times = kept.get_mut();
-            times.forget(hi, now);
-            if times.is_empty() {
-                kept.remove();
+    match rows.entry(key) {
+        Ok(slot) => match slot {
+            Entry::Occupied(mut kept) => {
+                let times = kept.get_mut();
+                times.forget(hi, now);
+                if times.is_empty() {
+                    kept.remove();
+                }
             }
-        }
-        Entry::Vacant(vacant) => drop(vacant.into_key()),
+            Entry::Vacant(vacant) => drop(vacant.into_key()),
+        },
+        Err(_absent) => {}
     }
+}
+
+fn keep_row<K: RowKey>(
+    alloc: Global,
+    wide: &mut HashMap<Row, Times>,
+    key: K,
+    times: Times,
+) -> Result<(), AllocError>
+    ensures { OnOk result ((v : List Value) → kept_for wide.new.entries v
+        ≡ cond (is_at (row_cmp (K.row_of key)) v) (Some times) (kept_for wide.old.entries v)) }
+{
+    let row = key.to_row(alloc)?;
+    wide.insert(row, times)?;
+    Ok(())
 }
 
 /// The same times, each found by its row itself.
@@ -69,9 +82,48 @@ pub(crate) fn widened<K: RowKey>(
 {
     let mut rows = HashMap::new(alloc);
     for (key, times) in kept.rows {
-        rows.insert(key.to_row(alloc)?, times)?;
+        keep_row(alloc, &mut rows, key, times)?;
     }
     Ok(KeyedRows { rows })
+}
+
+fn push_row<K: RowKey>(alloc: Global, out: &mut Vec<Row>, key: &K) -> Result<(), AllocError>
+    ensures { OnOk result (out.new.items ≡ out.old.items ++ K.row_of key.now ∷ []) }
+{
+    let row = key.to_row(alloc)?;
+    out.push(row)?;
+    Ok(())
+}
+
+// The row if its part at the columns of `keys` is one of its rows.
+fn push_wanted<K: RowKey>(
+    alloc: Global,
+    out: &mut Vec<Row>,
+    key: &K,
+    columns: &[u32],
+    keys: &Table,
+) -> Result<(), AllocError>
+    ensures { OnOk result ((u : List Value) → has_row out.new.items u
+        ≡ (has_row out.old.items u || (is_at (row_cmp u) (K.row_of key.now)
+        && has_row keys.now.rows (part columns.now keys.now.columns (K.row_of key.now))))) }
+{
+    if key.has_part(alloc, columns, keys)? {
+        push_row(alloc, out, key)?;
+    }
+    Ok(())
+}
+
+fn pour_row<K: RowKey>(
+    alloc: Global,
+    out: &mut OrderedGroup,
+    key: &K,
+    times: &Times,
+) -> Result<(), AllocError>
+    ensures { OnOk result ((u : List Value) → kept_for out.new u ≡ option_or (kept_for out.old u)
+        (cond (is_at (row_cmp u) (K.row_of key.now)) (filled times.now) None)) }
+{
+    let row = key.to_row(alloc)?;
+    out.pour_row(alloc, row, times)
 }
 
 impl<K: RowKey> KeyedRows<K> {
@@ -135,7 +187,7 @@ impl<K: RowKey> KeyedRows<K> {
     {
         for (key, times) in &self.rows {
             if times.reaches(interval, x) {
-                out.push(key.to_row(alloc)?)?;
+                push_row(alloc, out, key)?;
             }
         }
         Ok(())
@@ -156,8 +208,8 @@ impl<K: RowKey> KeyedRows<K> {
             && has_row keys.now.rows (part columns.now keys.now.columns u)))) }
     {
         for (key, times) in &self.rows {
-            if times.reaches(interval, x) && key.has_part(alloc, columns, keys)? {
-                out.push(key.to_row(alloc)?)?;
+            if times.reaches(interval, x) {
+                push_wanted(alloc, out, key, columns, keys)?;
             }
         }
         Ok(())
@@ -180,7 +232,7 @@ impl<K: RowKey> KeyedRows<K> {
             ≡ option_or (kept_for out.old u) (filled (list_for (by_rows K.row_of self.now) u))) }
     {
         for (key, times) in &self.rows {
-            out.pour_row(alloc, key.to_row(alloc)?, times)?;
+            pour_row(alloc, out, key, times)?;
         }
         Ok(())
     }

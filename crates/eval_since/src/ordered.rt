@@ -1,5 +1,5 @@
 //! Rows with the times kept for them, in order.
-ghost use Rattle.std.specs.Prelude.{◌≡◌, [], List, None, IfOk, OnOk, cond};
+ghost use Rattle.std.specs.Prelude.{◌≡◌, [], List, None, Some, IfOk, OnOk, cond};
 ghost use Rattle.std.specs.BTreeMap.{is_at};
 ghost use Rattle.std.specs.Option.{option_or};
 ghost use Rattle.mfotl_model.specs.Values.{row_cmp};
@@ -28,6 +28,14 @@ impl Model for OrderedGroup {
     ghost view = { λ g. g.rows.entries };
 }
 
+fn kept_row(alloc: Global, row: Row, times: Times) -> Result<KeptRow, AllocError>
+    ensures row { IfOk result (λ kept. kept.row ≡ row) }
+    ensures times { IfOk result (λ kept. kept.times.items ≡ times) }
+{
+    let times = times.into_vec(alloc)?;
+    Ok(KeptRow { row, times })
+}
+
 impl OrderedGroup {
     pub fn new(alloc: Global) -> Self
         ensures { result ≡ [] }
@@ -48,7 +56,15 @@ impl OrderedGroup {
         if self.rows.contains_key(&row) {
             return Ok(());
         }
-        self.rows.insert(row, times.copy(alloc)?)?;
+        self.put_copy(alloc, row, times)
+    }
+
+    fn put_copy(&mut self, alloc: Global, row: Row, times: &Times) -> Result<(), AllocError>
+        ensures { OnOk result ((u : List Value) → kept_for self.new u
+            ≡ cond (is_at (row_cmp row) u) (Some times.now) (kept_for self.old u)) }
+    {
+        let times = times.copy(alloc)?;
+        self.rows.insert(row, times)?;
         Ok(())
     }
 
@@ -59,10 +75,7 @@ impl OrderedGroup {
     {
         let mut kept = Vec::with_capacity(alloc, self.rows.len())?;
         for (row, times) in self.rows {
-            kept.push(KeptRow {
-                row,
-                times: times.into_vec(alloc)?,
-            })?;
+            kept.push(kept_row(alloc, row, times)?)?;
         }
         Ok(kept)
     }

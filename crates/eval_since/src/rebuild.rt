@@ -19,6 +19,24 @@ use relations::part_of;
 use std::alloc::{AllocError, Global};
 use std::collections::VecDeque;
 
+// puts a row with its times into the group of its part
+fn put_kept(
+    alloc: Global,
+    groups: &mut Groups,
+    right: &[u32],
+    left: &[u32],
+    kept: KeptRow,
+) -> Result<(), AllocError>
+    requires { IsStrictlyIncreasing kept.times.items }
+    ensures times { OnOk result ((q v : List Value) → times_at groups.new q v
+        ≡ put_times right.now left.now (times_kept (kept ∷ [])) q v (times_at groups.old q v)) }
+    ensures some { OnOk result (0 < length kept.times.items → NoneEmpty groups.old → NoneEmpty groups.new) }
+{
+    let key = part_of(alloc, right, left, kept.row.values())?;
+    let times = Times::from_vec(alloc, kept.times)?;
+    groups.put(alloc, key, kept.row, times)
+}
+
 /// The rows with their times, in the groups of their parts.
 pub fn grouped(
     alloc: Global,
@@ -34,9 +52,7 @@ pub fn grouped(
 {
     let mut groups = Groups::new(alloc);
     for kept in rows {
-        let key = part_of(alloc, right, left, kept.row.values())?;
-        let times = Times::from_vec(alloc, kept.times)?;
-        groups.put(alloc, key, kept.row, times)?;
+        put_kept(alloc, &mut groups, right, left, kept)?;
     }
     Ok(groups)
 }

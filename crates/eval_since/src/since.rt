@@ -212,22 +212,17 @@ impl SinceState {
             (t : List ℕ) (a b : List Bool) (v : Valuation) →
             FollowsData (setting_of self) last times.now kept t a b v → Follows state t a b v) }
     {
-        let SinceData {
-            pulled,
-            lefts,
-            rights,
-            rows,
-        } = kept;
         let newest = latest(times, last);
         let times = Vec::from_slice(alloc, times)?;
+        let window = self.window.resumed(alloc, last, kept.rows)?;
         Ok(SinceState {
-            window: self.window.resumed(alloc, last, rows)?,
+            window,
             negated: self.negated,
-            pulled,
+            pulled: kept.pulled,
             newest,
             times: VecDeque::from_vec(times),
-            lefts: VecDeque::from_vec(lefts),
-            rights: VecDeque::from_vec(rights),
+            lefts: VecDeque::from_vec(kept.lefts),
+            rights: VecDeque::from_vec(kept.rights),
         })
     }
 

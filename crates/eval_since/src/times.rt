@@ -42,6 +42,15 @@ impl Times {
         }
     }
 
+    /// A first time.
+    pub fn first(alloc: Global, x: u64, bounded: bool) -> Result<Self, AllocError>
+        ensures { IfOk result (λ times. times ≡ added bounded [] x) }
+    {
+        let mut times = Times::new();
+        times.add(alloc, x, bounded)?;
+        Ok(times)
+    }
+
     pub fn is_empty(&self) -> bool
         ensures { result ≡ (length self.now == 0) }
     {

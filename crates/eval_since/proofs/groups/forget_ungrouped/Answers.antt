@@ -1,4 +1,5 @@
 use Rattle.std.proofs.lemmas.Grind.{common_steps}
+use Rattle.std.proofs.lemmas.Result.{on_ok_weaker}
 use Rattle.std.proofs.Common.{◌≡◌, [], Some, None, arith, refl, sym, ap, ◌∙◌}
 use Rattle.std.specs.Option.{unwrap_or}
 use Rattle.std.specs.Map.{lookup}
@@ -25,69 +26,69 @@ returns-in-Err-clause-times c = λ q v.
     (nothing_recent c.args.hi c.args.now v (has_row (packed_rows c.args.rows) v))
 
 pub returns-then-is_empty-clause-times : goal.returns-then-is_empty-clause-times
-returns-then-is_empty-clause-times c = λ q v.
+returns-then-is_empty-clause-times c = on_ok_weaker c.forget_all-forgotten.result (λ each q v.
     let old = c.args.groups.now.entries in
     let is : Some c.get_mut-group.result.now ≡ lookup (is_at (row_cmp c.empty.result)) old =
     grind (arith, common_steps, c.in-Ok.ensures.value, c.get_mut-group.ensures.value, c.in-Occupied.is) in
     ungrouped (recent c.args.hi c.args.now) c.empty.result q v (has_row (packed_rows c.args.rows) v) old _
-    c.forget_all.new.self c.get_mut-group.result.now None
+    c.forget_all-forgotten.new.self c.get_mut-group.result.now None
     c.empty.ensures
     (grind (
       arith,
       common_steps,
       c.in-Ok.ensures.removal.0.0 q,
-      c.get_mut-group.ensures.written c.forget_all.new.self,
+      c.get_mut-group.ensures.written c.forget_all-forgotten.new.self,
       c.remove.ensures.removed,
     ))
-    (empty_list c.forget_all.new.self (sym c.is_empty.ensures ∙ c.if-is_empty.true))
+    (empty_list c.forget_all-forgotten.new.self (sym c.is_empty.ensures ∙ c.if-is_empty.true))
     (ap (λ o. unwrap_or o []) is)
-    (c.in_ok-forget_all-in-Occupied.ensures.times v)
+    (each v)) c.forget_all-forgotten.ensures.times
 
 pub returns-then-is_empty-clause-some : goal.returns-then-is_empty-clause-some
-returns-then-is_empty-clause-some c =
+returns-then-is_empty-clause-some c = on_ok_weaker c.forget_all-forgotten.result (λ _.
     each_after IsFilled c.empty.result c.args.groups.now.entries _ None
     (λ q. grind (
       arith,
       common_steps,
       c.in-Ok.ensures.removal.0.0 q,
-      c.get_mut-group.ensures.written c.forget_all.new.self,
+      c.get_mut-group.ensures.written c.forget_all-forgotten.new.self,
       c.remove.ensures.removed,
     ))
-    tt
+    tt) c.forget_all-forgotten.ensures.some
 
 pub returns-else-is_empty-clause-times : goal.returns-else-is_empty-clause-times
-returns-else-is_empty-clause-times c = λ q v.
+returns-else-is_empty-clause-times c = on_ok_weaker c.forget_all-forgotten.result (λ each q v.
     let old = c.args.groups.now.entries in
     let is : Some c.get_mut-group.result.now ≡ lookup (is_at (row_cmp c.empty.result)) old =
     grind (arith, common_steps, c.in-Ok.ensures.value, c.get_mut-group.ensures.value, c.in-Occupied.is) in
     ungrouped (recent c.args.hi c.args.now) c.empty.result q v (has_row (packed_rows c.args.rows) v) old _
-    c.forget_all.new.self c.get_mut-group.result.now (Some c.forget_all.new.self)
+    c.forget_all-forgotten.new.self c.get_mut-group.result.now (Some c.forget_all-forgotten.new.self)
     c.empty.ensures
     (grind (
       arith,
       common_steps,
-      (c.in-Ok.ensures.update.0 c.forget_all.new.self).0 q,
-      c.get_mut-group.ensures.written c.forget_all.new.self,
+      (c.in-Ok.ensures.update.0 c.forget_all-forgotten.new.self).0 q,
+      c.get_mut-group.ensures.written c.forget_all-forgotten.new.self,
     ))
     refl
     (ap (λ o. unwrap_or o []) is)
-    (c.in_ok-forget_all-in-Occupied.ensures.times v)
+    (each v)) c.forget_all-forgotten.ensures.times
 
 pub returns-else-is_empty-clause-some : goal.returns-else-is_empty-clause-some
-returns-else-is_empty-clause-some c = λ all.
+returns-else-is_empty-clause-some c = on_ok_weaker c.forget_all-forgotten.result (λ stay all.
     let old = c.args.groups.now.entries in
     let is : Some c.get_mut-group.result.now ≡ lookup (is_at (row_cmp c.empty.result)) old =
     grind (arith, common_steps, c.in-Ok.ensures.value, c.get_mut-group.ensures.value, c.in-Occupied.is) in
-    each_after IsFilled c.empty.result old _ (Some c.forget_all.new.self)
+    each_after IsFilled c.empty.result old _ (Some c.forget_all-forgotten.new.self)
     (λ q. grind (
       arith,
       common_steps,
-      (c.in-Ok.ensures.update.0 c.forget_all.new.self).0 q,
-      c.get_mut-group.ensures.written c.forget_all.new.self,
+      (c.in-Ok.ensures.update.0 c.forget_all-forgotten.new.self).0 q,
+      c.get_mut-group.ensures.written c.forget_all-forgotten.new.self,
     )) (
-      not_empty c.forget_all.new.self (sym c.is_empty.ensures ∙ c.if-is_empty.false),
-      c.in_ok-forget_all-in-Occupied.ensures.some (found_filled c.empty.result old c.get_mut-group.result.now is all).1,
-    ) all
+      not_empty c.forget_all-forgotten.new.self (sym c.is_empty.ensures ∙ c.if-is_empty.false),
+      stay (found_filled c.empty.result old c.get_mut-group.result.now is all).1,
+    ) all) c.forget_all-forgotten.ensures.some
 
 pub returns-in-Vacant-clause-times : goal.returns-in-Vacant-clause-times
 returns-in-Vacant-clause-times c = λ q v.

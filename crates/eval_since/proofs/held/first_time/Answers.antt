@@ -1,18 +1,16 @@
 use Rattle.std.proofs.Common.{ℕ, ◌<◌, List, [], cond, length, sym, subst, ap, ◌∙◌}
 use Rattle.std.specs.BTreeMap.{is_at}
 use Rattle.mfotl_model.specs.Values.{row_cmp}
-use Rattle.eval_since.specs.Times.{added}
 use Rattle.eval_since.proofs.FilledLemmas.{one_has, some_added}
 use Rattle.eval_since.proofs.OneRowLemmas.{times_one}
 use Rattle.eval_since.proofs.held.first_time.Goals as goal
 
 pub returns-clause-times : goal.returns-clause-times
 returns-clause-times c = λ v.
-    times_one c.args.row c.add.new.self v
-    ∙ ap (λ ts. cond (is_at (row_cmp c.args.row) v) ts [])
-    (c.in_ok-add.ensures ∙ ap (λ ts. added c.args.bounded ts c.args.x) c.new-times.ensures)
+    times_one c.args.row c.in_ok-times.times v
+    ∙ ap (λ ts. cond (is_at (row_cmp c.args.row) v) ts []) c.in_ok-times.ensures
 
 pub returns-clause-some : goal.returns-clause-some
 returns-clause-some c =
-    one_has c.args.row c.add.new.self (subst (λ (ts : List ℕ). 0 < length ts) (sym c.in_ok-add.ensures)
-    (some_added c.args.bounded c.new-times.result c.args.x))
+    one_has c.args.row c.in_ok-times.times (subst (λ (ts : List ℕ). 0 < length ts) (sym c.in_ok-times.ensures)
+    (some_added c.args.bounded [] c.args.x))

@@ -1,7 +1,5 @@
-use Rattle.std.proofs.Common.{◌≡◌, ℕ, ◌<◌, Option, Some, None, List, [], cond, length, sym, subst, ap, ◌∙◌}
-use Rattle.std.specs.BTreeMap.{is_at}
+use Rattle.std.proofs.Common.{◌≡◌, ℕ, ◌<◌, Option, None, List, [], length, sym, subst, ap, ◌∙◌}
 use Rattle.std.specs.Option.{IfSome, unwrap_or}
-use Rattle.mfotl_model.specs.Values.{row_cmp}
 use Rattle.mfotl_model.specs.declared.value.Value.{Value}
 use Rattle.relations.proofs.KeptLemmas.{last_is, or_none}
 use Rattle.relations.specs.KeptRows.{kept_for, last_for, list_for}
@@ -14,9 +12,7 @@ use Rattle.eval_since.proofs.keyed.widened.Goals as goal
 pub loop-key-preserved : goal.loop-key-preserved
 loop-key-preserved g c = λ u.
     let row_of = g.K.RowKey.row_of in
-    ap (last_for (by_rows row_of c.next.new.self) u) (c.in_ok-insert.ensures.updates.0 u
-    ∙ ap (λ r. cond (is_at (row_cmp r) u) (Some c.in-Some.times) (kept_for c.loop-key.rows.entries u))
-    c.in_ok-to_row.ensures)
+    ap (last_for (by_rows row_of c.next.new.self) u) (c.in_ok-keep_row.ensures u)
     ∙ ap (λ es. last_for (by_rows row_of es) u (kept_for c.loop-key.rows.entries u)) (sym c.in-Some.ensures.steps)
     ∙ c.loop-key.invariant u
 

@@ -1,11 +1,9 @@
-use Rattle.std.proofs.Common.{◌≡◌, ℕ, ◌<◌, List, ◌∷◌, length, sym, subst, ap, ◌∙◌, rules}
+use Rattle.std.proofs.Common.{◌≡◌, ◌<◌, ◌∷◌, length, sym, subst, ap, ◌∙◌, rules}
 use Rattle.std.specs.List.{AllByRecursion}
 use Rattle.std.specs.List.Sorted.{IsStrictlyIncreasing}
-use Rattle.mfotl_model.specs.Tables.{part}
 use Rattle.eval_since.specs.Groups.{times_at}
 use Rattle.eval_since.specs.Recalled.{put_times, times_kept}
 use Rattle.eval_since.specs.declared.recalled.KeptRow.{KeptRow}
-use Rattle.eval_since.proofs.RecalledLemmas.{put_more}
 use Rattle.eval_since.proofs.rebuild.grouped.Goals as goal
 
 pub loop-kept-preserved : goal.loop-kept-preserved
@@ -15,10 +13,8 @@ loop-kept-preserved c =
       ascend = (subst (AllByRecursion (λ (k : KeptRow). IsStrictlyIncreasing k.times.items)) rest
           c.loop-kept.invariant.ascend).1;
       put = λ q v.
-          put_more c.args.right.now c.args.left.now c.in-Some.kept c.next.new.self.rest.items c.in_ok-key.key q v
-          (times_at c.put.new.self q v) (times_at c.loop-kept.groups q v)
-          (c.in_ok-key.ensures ∙ ap (part c.args.right.now c.args.left.now) c.values.ensures)
-          (rw c.in_ok-times.ensures at (c.in_ok-put.ensures.times q v))
+          ap (put_times c.args.right.now c.args.left.now (times_kept c.next.new.self.rest.items) q v)
+          (c.in_ok-put_kept.ensures.times q v)
           ∙ sym (ap (λ ks. put_times c.args.right.now c.args.left.now (times_kept ks) q v
           (times_at c.loop-kept.groups q v)) rest)
           ∙ c.loop-kept.invariant.put q v;
@@ -26,7 +22,6 @@ loop-kept-preserved c =
           let before = c.loop-kept.invariant.some all in
           let each = subst (AllByRecursion (λ (k : KeptRow). 0 < length k.times.items)) rest before.0 in (
             each.1,
-            c.in_ok-put.ensures.some (subst (λ (ts : List ℕ). 0 < length ts) (sym c.in_ok-times.ensures) each.0)
-                before.1,
+            c.in_ok-put_kept.ensures.some each.0 before.1,
           );
     }

@@ -1,4 +1,5 @@
 use Rattle.std.proofs.Common.{sym, ◌∙◌}
+use Rattle.std.proofs.lemmas.Result.{on_ok_weaker}
 use Rattle.std.specs.BTreeMap.{is_at}
 use Rattle.mfotl_model.specs.Values.{row_cmp}
 use Rattle.relations.specs.KeptRows.{filled, kept_for}
@@ -16,9 +17,9 @@ returns-then-contains_key c = rw (← c.self.view_is) (λ u.
     (sym c.contains_key.ensures ∙ c.if-contains_key.true))
 
 pub returns : goal.returns
-returns c = rw (← c.self.view_is) (λ u.
-    one_poured c.args.row u c.self.inside.rows.entries c.insert.new.self.entries c.args.times.now
+returns c = rw (← c.self.view_is) (on_ok_weaker c.put_copy.result (λ put u.
+    one_poured c.args.row u c.self.inside.rows.entries c.put_copy.new.self c.args.times.now
     (filled c.args.times.now)
     (sym c.contains_key.ensures ∙ c.if-contains_key.false)
     (filled_some c.args.times.now (sym c.is_empty.ensures ∙ c.if-is_empty.false))
-    (rw (c.row.view_is, c.in_ok-copy.ensures) at (c.in_ok-insert.ensures.updates.0 u)))
+    (rw (← c.self.view_is) at (put u))) c.put_copy.ensures)

@@ -7,11 +7,11 @@ returns-clause-follows c =
     rw (← c.self.view_is) (
     let s = c.self.inside in
     rw (c.from_vec.ensures.items, c.in_ok-times.ensures.items, c.from_vec-2.ensures.items, c.from_vec-3.ensures.items)
-    (λ t a b v f. follows_resumed c.in_ok-resumed.field-0 s.window.interval s.window.left s.window.right
+    (λ t a b v f. follows_resumed c.in_ok-window.window s.window.interval s.window.left s.window.right
     s.negated c.args.last c.latest-newest.result c.args.times.now c.args.kept t a b v
-    c.in_ok-resumed.ensures.interval
-    c.in_ok-resumed.ensures.left
-    c.in_ok-resumed.ensures.right
-    c.in_ok-resumed.ensures.last
+    c.in_ok-window.ensures.interval
+    c.in_ok-window.ensures.left
+    c.in_ok-window.ensures.right
+    c.in_ok-window.ensures.last
     c.self.invariant.inside rule.lefts rule.rights rule.rows
-    c.in_ok-resumed.ensures.kept f))
+    c.in_ok-window.ensures.kept f))
