@@ -1,4 +1,5 @@
-//! Nodes into which the data that others kept is put.
+//! Nodes into which the data that others kept is put. What isn't put in is dropped by a call, whose proof needn't tell
+//! the kinds of data apart.
 ghost use Rattle.std.specs.Prelude.{IfOk};
 ghost use Rattle.monitor_state.specs.Resuming.{AllMatch, Matches, NodeResumed, NodesResumed};
 
@@ -8,7 +9,7 @@ use crate::node::Node;
 use crate::resume_windows::{since_resumed, until_resumed, window_resumed};
 use crate::state::{NodeData, WindowData};
 use crate::tables::Tables;
-use eval_bool::{AtomReader, JoinState, OrState};
+use eval_bool::{JoinState, OrState};
 use eval_since::{PrevState, SinceState};
 use eval_until::{NextState, UntilState};
 use relations::Table;
@@ -45,9 +46,18 @@ fn node_resumed(
     ensures { IfOk result (NodeResumed times.now node kept) }
 {
     match node {
-        Node::Constant(table) => resumed_constant(table, times, kept),
-        Node::Atom(reader) => resumed_atom(reader, times, kept),
-        Node::Exists(var) => resumed_exists(var, times, kept),
+        Node::Constant(table) => {
+            drop(kept);
+            Ok(Node::Constant(table))
+        }
+        Node::Atom(reader) => {
+            drop(kept);
+            Ok(Node::Atom(reader))
+        }
+        Node::Exists(var) => {
+            drop(kept);
+            Ok(Node::Exists(var))
+        }
         Node::Join(state) => resumed_join(alloc, state, times, kept),
         Node::Filter(state) => resumed_filter(alloc, state, times, kept),
         Node::Or(state) => resumed_or(state, times, kept),
@@ -55,36 +65,6 @@ fn node_resumed(
         Node::Next(state) => resumed_next(alloc, state, times, kept),
         Node::Since(state, order) => resumed_since(alloc, state, order, times, kept),
         Node::Until(state, order) => resumed_until(alloc, state, order, times, kept),
-    }
-}
-
-fn resumed_constant(table: Table, times: &KeptTimes, kept: NodeData) -> Result<Node, AllocError>
-    requires { Matches times.now (Node.Constant table) kept }
-    ensures { IfOk result (NodeResumed times.now (Node.Constant table) kept) }
-{
-    match kept {
-        NodeData::Bare => Ok(Node::Constant(table)),
-        _ => Err(AllocError),
-    }
-}
-
-fn resumed_atom(reader: AtomReader, times: &KeptTimes, kept: NodeData) -> Result<Node, AllocError>
-    requires { Matches times.now (Node.Atom reader) kept }
-    ensures { IfOk result (NodeResumed times.now (Node.Atom reader) kept) }
-{
-    match kept {
-        NodeData::Bare => Ok(Node::Atom(reader)),
-        _ => Err(AllocError),
-    }
-}
-
-fn resumed_exists(var: u32, times: &KeptTimes, kept: NodeData) -> Result<Node, AllocError>
-    requires { Matches times.now (Node.Exists var) kept }
-    ensures { IfOk result (NodeResumed times.now (Node.Exists var) kept) }
-{
-    match kept {
-        NodeData::Bare => Ok(Node::Exists(var)),
-        _ => Err(AllocError),
     }
 }
 
@@ -98,6 +78,7 @@ fn resumed_join(
     ensures { IfOk result (NodeResumed times.now (Node.Join state) kept) }
 {
     let NodeData::Join(data) = kept else {
+        drop(kept);
         return Err(AllocError);
     };
     let resumed = state.resumed(alloc, data)?;
@@ -114,14 +95,35 @@ fn resumed_filter(
     ensures { IfOk result (NodeResumed times.now (Node.Filter state) kept) }
 {
     let NodeData::Filter(tables, window) = kept else {
+        drop(state);
+        drop(kept);
         return Err(AllocError);
     };
-    let window = window_resumed(alloc, state.window, times, window)?;
+    filter_resumed(alloc, state, times, tables, window)
+}
+
+fn filter_resumed(
+    alloc: Global,
+    state: FilterState,
+    times: &KeptTimes,
+    tables: Vec<Table>,
+    kept: WindowData,
+) -> Result<Node, AllocError>
+    requires { Matches times.now (Node.Filter state) (NodeData.Filter tables kept) }
+    ensures { IfOk result (NodeResumed times.now (Node.Filter state) (NodeData.Filter tables kept)) }
+{
+    let FilterState {
+        window,
+        negated,
+        order,
+        ..
+    } = state;
+    let window = window_resumed(alloc, window, times, kept)?;
     Ok(Node::Filter(FilterState {
         tables: Tables::from_vec(tables),
         window,
-        negated: state.negated,
-        order: state.order,
+        negated,
+        order,
     }))
 }
 
@@ -130,6 +132,7 @@ fn resumed_or(state: OrState, times: &KeptTimes, kept: NodeData) -> Result<Node,
     ensures { IfOk result (NodeResumed times.now (Node.Or state) kept) }
 {
     let NodeData::Or(data) = kept else {
+        drop(kept);
         return Err(AllocError);
     };
     Ok(Node::Or(state.resumed(data)))
@@ -145,6 +148,7 @@ fn resumed_previous(
     ensures { IfOk result (NodeResumed times.now (Node.Previous state) kept) }
 {
     let NodeData::Previous(data) = kept else {
+        drop(kept);
         return Err(AllocError);
     };
     let last = times.before_place(data.pulled);
@@ -163,6 +167,7 @@ fn resumed_next(
     ensures { IfOk result (NodeResumed times.now (Node.Next state) kept) }
 {
     let NodeData::Next(data) = kept else {
+        drop(kept);
         return Err(AllocError);
     };
     let next = times.from_place(data.pulled);

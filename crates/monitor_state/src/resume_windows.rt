@@ -70,6 +70,7 @@ fn window_since(
     ensures { IfOk result (WindowResumed times.now (Window.Since state) kept) }
 {
     let WindowData::Since(kept) = kept else {
+        drop(kept);
         return Err(AllocError);
     };
     let resumed = since_resumed(alloc, state, times, kept)?;
@@ -86,6 +87,7 @@ fn window_until(
     ensures { IfOk result (WindowResumed times.now (Window.Until state) kept) }
 {
     let WindowData::Until(kept) = kept else {
+        drop(kept);
         return Err(AllocError);
     };
     let resumed = until_resumed(alloc, state, times, kept)?;
