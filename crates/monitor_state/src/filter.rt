@@ -92,7 +92,7 @@ fn given(
 {
     match order {
         None => filtered(alloc, window, negated, table),
-        Some(order) => joined(alloc, window, order, table),
+        Some(order) => joined(alloc, window, order, &table),
     }
 }
 

@@ -17,19 +17,19 @@ pub fn joined(
     alloc: Global,
     window: &mut Window,
     order: &Table,
-    table: Table,
+    table: &Table,
 ) -> Result<Table, AllocError>
     requires due { IsTrue (window_due window.old) }
     requires all { IsTrue (window_took_all window.old) }
     ensures goes { OnOk result (WindowGoes window.old window.new) }
-    ensures gives { IfOk result (Joins window.old order.now table) }
+    ensures gives { IfOk result (Joins window.old order.now table.now) }
 {
     if table.rows().is_empty() {
         go_on(alloc, window)?;
         let columns = Columns::from_slice(alloc, order.columns())?;
         return Ok(Table::empty(alloc, columns));
     }
-    let found = found_for(alloc, window, &table)?;
+    let found = found_for(alloc, window, table)?;
     let both = paired(alloc, table, found)?;
     let kept = in_order(alloc, both, order)?;
     Ok(kept)
@@ -37,13 +37,13 @@ pub fn joined(
 
 // The join of both. Where the window has all of the table's columns, it is some of the rows that were found, which
 // are moved.
-fn paired(alloc: Global, table: Table, found: Table) -> Result<Table, AllocError>
+fn paired(alloc: Global, table: &Table, found: Table) -> Result<Table, AllocError>
     ensures columns { IfOk result (λ both. (y : ℕ) →
-        among y both.columns ≡ (among y table.columns || among y found.columns)) }
-    ensures has { IfOk result (λ both. (v : Valuation) → has both v ≡ (has table v && has found v)) }
+        among y both.columns ≡ (among y table.now.columns || among y found.columns)) }
+    ensures has { IfOk result (λ both. (v : Valuation) → has both v ≡ (has table.now v && has found v)) }
 {
     if all_among(table.columns(), found.columns()) {
-        let both = found.joined(alloc, &table)?;
+        let both = found.joined(alloc, table)?;
         return Ok(both);
     }
     let both = table.join(alloc, &found)?;
