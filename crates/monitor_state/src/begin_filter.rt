@@ -13,7 +13,7 @@ ghost use Rattle.monitor_state.specs.Nodes.{adds_none, filters, is_keyed, is_win
 use crate::begin_until::until_state;
 use crate::filter::FilterState;
 use crate::node::{Node, add};
-use crate::operators::{is_negated, since_state};
+use crate::operators::{is_negated, since_state, without_rows};
 use crate::tables::Tables;
 use crate::window::Window;
 use mfotl_model::{Interval, is_among};
@@ -119,8 +119,8 @@ fn order_of(
     if is_negated(right) || adds_none(alloc, left, right)? {
         return Ok(None);
     }
-    let columns = core.free_vars(alloc)?;
-    Ok(Some(Table::empty(alloc, Columns::from_vec(columns))))
+    let order = without_rows(alloc, core)?;
+    Ok(Some(order))
 }
 
 /// Adds the node of the core, a conjunction of these sides.
@@ -138,8 +138,7 @@ pub fn add_filter(
     ensures { OnOk result (Adds (And (node_form left.now) (node_form right.now) ∷ []) nodes.old.items nodes.new.items) }
 {
     let order = order_of(alloc, core, left, right)?;
-    let keys = keys_of(alloc, order.is_some(), left, right)?;
-    let window = begun_window(alloc, without_not(right), keys.as_slice())?;
+    let window = asked_window(alloc, order.is_some(), left, right)?;
     let state = FilterState {
         tables: Tables::new(alloc),
         window,
@@ -147,6 +146,16 @@ pub fn add_filter(
         order,
     };
     add(Node::Filter(state), nodes)
+}
+
+// The window that the right side asks, found by the columns of both where it doesn't only filter.
+fn asked_window(alloc: Global, keyed: bool, left: &Core, right: &Core) -> Result<Window, AllocError>
+    requires window { IsTrue (is_window (left_operand (node_form right.now))) }
+    requires accepted { Accepted Role.Part (node_form right.now) }
+    ensures { IfOk result (WindowBegun (left_operand (node_form right.now))) }
+{
+    let keys = keys_of(alloc, keyed, left, right)?;
+    begun_window(alloc, without_not(right), keys.as_slice())
 }
 
 // The columns by which the right side is asked: none where it only filters.

@@ -6,11 +6,10 @@ ghost use Rattle.monitorable.specs.CoreForms.{Until, meaning, node_form};
 ghost use Rattle.monitor_state.specs.Beginnings.{Adds, UntilBegun};
 
 use crate::node::{Node, add};
-use crate::operators::is_negated;
+use crate::operators::{is_negated, without_rows};
 use eval_until::UntilState;
 use mfotl_model::Interval;
 use monitorable::Node as Core;
-use relations::{Columns, Table};
 use std::alloc::{AllocError, Global};
 
 /// Adds the node of `whole`, an UNTIL of these operands.
@@ -27,12 +26,9 @@ pub fn add_until(
     ensures { OnOk result (node_form whole.now ≡ Until interval.now (node_form left.now) (node_form right.now)
         → Adds (node_form whole.now ∷ []) nodes.old.items nodes.new.items) }
 {
+    let order = without_rows(alloc, whole)?;
     let state = until_state(alloc, interval, left, right, &[])?;
-    let columns = whole.free_vars(alloc)?;
-    add(
-        Node::Until(state, Table::empty(alloc, Columns::from_vec(columns))),
-        nodes,
-    )
+    add(Node::Until(state, order), nodes)
 }
 
 /// The state of an UNTIL of these operands, which finds rows by the columns of `keys` at once.

@@ -41,12 +41,17 @@ pub fn add_since(
     ensures { OnOk result (node_form whole.now ≡ Since interval.now (node_form left.now) (node_form right.now)
         → Adds (node_form whole.now ∷ []) nodes.old.items nodes.new.items) }
 {
+    let order = without_rows(alloc, whole)?;
     let state = since_state(alloc, interval, left, right, &[])?;
-    let columns = whole.free_vars(alloc)?;
-    add(
-        Node::Since(state, Table::empty(alloc, Columns::from_vec(columns))),
-        nodes,
-    )
+    add(Node::Since(state, order), nodes)
+}
+
+/// A table without rows whose columns are the variables of a core.
+pub fn without_rows(alloc: Global, core: &Core) -> Result<Table, AllocError>
+    ensures { IfOk result (λ table. table.columns ≡ fv (meaning (node_form core.now))) }
+{
+    let columns = core.free_vars(alloc)?;
+    Ok(Table::empty(alloc, Columns::from_vec(columns)))
 }
 
 /// The state of a SINCE of these operands, which finds rows by the columns of `keys` at once where the left
