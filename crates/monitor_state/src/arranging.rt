@@ -96,11 +96,16 @@ fn keeps_order(alloc: Global, chain: &Core, more: &Core) -> Result<bool, AllocEr
         (fv (meaning (before_windows (node_form chain.now) (node_form more.now))))
         (fv (meaning (And (node_form chain.now) (node_form more.now))))) }
 {
-    let moved = before_windows(alloc, chain, more)?;
-    let moved = moved.free_vars(alloc)?;
-    let plain = beside(alloc, boxed(alloc, chain)?, more)?;
-    let plain = plain.free_vars(alloc)?;
+    let moved = columns_of(alloc, before_windows(alloc, chain, more)?)?;
+    let plain = columns_of(alloc, beside(alloc, boxed(alloc, chain)?, more)?)?;
     Ok(moved.as_slice() == plain.as_slice())
+}
+
+// The columns of a core that isn't needed otherwise.
+fn columns_of(alloc: Global, core: Box<Core>) -> Result<Vec<u32>, AllocError>
+    ensures { IfOk result (λ columns. columns.items ≡ fv (meaning (node_form core.value))) }
+{
+    core.free_vars(alloc)
 }
 
 // A chain of conjuncts with one more, which stands before the windows at its end.
