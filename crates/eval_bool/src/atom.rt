@@ -10,6 +10,7 @@ use mfotl_model::{Atom, Event, Row, TimePoint};
 use relations::{Columns, Table};
 use std::alloc::{AllocError, Global};
 use std::marker::Model;
+use std::mem;
 
 /// An atom that reads rows off the events of one time-point after another. Its columns, the atom's
 /// variables, are found once.
@@ -17,10 +18,12 @@ use std::marker::Model;
 pub struct AtomReader {
     atom: Atom,
     columns: Columns,
+    // Memory for the next table's rows, of which there are none in it.
+    room: Vec<Row>,
 }
 
 impl Model for AtomReader {
-    ghost use Rattle.std.specs.Prelude.{◌≡◌};
+    ghost use Rattle.std.specs.Prelude.{◌≡◌, []};
     ghost use Rattle.mfotl_model.specs.FreeVariables.{variables_in};
     ghost use Rattle.mfotl_model.specs.declared.term.Atom.{Atom as OneAtom};
 
@@ -28,7 +31,7 @@ impl Model for AtomReader {
 
     ghost view = { λ r. r.atom };
 
-    ghost invariant = { λ r. r.columns.items ≡ variables_in r.atom.args };
+    ghost invariant = { λ r. (r.columns.items ≡ variables_in r.atom.args) × (r.room.items ≡ []) };
 }
 
 impl AtomReader {
@@ -37,7 +40,11 @@ impl AtomReader {
         ensures { IfOk result (λ reader. reader ≡ atom) }
     {
         let columns = Columns::from_vec(atom.variables(alloc)?);
-        Ok(AtomReader { atom, columns })
+        Ok(AtomReader {
+            atom,
+            columns,
+            room: Vec::new(alloc),
+        })
     }
 
     fn columns(&self, alloc: Global) -> Result<Columns, AllocError>
@@ -47,24 +54,35 @@ impl AtomReader {
     }
 
     // An atom with as many variables as arguments has distinct variables for arguments.
-    fn rows(&self, alloc: Global, events: &[Event]) -> Result<Vec<Row>, AllocError>
-        ensures { IfOk result (λ rows. rows.items ≡ atom_rows self.now (variables_in self.now.args) events.now) }
+    fn rows(&mut self, alloc: Global, events: &[Event]) -> Result<Vec<Row>, AllocError>
+        ensures same { self.new ≡ self.old }
+        ensures rows { IfOk result (λ rows. rows.items ≡ atom_rows self.old (variables_in self.old.args) events.now) }
     {
+        let room = mem::replace(&mut self.room, Vec::new(alloc));
         if self.columns.len() == self.atom.args.as_slice().len() {
-            plain_rows(alloc, &self.atom, events)
+            plain_rows(alloc, &self.atom, events, room)
         } else {
-            atom_rows(alloc, &self.atom, self.columns.as_slice(), events)
+            atom_rows(alloc, &self.atom, self.columns.as_slice(), events, room)
         }
     }
 
     /// The rows that the events of the time-point give to the atom's variables.
-    pub fn table(&self, alloc: Global, point: &TimePoint) -> Result<Table, AllocError>
-        ensures columns { IfOk result (λ table. table.columns ≡ variables_in self.now.args) }
+    pub fn table(&mut self, alloc: Global, point: &TimePoint) -> Result<Table, AllocError>
+        ensures same { self.new ≡ self.old }
+        ensures columns { IfOk result (λ table. table.columns ≡ variables_in self.old.args) }
         ensures has { IfOk result (λ table. (v : Valuation) →
-            has table v ≡ has_event point.now.db (event_of v self.now)) }
+            has table v ≡ has_event point.now.db (event_of v self.old)) }
     {
         let rows = self.rows(alloc, point.db.of_pred(self.atom.pred))?;
         Ok(Table::from_rows(self.columns(alloc)?, rows))
+    }
+
+    /// Takes back rows that nobody asks for any more: those of the next table stand in their memory.
+    pub fn take_back(&mut self, mut rows: Vec<Row>)
+        ensures { self.new ≡ self.old }
+    {
+        rows.clear();
+        self.room = rows;
     }
 }
 
@@ -74,6 +92,6 @@ pub fn eval_atom(alloc: Global, point: &TimePoint, atom: &Atom) -> Result<Table,
     ensures has { IfOk result (λ table. (v : Valuation) →
         has table v ≡ has_event point.now.db (event_of v atom.now)) }
 {
-    let reader = AtomReader::new(alloc, atom.copy(alloc)?)?;
+    let mut reader = AtomReader::new(alloc, atom.copy(alloc)?)?;
     reader.table(alloc, point)
 }

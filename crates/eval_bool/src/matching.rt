@@ -7,17 +7,19 @@ ghost use Rattle.eval_bool.specs.AtomSteps.{atom_rows};
 use mfotl_model::{Atom, Event, Row};
 use std::alloc::{AllocError, Global};
 
-/// The rows over these columns of those of the events that the atom stands for.
+/// The rows over these columns of those of the events that the atom stands for. They stand in the memory of an empty
+/// list.
 pub(crate) fn atom_rows(
     alloc: Global,
     atom: &Atom,
     columns: &[u32],
     events: &[Event],
+    mut rows: Vec<Row>,
 ) -> Result<Vec<Row>, AllocError>
+    requires empty { rows.items ≡ [] }
     ensures { IfOk result (λ rows.
         rows.items ≡ atom_rows atom.now columns.now events.now) }
 {
-    let mut rows = Vec::new(alloc);
     for event in events {
         if atom.is_match(event) {
             rows.push(atom.row_read(alloc, columns, event)?)?;
@@ -31,12 +33,14 @@ pub(crate) fn plain_rows(
     alloc: Global,
     atom: &Atom,
     events: &[Event],
+    mut rows: Vec<Row>,
 ) -> Result<Vec<Row>, AllocError>
+    requires empty { rows.items ≡ [] }
     requires plain { length (variables_in atom.now.args) ≡ length atom.now.args }
     ensures { IfOk result (λ rows.
         rows.items ≡ atom_rows atom.now (variables_in atom.now.args) events.now) }
 {
-    let mut rows = Vec::with_capacity(alloc, events.len())?;
+    rows.reserve_exact(events.len())?;
     for event in events {
         if is_plain_match(atom, event) {
             rows.push(event.args.copy(alloc)?)?;

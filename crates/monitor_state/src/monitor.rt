@@ -20,7 +20,7 @@ use crate::stack::popped;
 use crate::stamps::{longest, times_behind};
 use crate::state::State;
 use crate::tables::Tables;
-use mfotl_model::TimePoint;
+use mfotl_model::{Row, TimePoint};
 use monitorable::Core;
 use std::alloc::{AllocError, Global};
 use std::collections::VecDeque;
@@ -148,6 +148,16 @@ impl Monitor {
         self.given = self.given.saturating_add(tables.len() as u64);
         self.taken += 1;
         Ok(tables)
+    }
+
+    /// Takes back the rows of a table that the monitor gave and that nobody asks for any more: where the core is an
+    /// atom, the next table's rows stand in their memory.
+    pub fn take_back(&mut self, rows: Vec<Row>)
+        ensures { self.new ≡ self.old }
+    {
+        if let Some(Node::Atom(reader)) = self.nodes.last_mut() {
+            reader.take_back(rows);
+        }
     }
 }
 

@@ -84,12 +84,12 @@ fn advance_constant(
 
 fn advance_atom(
     alloc: Global,
-    reader: &AtomReader,
+    reader: &mut AtomReader,
     point: &TimePoint,
     _stack: &Vec<Tables>,
 ) -> Result<Tables, AllocError>
-    ensures { IfOk result (λ tables. TakesPoint (Node.Atom reader.now) point.now _stack.now.items
-        (Node.Atom reader.now) _stack.now.items tables) }
+    ensures { IfOk result (λ tables. TakesPoint (Node.Atom reader.old) point.now _stack.now.items
+        (Node.Atom reader.new) _stack.now.items tables) }
 {
     match reader.table(alloc, point) {
         Ok(table) => Ok(Tables::one(alloc, table)),

@@ -146,7 +146,7 @@ pub until_data_send : IsSend (UntilData.the_field).row
 until_data_send = search (row_send, table_send, base) depth 30
 
 pub reader_send : IsSend (AtomReader.the_field).row
-reader_send = search (atom_send, base) depth 30
+reader_send = search (row_send, atom_send, base) depth 30
 
 pub join_send : IsSend (JoinState.the_field).row
 join_send = search (comparison_send, table_send, base) depth 40

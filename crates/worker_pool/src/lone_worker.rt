@@ -59,7 +59,9 @@ impl LoneWorker {
     {
         let ts = self.monitor.time_at(point);
         let rows = RowList::new(table.into_rows());
-        self.writer.write(&Verdict { point, ts, rows }, out)?;
+        let verdict = Verdict { point, ts, rows };
+        self.writer.write(&verdict, out)?;
+        self.monitor.take_back(verdict.rows.into_vec());
         Ok(())
     }
 
