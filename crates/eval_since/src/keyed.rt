@@ -1,5 +1,6 @@
 //! Many rows with the times kept for them, each found by the hash of a key that stands for it.
-ghost use Rattle.std.specs.Prelude.{◌≡◌, ◌||◌, ◌&&◌, ◌==◌, ◌<◌, ◌++◌, ◌∷◌, [], IfOk, List, None, OnOk, Some, cond, length};
+ghost use Rattle.std.specs.Prelude.{◌≡◌, ◌||◌, ◌&&◌, ◌==◌, ◌<◌, ◌++◌, ◌∷◌, [], IfOk, List, None, OnOk, Some};
+ghost use Rattle.std.specs.Prelude.{cond, length};
 ghost use Rattle.std.specs.BTreeMap.{is_at};
 ghost use Rattle.std.specs.Option.{option_or};
 ghost use Rattle.mfotl_model.specs.Tables.{has_row, part};

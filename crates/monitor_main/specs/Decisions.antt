@@ -14,12 +14,9 @@ use Rattle.monitor_main.specs.declared.refusal.InputFile.{InputFile}
 use Rattle.monitor_main.specs.declared.refusal.InputFile.TheVariants as file
 use Rattle.monitor_main.specs.declared.refusal.Refusal.{Refusal}
 use Rattle.monitor_main.specs.declared.refusal.Refusal.TheVariants.{Usage, Read, Write, Memory}
-use Rattle.monitor_main.specs.Answer.{Answer, answer, command_answer, log_answer}
-use Rattle.monitor_main.specs.Tasks.{CheckedPolicy, Task}
-use Rattle.monitor_main.specs.Unread.{bytes_of}
-use Rattle.monitor_main.specs.Answer.{verdict_status}
-use Rattle.monitor_main.specs.Tasks.{task_on}
-use Rattle.monitor_main.specs.Unread.{seen_of, text_at_failure}
+use Rattle.monitor_main.specs.Answer.{Answer, answer, command_answer, log_answer, verdict_status}
+use Rattle.monitor_main.specs.Tasks.{CheckedPolicy, Task, task_on}
+use Rattle.monitor_main.specs.Unread.{bytes_of, seen_of, text_at_failure}
 use Rattle.monitor_main.specs.FilesAsked.{AsksInOrder, names_to}
 use Rattle.monitor_main.specs.Refusals.{line_of, status_of}
 use Rattle.monitor_main.specs.Words.{Command, command_of}

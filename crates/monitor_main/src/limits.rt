@@ -6,7 +6,7 @@ pub const MAX_FILE: u64 = 1 << 20;
 /// The most threads beside the one that reads and writes.
 pub const MAX_THREADS: u32 = 64;
 
-/// So many threads serve a demo's workers. The default of `--threads` is the same number as a text.
+/// So many threads serve the workers where no number is given. The default of `--threads` is this number as a text.
 pub const DEFAULT_THREADS: u32 = 4;
 
 /// The greatest seed of a demo.

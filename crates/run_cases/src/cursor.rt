@@ -1,5 +1,4 @@
 //! Lines and bytes of a file of cases, in order.
-ghost use Rattle.std.specs.Prelude.{◌≡◌, ◌<◌, ◌≤◌, length, OnOk, IsSome, OnSome, IfSome};
 
 /// A place in a file of cases.
 #[derive(Drop)]

@@ -21,6 +21,7 @@ pub struct Bell {
 }
 
 impl Bell {
+    /// It never rang, and nobody sleeps on it.
     pub fn new() -> Self {
         Bell {
             rings: AtomicU64::new(0),
