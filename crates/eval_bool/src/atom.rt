@@ -73,8 +73,9 @@ impl AtomReader {
         ensures has { IfOk result (λ table. (v : Valuation) →
             has table v ≡ has_event point.now.db (event_of v self.old)) }
     {
+        let columns = self.columns(alloc)?;
         let rows = self.rows(alloc, point.db.of_pred(self.atom.pred))?;
-        Ok(Table::from_rows(self.columns(alloc)?, rows))
+        Ok(Table::from_rows(columns, rows))
     }
 
     /// Takes back rows that nobody asks for any more: those of the next table stand in their memory.

@@ -14,14 +14,14 @@ from_rows-requires-clause-apart c =
 
 pub from_rows-requires-clause-sized : goal.from_rows-requires-clause-sized
 from_rows-requires-clause-sized c =
-    ap₂ (λ columns rows. all_sized (length columns) rows) c.in_ok-columns.ensures c.in_ok-rows.ensures
+    ap₂ (λ columns rows. all_sized (length columns) rows) c.in_ok-columns.ensures c.in_ok-rows.ensures.rows
     ∙ sized_rows c.args.self.now (variables_in c.args.self.now.args) c.of_pred.result.now
 
 pub returns-clause-has : goal.returns-clause-has
 returns-clause-has c = λ v.
     c.from_rows.ensures.has v
-    ∙ ap₂ (λ columns rows. has_row rows (map v columns)) c.in_ok-columns.ensures c.in_ok-rows.ensures
+    ∙ ap₂ (λ columns rows. has_row rows (map v columns)) c.in_ok-columns.ensures c.in_ok-rows.ensures.rows
     ∙ has_matching v c.args.self.now c.of_pred.result.now
     ∙ ap (λ db. has_event db (event_of v c.args.self.now))
-    (c.of_pred.ensures ∙ ap (λ (atom : OneAtom). filter (has_pred atom.pred) c.args.point.now.db) c.self.view_is)
+    (c.of_pred.ensures ∙ ap (λ (atom : OneAtom). filter (has_pred atom.pred) c.args.point.now.db) c.rows.view_is)
     ∙ has_own v c.args.self.now c.args.point.now.db
