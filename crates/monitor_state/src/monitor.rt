@@ -153,10 +153,10 @@ impl Monitor {
     /// Takes back the rows of a table that the monitor gave and that nobody asks for any more: where the core is an
     /// atom, the next table's rows stand in their memory.
     pub fn take_back(&mut self, rows: Vec<Row>)
-        ensures { self.new ≡ self.old }
+        ensures { monitor_of self.new ≡ monitor_of self.old }
     {
-        if let Some(Node::Atom(reader)) = self.nodes.last_mut() {
-            reader.take_back(rows);
+        if let Some(node) = self.nodes.last_mut() {
+            node.take_back(rows);
         }
     }
 }

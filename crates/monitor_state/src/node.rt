@@ -15,7 +15,7 @@ use crate::until::take_until;
 use eval_bool::{AtomReader, JoinState, OrState};
 use eval_since::{PrevState, SinceState};
 use eval_until::{NextState, UntilState};
-use mfotl_model::TimePoint;
+use mfotl_model::{Row, TimePoint};
 use relations::Table;
 use std::alloc::{AllocError, Global};
 
@@ -63,6 +63,15 @@ impl Node {
             Node::Next(state) => advance_next(alloc, state, point, stack),
             Node::Since(state, order) => advance_since(alloc, state, order, point, stack),
             Node::Until(state, order) => advance_until(alloc, state, order, point, stack),
+        }
+    }
+
+    /// Takes back rows that the node gave, where it has a use for their memory.
+    pub fn take_back(&mut self, rows: Vec<Row>)
+        ensures { self.new ≡ self.old }
+    {
+        if let Node::Atom(reader) = self {
+            reader.take_back(rows);
         }
     }
 }
