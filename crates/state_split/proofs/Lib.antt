@@ -7,4 +7,3 @@ pub mod CutLaw
 pub mod FitLemmas
 pub mod SieveLemmas
 pub mod ShareLemmas
-pub mod WindowLemmas

@@ -1,11 +1,24 @@
 -- Elements dealt among workers: one by one, and a list of them.
 use Rattle.std.proofs.Common.{◌≡◌, ◌∙◌, ap, sym, subst, refl, arith, ℕ, zero, suc, ◌+◌, ◌<◌, Bool, true, false}
 use Rattle.std.proofs.Common.{cond, List, [], ◌∷◌, ◌++◌}
-use Rattle.std.proofs.Common.{length, set, get_or, map, replicate}
-use Rattle.std.proofs.Common.{append_assoc, append-nil, length-append}
-use Rattle.std.proofs.lemmas.List.{get_or-map, length-map, map-append, map-set}
-use Rattle.std.specs.List.{filter, zip}
-use Rattle.relations.proofs.PushedLemmas.{stand_push}
+use Rattle.std.proofs.Common.{length, set, get_or, take, drop, map, replicate}
+use Rattle.std.proofs.Common.{append_assoc, append-nil}
+use Rattle.std.proofs.lemmas.Iterator.{IsCollectResult, YieldsList-from_map, items_from_collect, maps}
+use Rattle.std.proofs.lemmas.Iterator.Adapters.{YieldsList-from_vec}
+use Rattle.std.proofs.lemmas.Iterator.Consumers.{YieldsList-at}
+use Rattle.std.proofs.lemmas.List.{get_or-map, length-map, length-replicate, map-append, map-set}
+use Rattle.std.specs.Fn.{Called}
+use Rattle.std.specs.Iterator.Adapters.{map_callee, map_source}
+use Rattle.std.specs.List.{AllByRecursion, filter, range_with_len, zip}
+use Rattle.std.specs.Result.{IfOk}
+use Rattle.std.specs.Vec.{vec_items}
+use Rattle.std.specs.Vec.Iter.{into_iter_items, into_iter_len, into_iter_steps}
+use Rattle.std.specs.declared.iter.Map.{Map}
+use Rattle.std.specs.declared.result.Result.{Result}
+use Rattle.std.specs.declared.result.Result.TheVariants.{Err, Ok}
+use Rattle.std.specs.declared.vec.IntoIter.{IntoIter}
+use Rattle.std.specs.declared.vec.Vec.{Vec}
+use denote.Param.Members.{Mut}
 use Rattle.relations.specs.Pushed.{StandFrom}
 use Rattle.slice_strategy.proofs.SharingLemmas.{given_next, given_none, given_size, up_to}
 use Rattle.slice_strategy.specs.Sharing.{given_to}
@@ -47,6 +60,20 @@ module _ {X : Type 0} where
     longer_stands P Q R (y + 1) shares xs step (omega (arith, size)) all.1 more.1,
   )
 
+  -- the share at this place has one more, and those behind it wait
+  pub longer_step : {V : Type 0} (h : V → List X) (shares : List V) (at : ℕ) (v new : V) (x : X)
+      (before rest : List X) (all : List (List X)) → at < length shares → v ≡ get_or shares at v
+      → h new ≡ h v ++ x ∷ [] → before ≡ x ∷ rest
+      → take at (map h shares) ++ each_longer (drop at (map h shares)) before ≡ all
+      → take (suc at) (map h (set shares at new)) ++ each_longer (drop (suc at) (map h (set shares at new))) rest ≡ all
+  longer_step h [] at v new x before rest all low here made is so_far = absurd (omega (arith, low))
+  longer_step h (share ∷ shares) zero v new x before rest all low here made is so_far =
+      ap (λ y. y ∷ each_longer (map h shares) rest) (made ∙ ap (λ w. h w ++ x ∷ []) here)
+      ∙ ap (each_longer (h share ∷ map h shares)) (sym is) ∙ so_far
+  longer_step h (share ∷ shares) (suc at) v new x before rest all low here made is so_far =
+      ap (λ more. h share ∷ more)
+      (longer_step h shares at v new x before rest _ (omega (arith, low)) here made is refl) ∙ so_far
+
   pub empty_stand : (P : ℕ → List X → Type 0) (y n : ℕ) → ((k : ℕ) → P k []) → StandFrom P y (replicate n [])
   empty_stand P y zero all = tt
   empty_stand P y (suc n) all = (all y, empty_stand P (y + 1) n all)
@@ -56,46 +83,57 @@ module _ {X : Type 0} where
   stand_weaker P Q y [] step all = tt
   stand_weaker P Q y (x ∷ xs) step all = (step y x all.0, stand_weaker P Q (y + 1) xs step all.1)
 
+pub stand_all : {X : Type 0} (P : ℕ → X → Type 0) (Q : X → Type 0) (y : ℕ) (xs : List X)
+    → ((k : ℕ) (x : X) → P k x → Q x) → StandFrom P y xs → AllByRecursion Q xs
+stand_all P Q y [] step all = tt
+stand_all P Q y (x ∷ xs) step all = (step y x all.0, stand_all P Q (y + 1) xs step all.1)
+
 -- what is made of each of the items
 pub stand_unmapped : {X Y : Type 0} (P : ℕ → Y → Type 0) (h : X → Y) (y : ℕ) (xs : List X)
     → StandFrom P y (map h xs) → StandFrom (λ k x. P k (h x)) y xs
 stand_unmapped P h y [] all = tt
 stand_unmapped P h y (x ∷ xs) all = (all.0, stand_unmapped P h (y + 1) xs all.1)
 
--- ---- one thing built of each
+-- ---- one thing made of each
 
--- what was built stands for the first workers, what is left for those behind them
-pub record Building {X Y : Type 0} (count : ℕ) (L : ℕ → X → Type 0) (P : ℕ → Y → Type 0) (left : List X)
-    (built : List Y) : Type 0 where
-  pub sized : length built + length left ≡ count
-  pub waiting : StandFrom L (length built) left
-  pub done : StandFrom P 0 built
+stand_mapped : {X Y : Type 0} (L : ℕ → X → Type 0) (P : ℕ → Y → Type 0) (f : X → Y) (n : ℕ) (xs : List X)
+    → ((k : ℕ) (x : X) → L k x → P k (f x)) → StandFrom L n xs → StandFrom P n (map f xs)
+stand_mapped L P f n [] step all = tt
+stand_mapped L P f n (x ∷ xs) step all = (step n x all.0, stand_mapped L P f (n + 1) xs step all.1)
 
-module _ {X Y : Type 0} (count : ℕ) (L : ℕ → X → Type 0) (P : ℕ → Y → Type 0) where
-  pub build_none : (xs left : List X) (built : List Y) → built ≡ [] → left ≡ xs → OneEach count L xs
-      → Building count L P left built
-  build_none xs left built none same each =
-      subst (λ ys. Building count L P left ys) (sym none) (subst (λ ls. Building count L P ls []) (sym same)
-      (record { sized = omega (arith, each.sized); waiting = each.each; done = tt }))
+pub each_mapped : {X Y : Type 0} (n : ℕ) (L : ℕ → X → Type 0) (P : ℕ → Y → Type 0) (f : X → Y) (xs : List X)
+    (ys : List Y) → ys ≡ map f xs → ((k : ℕ) (x : X) → L k x → P k (f x)) → OneEach n L xs → OneEach n P ys
+each_mapped n L P f xs ys is step each =
+    subst (OneEach n P) (sym is)
+    (record { sized = length-map xs f ∙ each.sized; each = stand_mapped L P f 0 xs step each.each })
 
-  pub build_more : (x : X) (left before : List X) (y : Y) (built after : List Y) → before ≡ x ∷ left
-      → after ≡ built ++ y ∷ [] → (L (length built) x → P (length built) y) → Building count L P before built
-      → Building count L P left after
-  build_more x left before y built after is made step all =
-      let was : Building count L P (x ∷ left) built = subst (λ ls. Building count L P ls built) is all in
-      let longer : length (built ++ y ∷ []) ≡ length built + 1 = length-append built (y ∷ []) in
-      subst (λ ys. Building count L P left ys) (sym made)
-      (record {
-        sized = omega (arith, longer, was.sized);
-        waiting = subst (λ n. StandFrom L n left) (sym longer) was.waiting.1;
-        done = stand_push P 0 built y was.done
-            (subst (λ n. P n y) (let e : length built ≡ 0 + length built = omega arith in e) (step was.waiting.0));
-      })
+-- what a chain collects that starts at a list
+pub each_collected : {X Y Z E F : Type 0} (n : ℕ) (L : ℕ → X → Type 0) (P : ℕ → Y → Type 0) (f : X → Y) (xs : List X)
+    (g : Mut F (X × Unit {0}) Y) {it : IntoIter X Z} {s : Map (IntoIter X Z) F} {callee : F} (r : Result (Vec Y Z) E)
+    → OneEach n L xs → IsCollectResult (maps (into_iter_steps {X = X} {Z = Z}) g) s r → map_source s ≡ it
+    → into_iter_items it ≡ xs → into_iter_len it ≡ length xs → map_callee s ≡ callee
+    → ((x : X) (y : Y) (q : F) → Called g callee (x, tt) y q → (q ≡ callee) × (y ≡ f x))
+    → ((k : ℕ) (x : X) → L k x → P k (f x)) → IfOk r (λ w. OneEach n P (vec_items w))
+each_collected {X = X} {Y = Y} {Z = Z} {E = E} n L P f xs g r each ran source items size same calls step =
+    by r (items_from_collect r ran
+    (YieldsList-from_map g f (YieldsList-at source (YieldsList-from_vec xs items size)) same calls))
+  where
+    by : (r : Result (Vec Y Z) E) → IfOk r (λ w. vec_items w ≡ map f xs) → IfOk r (λ w. OneEach n P (vec_items w))
+    by (Ok w) is = each_mapped n L P f xs (vec_items w) is step each
+    by (Err e) is = tt
 
-  pub build_all : (left : List X) (built : List Y) (n : ℕ) → n ≡ length left → n ≡ 0 → Building count L P left built
-      → OneEach count P built
-  build_all left built n size none all =
-      record { sized = omega (arith, all.sized); each = all.done }
+same_stand : {X : Type 0} (P : ℕ → X → Type 0) (x : X) (y n : ℕ) → ((k : ℕ) → P k x) → StandFrom P y (replicate n x)
+same_stand P x y zero all = tt
+same_stand P x y (suc n) all = (all y, same_stand P x (y + 1) n all)
+
+pub each_copied : {X Y : Type 0} (h : X → Y) (y : Y) (n count : ℕ) (xs : List X) → n ≡ count
+    → map h xs ≡ replicate n y → OneEach count (λ k x. h x ≡ y) xs
+each_copied h y n count xs same is =
+    record {
+      sized = sym (length-map xs h) ∙ ap length is ∙ length-replicate n y ∙ same;
+      each = stand_unmapped (λ k z. z ≡ y) h 0 xs
+          (subst (StandFrom (λ k z. z ≡ y) 0) (sym is) (same_stand (λ k z. z ≡ y) y 0 n (λ k. refl)));
+    }
 
 -- ---- shares of what is told of items
 
@@ -149,10 +187,6 @@ pub dealt_all : {X : Type 0} (p : X → Bool) (rest all share : List X) → rest
 dealt_all p rest all share none e =
     sym (append-nil share) ∙ ap (λ xs. share ++ filter p xs) (sym none) ∙ e
 
-pub each_weaker : {X : Type 0} (n : ℕ) (P Q : ℕ → X → Type 0) (xs : List X) → ((k : ℕ) (x : X) → P k x → Q k x)
-    → OneEach n P xs → OneEach n Q xs
-each_weaker n P Q xs step all = record { sized = all.sized; each = stand_weaker P Q 0 xs step all.each }
-
 stand_zipped : {X Y : Type 0} (L : ℕ → X → Type 0) (R : ℕ → Y → Type 0) (n : ℕ) (xs : List X) (ys : List Y)
     → length xs ≡ length ys → StandFrom L n xs → StandFrom R n ys → StandFrom (λ k e. L k e.0 × R k e.1) n (zip xs ys)
 stand_zipped L R n [] ys size ls rs = tt
@@ -187,7 +221,30 @@ pub mapped_all : {X Y : Type 0} (f : X → Y) (rest : List X) (share all : List 
     → share ++ map f rest ≡ all → share ≡ all
 mapped_all f rest share all none e = sym (append-nil share) ∙ ap (λ xs. share ++ map f xs) (sym none) ∙ e
 
-pub first_waits : {X Y : Type 0} (count : ℕ) (L : ℕ → X → Type 0) (P : ℕ → Y → Type 0) (x : X) (left before : List X)
-    (built : List Y) → before ≡ x ∷ left → Building count L P before built → L (length built) x
-first_waits count L P x left before built is all =
-    let was : StandFrom L (length built) (x ∷ left) = subst (StandFrom L (length built)) is all.waiting in was.0
+-- ---- one thing made of each, and of its number
+
+stand_numbered : {X Y : Type 0} (L : ℕ → X → Type 0) (P : ℕ → Y → Type 0) (f : ℕ × X → Y) (y n : ℕ) (xs : List X)
+    → length xs ≡ n → ((k : ℕ) (x : X) → L k x → P k (f (k, x))) → StandFrom L y xs
+    → StandFrom P y (map f (zip (range_with_len y n) xs))
+stand_numbered L P f y zero xs size step all = tt
+stand_numbered L P f y (suc n) [] size step all = absurd (omega (arith, size))
+stand_numbered L P f y (suc n) (x ∷ xs) size step all =
+    (step y x all.0, stand_numbered L P f (y + 1) n xs (omega (arith, size)) step all.1)
+
+range_size : (y n : ℕ) → length (range_with_len y n) ≡ n
+range_size y zero = refl
+range_size y (suc n) = ap suc (range_size (y + 1) n)
+
+pub each_numbered : {X Y Z E : Type 0} (n count : ℕ) (L : ℕ → X → Type 0) (P : ℕ → Y → Type 0) (f : ℕ × X → Y)
+    (xs : List X) (r : Result (Vec Y Z) E) → n ≡ count
+    → IfOk r (λ w. vec_items w ≡ map f (zip (range_with_len 0 n) xs))
+    → ((k : ℕ) (x : X) → L k x → P k (f (k, x))) → OneEach count L xs → IfOk r (λ w. OneEach count P (vec_items w))
+each_numbered n count L P f xs (Err e) same is step each = tt
+each_numbered n count L P f xs (Ok w) same is step each =
+    let size : length xs ≡ n = each.sized ∙ sym same in
+    subst (OneEach count P) (sym is)
+    (record {
+      sized = length-map (zip (range_with_len 0 n) xs) f
+          ∙ zip_size (range_with_len 0 n) xs (range_size 0 n ∙ sym size) ∙ range_size 0 n ∙ same;
+      each = stand_numbered L P f 0 n xs size step each.each;
+    })

@@ -6,9 +6,9 @@ ghost use Rattle.monitor_state.specs.declared.state.NodeData.TheVariants.{Window
 ghost use Rattle.state_split.specs.Fits.{CutNodes, NodesFit};
 ghost use Rattle.state_split.specs.Shares.{OneEach};
 
-use crate::shares::{empty_shares, longer, paired};
+use crate::shares::{empty_shares, lengthen, paired};
 use crate::sorter::Sorter;
-use crate::tables::{cut_lists, cut_tables};
+use crate::tables::{cut_lists, cut_operands, cut_tables};
 use crate::windows::cut_window;
 use eval_bool::{JoinData, OrData};
 use eval_since::PrevData;
@@ -38,15 +38,12 @@ fn cut_join<S: Sorter>(
     ensures { IfOk result (λ cuts.
         CutNodes (S.count sorter.now) (S.region sorter.now) (Join join) cuts.items) }
 {
+    let pulled = join.pulled;
     let lists = cut_lists(alloc, sorter, join.tables)?;
-    let mut cuts = Vec::with_capacity(alloc, lists.len())?;
-    for tables in lists {
-        cuts.push(NodeData::Join(JoinData {
-            pulled: join.pulled,
-            tables,
-        }))?;
-    }
-    Ok(cuts)
+    lists
+        .into_iter()
+        .map(|tables| NodeData::Join(JoinData { pulled, tables }))
+        .collect(alloc)
 }
 
 fn cut_or<S: Sorter>(alloc: Global, sorter: &S, or: OrData) -> Result<Vec<NodeData>, AllocError>
@@ -54,18 +51,18 @@ fn cut_or<S: Sorter>(alloc: Global, sorter: &S, or: OrData) -> Result<Vec<NodeDa
     ensures { IfOk result (λ cuts.
         CutNodes (S.count sorter.now) (S.region sorter.now) (Or or) cuts.items) }
 {
-    let lefts = cut_tables(alloc, sorter, or.lefts)?;
-    let rights = cut_tables(alloc, sorter, or.rights)?;
-    let pairs = paired(alloc, lefts, rights)?;
-    let mut cuts = Vec::with_capacity(alloc, pairs.len())?;
-    for (lefts, rights) in pairs {
-        cuts.push(NodeData::Or(OrData {
-            pulled: or.pulled,
-            lefts,
-            rights,
-        }))?;
-    }
-    Ok(cuts)
+    let pulled = or.pulled;
+    let operands = cut_operands(alloc, sorter, or.lefts, or.rights)?;
+    operands
+        .into_iter()
+        .map(|(lefts, rights)| {
+            NodeData::Or(OrData {
+                pulled,
+                lefts,
+                rights,
+            })
+        })
+        .collect(alloc)
 }
 
 fn cut_previous<S: Sorter>(
@@ -77,15 +74,12 @@ fn cut_previous<S: Sorter>(
     ensures { IfOk result (λ cuts.
         CutNodes (S.count sorter.now) (S.region sorter.now) (Previous previous) cuts.items) }
 {
+    let pulled = previous.pulled;
     let lists = cut_tables(alloc, sorter, previous.tables)?;
-    let mut cuts = Vec::with_capacity(alloc, lists.len())?;
-    for tables in lists {
-        cuts.push(NodeData::Previous(PrevData {
-            pulled: previous.pulled,
-            tables,
-        }))?;
-    }
-    Ok(cuts)
+    lists
+        .into_iter()
+        .map(|tables| NodeData::Previous(PrevData { pulled, tables }))
+        .collect(alloc)
 }
 
 fn cut_next<S: Sorter>(
@@ -97,16 +91,19 @@ fn cut_next<S: Sorter>(
     ensures { IfOk result (λ cuts.
         CutNodes (S.count sorter.now) (S.region sorter.now) (Next next) cuts.items) }
 {
+    let pulled = next.pulled;
+    let started = next.started;
     let lists = cut_tables(alloc, sorter, next.tables)?;
-    let mut cuts = Vec::with_capacity(alloc, lists.len())?;
-    for tables in lists {
-        cuts.push(NodeData::Next(NextData {
-            pulled: next.pulled,
-            started: next.started,
-            tables,
-        }))?;
-    }
-    Ok(cuts)
+    lists
+        .into_iter()
+        .map(|tables| {
+            NodeData::Next(NextData {
+                pulled,
+                started,
+                tables,
+            })
+        })
+        .collect(alloc)
 }
 
 fn cut_behind<S: Sorter>(
@@ -119,11 +116,10 @@ fn cut_behind<S: Sorter>(
         CutNodes (S.count sorter.now) (S.region sorter.now) (Window window) cuts.items) }
 {
     let windows = cut_window(alloc, sorter, window)?;
-    let mut cuts = Vec::with_capacity(alloc, windows.len())?;
-    for window in windows {
-        cuts.push(NodeData::Window(window))?;
-    }
-    Ok(cuts)
+    windows
+        .into_iter()
+        .map(|window| NodeData::Window(window))
+        .collect(alloc)
 }
 
 fn cut_filter<S: Sorter>(
@@ -139,11 +135,10 @@ fn cut_filter<S: Sorter>(
     let lists = cut_tables(alloc, sorter, tables)?;
     let windows = cut_window(alloc, sorter, window)?;
     let pairs = paired(alloc, lists, windows)?;
-    let mut cuts = Vec::with_capacity(alloc, pairs.len())?;
-    for (tables, window) in pairs {
-        cuts.push(NodeData::Filter(tables, window))?;
-    }
-    Ok(cuts)
+    pairs
+        .into_iter()
+        .map(|(tables, window)| NodeData::Filter(tables, window))
+        .collect(alloc)
 }
 
 fn cut_node<S: Sorter>(
@@ -178,7 +173,7 @@ pub(crate) fn cut_nodes<S: Sorter>(
     let mut cuts = empty_shares(alloc, sorter.workers())?;
     for node in nodes {
         let added = cut_node(alloc, sorter, node)?;
-        cuts = longer(alloc, cuts, added)?;
+        lengthen(&mut cuts, added)?;
     }
     Ok(cuts)
 }

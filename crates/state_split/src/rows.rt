@@ -10,6 +10,15 @@ use crate::shares::empty_shares;
 use crate::sorter::Sorter;
 use std::alloc::{AllocError, Global};
 
+// Puts a copy of the row behind those in the share.
+fn give_copy<K: Kept>(alloc: Global, kept: &K, share: &mut Vec<K>) -> Result<(), AllocError>
+    ensures { OnOk result
+        (map K.told share.new.items ≡ with_last (K.told kept.now) (map K.told share.old.items)) }
+{
+    share.push(kept.copied(alloc)?)?;
+    Ok(())
+}
+
 // Puts the row into the shares of the workers that it goes to: itself into the last, copies into the others.
 fn hand_out<S: Sorter, K: Kept>(
     alloc: Global,
@@ -31,7 +40,7 @@ fn hand_out<S: Sorter, K: Kept>(
     };
     let mut last = first;
     while let Some(next) = sorter.next_worker(last + 1, columns, kept.row()) {
-        shares[last as usize].push(kept.copied(alloc)?)?;
+        give_copy(alloc, &kept, &mut shares[last as usize])?;
         last = next;
     }
     shares[last as usize].push(kept)?;

@@ -1,5 +1,5 @@
 //! Lists for workers, one for each.
-ghost use Rattle.std.specs.Prelude.{◌≡◌, [], IfOk, length, map, replicate};
+ghost use Rattle.std.specs.Prelude.{◌≡◌, [], IfOk, OnOk, length, map, replicate};
 ghost use Rattle.std.specs.List.{zip};
 ghost use Rattle.state_split.specs.Shares.{each_longer};
 
@@ -16,26 +16,35 @@ pub(crate) fn empty_shares<T: Drop>(alloc: Global, count: u32) -> Result<Vec<Vec
     Ok(shares)
 }
 
-/// The lists, each with one element more.
-pub(crate) fn longer<T: Drop>(
+/// So many copies of the list.
+pub(crate) fn copies<T: Copy>(
     alloc: Global,
-    shares: Vec<Vec<T>>,
-    added: Vec<T>,
+    list: &[T],
+    count: u32,
 ) -> Result<Vec<Vec<T>>, AllocError>
-    requires { length added.items ≡ length shares.items }
-    ensures { IfOk result (λ all.
-        map (λ s. s.items) all.items ≡ each_longer (map (λ s. s.items) shares.items) added.items) }
+    ensures { IfOk result (λ copies. map (λ c. c.items) copies.items ≡ replicate count list.now) }
 {
-    let mut all = Vec::with_capacity(alloc, shares.len())?;
+    let mut copies = Vec::with_capacity(alloc, count as usize)?;
+    for _ in 0..count {
+        copies.push(Vec::from_slice(alloc, list)?)?;
+    }
+    Ok(copies)
+}
+
+/// Puts an element behind those in each of the lists.
+pub(crate) fn lengthen<T: Drop>(shares: &mut Vec<Vec<T>>, added: Vec<T>) -> Result<(), AllocError>
+    requires { length added.items ≡ length shares.old.items }
+    ensures { OnOk result
+        (map (λ s. s.items) shares.new.items ≡ each_longer (map (λ s. s.items) shares.old.items) added.items) }
+{
     let mut added = added.into_iter();
-    for mut share in shares {
+    for at in 0..shares.len() {
         let Some(element) = added.next() else {
             unreachable!();
         };
-        share.push(element)?;
-        all.push(share)?;
+        shares[at].push(element)?;
     }
-    Ok(all)
+    Ok(())
 }
 
 /// Each element of the first list with that of the second.
@@ -44,16 +53,7 @@ pub(crate) fn paired<A: Drop, B: Drop>(
     first: Vec<A>,
     second: Vec<B>,
 ) -> Result<Vec<(A, B)>, AllocError>
-    requires { length first.items ≡ length second.items }
     ensures { IfOk result (λ pairs. pairs.items ≡ zip first.items second.items) }
 {
-    let mut pairs = Vec::with_capacity(alloc, first.len())?;
-    let mut others = second.into_iter();
-    for one in first {
-        let Some(other) = others.next() else {
-            unreachable!();
-        };
-        pairs.push((one, other))?;
-    }
-    Ok(pairs)
+    first.into_iter().zip(second).collect(alloc)
 }

@@ -1,35 +1,43 @@
 //! The data of windows cut for workers: each gets the rows in its region, and all that is kept for them.
-ghost use Rattle.std.specs.Prelude.{◌≡◌, IfOk};
-ghost use Rattle.monitor_state.specs.declared.state.SinceKept.{SinceKept};
-ghost use Rattle.monitor_state.specs.declared.state.UntilKept.{UntilKept};
+ghost use Rattle.std.specs.Prelude.{IfOk};
 ghost use Rattle.monitor_state.specs.declared.state.WindowData.TheVariants.{Since, Until};
 ghost use Rattle.state_split.specs.Fits.{CutWindows};
+ghost use Rattle.state_split.specs.Shares.{OneEach};
+ghost use Rattle.state_split.specs.Sieves.{SinceDealt, UntilDealt};
 
 use crate::rows::dealt_rows;
-use crate::shares::paired;
+use crate::shares::{copies, paired};
 use crate::sorter::Sorter;
-use crate::tables::cut_tables;
+use crate::tables::cut_operands;
 use eval_since::SinceData;
 use eval_until::UntilData;
-use mfotl_model::Interval;
 use monitor_state::{SinceKept, UntilKept, WindowData};
 use std::alloc::{AllocError, Global};
 
-fn since_over(
+// The tables and rows for each worker, where the rows are over these columns.
+fn cut_since_data<S: Sorter>(
     alloc: Global,
-    interval: Interval,
+    sorter: &S,
     columns: &[u32],
     kept: SinceData,
-) -> Result<WindowData, AllocError>
-    ensures { IfOk result (λ window. (since : SinceKept) × (window ≡ Since since) × (since.interval ≡ interval)
-        × (since.columns.items ≡ columns.now) × (since.kept ≡ kept)) }
+) -> Result<Vec<SinceData>, AllocError>
+    requires { S.tells sorter.now }
+    ensures { IfOk result (λ cuts. OneEach (S.count sorter.now)
+        (λ k cut. SinceDealt (S.region sorter.now k) columns.now kept cut) cuts.items) }
 {
-    let columns = Vec::from_slice(alloc, columns)?;
-    Ok(WindowData::Since(SinceKept {
-        interval,
-        columns,
-        kept,
-    }))
+    let pulled = kept.pulled;
+    let operands = cut_operands(alloc, sorter, kept.lefts, kept.rights)?;
+    let rows = dealt_rows(alloc, sorter, columns, kept.rows)?;
+    let pairs = paired(alloc, operands, rows)?;
+    pairs
+        .into_iter()
+        .map(|((lefts, rights), rows)| SinceData {
+            pulled,
+            lefts,
+            rights,
+            rows,
+        })
+        .collect(alloc)
 }
 
 fn cut_since<S: Sorter>(
@@ -42,39 +50,52 @@ fn cut_since<S: Sorter>(
         CutWindows (S.count sorter.now) (S.region sorter.now) (Since since) cuts.items) }
 {
     let interval = since.interval;
-    let columns = since.columns;
-    let kept = since.kept;
-    let lefts = cut_tables(alloc, sorter, kept.lefts)?;
-    let rights = cut_tables(alloc, sorter, kept.rights)?;
-    let rows = dealt_rows(alloc, sorter, &columns, kept.rows)?;
-    let tables = paired(alloc, lefts, rights)?;
-    let pairs = paired(alloc, tables, rows)?;
-    let mut cuts = Vec::with_capacity(alloc, pairs.len())?;
-    for (tables, rows) in pairs {
-        let (lefts, rights) = tables;
-        let kept = SinceData {
-            pulled: kept.pulled,
-            lefts,
-            rights,
-            rows,
-        };
-        cuts.push(since_over(alloc, interval, &columns, kept)?)?;
-    }
-    Ok(cuts)
+    let kept = cut_since_data(alloc, sorter, &since.columns, since.kept)?;
+    let columns = copies(alloc, &since.columns, sorter.workers())?;
+    let pairs = paired(alloc, columns, kept)?;
+    pairs
+        .into_iter()
+        .map(|(columns, kept)| {
+            WindowData::Since(SinceKept {
+                interval,
+                columns,
+                kept,
+            })
+        })
+        .collect(alloc)
 }
 
-fn until_over(
+// The tables, starts and rows for each worker, where the starts are over the left columns and the rows over the right
+// ones.
+fn cut_until_data<S: Sorter>(
     alloc: Global,
+    sorter: &S,
     left: &[u32],
     right: &[u32],
     kept: UntilData,
-) -> Result<WindowData, AllocError>
-    ensures { IfOk result (λ window. (until : UntilKept) × (window ≡ Until until) × (until.left.items ≡ left.now)
-        × (until.right.items ≡ right.now) × (until.kept ≡ kept)) }
+) -> Result<Vec<UntilData>, AllocError>
+    requires { S.tells sorter.now }
+    ensures { IfOk result (λ cuts. OneEach (S.count sorter.now)
+        (λ k cut. UntilDealt (S.region sorter.now k) left.now right.now kept cut) cuts.items) }
 {
-    let left = Vec::from_slice(alloc, left)?;
-    let right = Vec::from_slice(alloc, right)?;
-    Ok(WindowData::Until(UntilKept { left, right, kept }))
+    let pulled = kept.pulled;
+    let taken = kept.taken;
+    let operands = cut_operands(alloc, sorter, kept.lefts, kept.rights)?;
+    let starts = dealt_rows(alloc, sorter, left, kept.starts)?;
+    let rows = dealt_rows(alloc, sorter, right, kept.rows)?;
+    let entries = paired(alloc, starts, rows)?;
+    let pairs = paired(alloc, operands, entries)?;
+    pairs
+        .into_iter()
+        .map(|((lefts, rights), (starts, rows))| UntilData {
+            pulled,
+            taken,
+            lefts,
+            rights,
+            starts,
+            rows,
+        })
+        .collect(alloc)
 }
 
 fn cut_until<S: Sorter>(
@@ -86,31 +107,15 @@ fn cut_until<S: Sorter>(
     ensures { IfOk result (λ cuts.
         CutWindows (S.count sorter.now) (S.region sorter.now) (Until until) cuts.items) }
 {
-    let left = until.left;
-    let right = until.right;
-    let kept = until.kept;
-    let lefts = cut_tables(alloc, sorter, kept.lefts)?;
-    let rights = cut_tables(alloc, sorter, kept.rights)?;
-    let starts = dealt_rows(alloc, sorter, &left, kept.starts)?;
-    let rows = dealt_rows(alloc, sorter, &right, kept.rows)?;
-    let tables = paired(alloc, lefts, rights)?;
-    let entries = paired(alloc, starts, rows)?;
-    let pairs = paired(alloc, tables, entries)?;
-    let mut cuts = Vec::with_capacity(alloc, pairs.len())?;
-    for (tables, entries) in pairs {
-        let (lefts, rights) = tables;
-        let (starts, rows) = entries;
-        let kept = UntilData {
-            pulled: kept.pulled,
-            taken: kept.taken,
-            lefts,
-            rights,
-            starts,
-            rows,
-        };
-        cuts.push(until_over(alloc, &left, &right, kept)?)?;
-    }
-    Ok(cuts)
+    let kept = cut_until_data(alloc, sorter, &until.left, &until.right, until.kept)?;
+    let lefts = copies(alloc, &until.left, sorter.workers())?;
+    let rights = copies(alloc, &until.right, sorter.workers())?;
+    let columns = paired(alloc, lefts, rights)?;
+    let pairs = paired(alloc, columns, kept)?;
+    pairs
+        .into_iter()
+        .map(|((left, right), kept)| WindowData::Until(UntilKept { left, right, kept }))
+        .collect(alloc)
 }
 
 /// The window for each worker, with the rows in its region alone, and all that is kept for them.

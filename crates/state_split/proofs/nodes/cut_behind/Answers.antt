@@ -1,13 +1,12 @@
-use Rattle.std.proofs.Common.{rules}
-use Rattle.state_split.proofs.ShareLemmas.{build_more, build_none}
+use Rattle.std.proofs.Common.{rules, ◌∙◌}
+use Rattle.monitor_state.specs.declared.state.NodeData.TheVariants.{Window}
+use Rattle.state_split.proofs.ShareLemmas.{each_collected}
 use Rattle.state_split.proofs.nodes.cut_behind.Goals as goal
 
-pub loop-window-init : goal.loop-window-init
-loop-window-init g c =
-    build_none _ _ _ c.in_ok-windows.windows.items _ _ c.in_ok-cuts.ensures.items (search rules)
-    c.in_ok-windows.ensures
-
-pub loop-window-preserved : goal.loop-window-preserved
-loop-window-preserved g c =
-    build_more _ _ _ c.in-Some.window _ _ _ _ _ c.in-Some.ensures.steps.0 c.in_ok-push.ensures.items
-    (λ waits fits. waits fits) c.loop-window.invariant
+pub returns : goal.returns
+returns g c =
+    each_collected _ _ _ (λ window. Window window)
+    c.in_ok-windows.windows.items _ c.collect.result c.in_ok-windows.ensures
+    c.collect.ensures.ran c.map.ensures.source c.into_iter.ensures.rest
+    (c.into_iter.ensures.len ∙ c.in_ok-windows.windows.ok.0) c.map.ensures.closure (λ x y q k. search rules)
+    (λ k x is fits. is fits)

@@ -1,12 +1,13 @@
-use Rattle.std.proofs.Common.{rules, refl}
-use Rattle.state_split.proofs.ShareLemmas.{build_more, build_none}
+use Rattle.std.proofs.Common.{rules, ◌∙◌, refl}
+use Rattle.monitor_state.specs.declared.state.NodeData.TheVariants.{Next}
+use Rattle.state_split.proofs.ShareLemmas.{each_collected}
 use Rattle.state_split.proofs.nodes.cut_next.Goals as goal
 
-pub loop-tables-init : goal.loop-tables-init
-loop-tables-init g c =
-    build_none _ _ _ c.in_ok-lists.lists.items _ _ c.in_ok-cuts.ensures.items (search rules) c.in_ok-lists.ensures
-
-pub loop-tables-preserved : goal.loop-tables-preserved
-loop-tables-preserved g c =
-    build_more _ _ _ c.in-Some.tables _ _ _ _ _ c.in-Some.ensures.steps.0 c.in_ok-push.ensures.items
-    (λ waits fits. record { pulled = refl; started = refl; tables = waits }) c.loop-tables.invariant
+pub returns : goal.returns
+returns g c =
+    each_collected _ _ _
+    (λ tables. Next (record { pulled = c.args.next.pulled; started = c.args.next.started; tables = tables }))
+    c.in_ok-lists.lists.items _ c.collect.result c.in_ok-lists.ensures
+    c.collect.ensures.ran c.map.ensures.source c.into_iter.ensures.rest
+    (c.into_iter.ensures.len ∙ c.in_ok-lists.lists.ok.0) c.map.ensures.closure (λ x y q k. search rules)
+    (λ k x is fits. record { pulled = refl; started = refl; tables = is })

@@ -39,11 +39,11 @@ loop-node-preserved g c =
     let sized = length-map cuts (λ s. s.items) ∙ inv.sized in
     let fits = λ (fit : NodesFit nodes). subst NodesFit is (inv.fit fit) in
     record {
-      sized = sym (length-map c.in_ok-cuts-2.cuts.items (λ s. s.items)) ∙ ap length c.in_ok-cuts-2.ensures
+      sized = sym (length-map c.lengthen.new.shares.items (λ s. s.items)) ∙ ap length c.in_ok-lengthen.ensures
           ∙ longer_size (map (λ s. s.items) cuts) added ∙ sized;
       fit = λ fit. (fits fit).1;
       each = subst (StandFrom (λ k share. NodesFit nodes → (cs : List NodeData) → NodesCut (near k) rest cs
-          → NodesCut (near k) nodes (share ++ cs)) 0) (sym c.in_ok-cuts-2.ensures)
+          → NodesCut (near k) nodes (share ++ cs)) 0) (sym c.in_ok-lengthen.ensures)
           (longer_stands (λ k share. NodesFit nodes → (cs : List NodeData) → NodesCut (near k) before cs
           → NodesCut (near k) nodes (share ++ cs))
           (λ k share. NodesFit nodes → (cs : List NodeData) → NodesCut (near k) rest cs

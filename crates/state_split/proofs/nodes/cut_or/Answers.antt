@@ -1,15 +1,12 @@
-use Rattle.std.proofs.Common.{rules, refl}
-use Rattle.state_split.proofs.ShareLemmas.{build_more, build_none, each_paired}
+use Rattle.std.proofs.Common.{rules, ◌∙◌, refl}
+use Rattle.monitor_state.specs.declared.state.NodeData.TheVariants.{Or}
+use Rattle.state_split.proofs.ShareLemmas.{each_collected}
 use Rattle.state_split.proofs.nodes.cut_or.Goals as goal
 
-pub loop-lefts-init : goal.loop-lefts-init
-loop-lefts-init g c =
-    build_none _ _ _ c.in_ok-pairs.pairs.items _ _ c.in_ok-cuts.ensures.items (search rules)
-    (each_paired _ _ _ c.in_ok-lefts.lefts.items c.in_ok-rights.rights.items c.in_ok-pairs.pairs.items
-    c.in_ok-lefts.ensures
-    c.in_ok-rights.ensures c.in_ok-pairs.ensures)
-
-pub loop-lefts-preserved : goal.loop-lefts-preserved
-loop-lefts-preserved g c =
-    build_more _ _ _ _ _ _ _ _ _ c.in-Some.ensures.steps.0 c.in_ok-push.ensures.items
-    (λ waits fits. record { pulled = refl; lefts = waits.0; rights = waits.1 }) c.loop-lefts.invariant
+pub returns : goal.returns
+returns g c =
+    each_collected _ _ _ (λ e. Or (record { pulled = c.args.or.pulled; lefts = e.0; rights = e.1 }))
+    c.in_ok-operands.operands.items _ c.collect.result c.in_ok-operands.ensures
+    c.collect.ensures.ran c.map.ensures.source c.into_iter.ensures.rest
+    (c.into_iter.ensures.len ∙ c.in_ok-operands.operands.ok.0) c.map.ensures.closure (λ x y q k. search rules)
+    (λ k x is fits. record { pulled = refl; lefts = is.0; rights = is.1 })

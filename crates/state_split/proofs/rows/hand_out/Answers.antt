@@ -46,14 +46,12 @@ loop-next-preserved g c =
     record {
       below = found.reached.1;
       goes = subst (λ row. goes row next ≡ true) c.row-in-loop-next.ensures found.passes;
-      sized = length-set c.loop-next.shares.items last c.push.new.self ∙ inv.sized;
+      sized = length-set c.loop-next.shares.items last c.give_copy.new.share ∙ inv.sized;
       given = hand_step (λ s. map g.K.Kept.told s.items) x (goes (g.K.Kept.row_of x)) last next
-          c.loop-next.shares.items c.args.shares.now.items c.index_mut.result.now c.push.new.self
+          c.loop-next.shares.items c.args.shares.now.items c.index_mut.result.now c.give_copy.new.share
           (omega (arith, inv.below, inv.sized)) (omega (arith, found.reached.0)) inv.goes
           (subst (λ row. NoneFrom (last + 1) next (goes row)) c.row-in-loop-next.ensures found.first)
-          c.index_mut.ensures.value
-          (told_more g.K.Kept.told c.index_mut.result.now.items c.push.new.self.items c.in_ok-copied.field-0 x
-          c.in_ok-push.ensures.items c.in_ok-copied.ensures) inv.given;
+          c.index_mut.ensures.value c.in_ok-give_copy.ensures inv.given;
     }
 
 pub returns : goal.returns
@@ -66,11 +64,11 @@ returns g c =
     let inv = c.loop-next.invariant in
     let test = goes (g.K.Kept.row_of x) in
     hand_step (λ s. map g.K.Kept.told s.items) x test last count c.loop-next.shares.items c.args.shares.now.items
-    c.index_mut-2.result.now c.push-2.new.self (omega (arith, inv.below, inv.sized)) inv.below inv.goes
+    c.index_mut-2.result.now c.push.new.self (omega (arith, inv.below, inv.sized)) inv.below inv.goes
     (subst (λ row. NoneFrom (last + 1) count (goes row)) c.row-in-loop-next.ensures
     c.in_default-next_worker.ensures.first) c.index_mut-2.ensures.value
-    (told_more g.K.Kept.told c.index_mut-2.result.now.items c.push-2.new.self.items c.args.kept x
-    c.in_ok-push-2.ensures.items refl) inv.given
+    (told_more g.K.Kept.told c.index_mut-2.result.now.items c.push.new.self.items c.args.kept x
+    c.in_ok-push.ensures.items refl) inv.given
     ∙ given_end (with_last x) test count (map (λ s. map g.K.Kept.told s.items) c.args.shares.now.items)
     (λ k up low. absurd
     (omega (arith, length-map c.args.shares.now.items (λ s. map g.K.Kept.told s.items), c.requires.each)))

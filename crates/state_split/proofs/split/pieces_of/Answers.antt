@@ -1,51 +1,32 @@
-use Rattle.std.proofs.Common.{◌∙◌, ap, refl, subst, sym, arith, length}
-use Rattle.mfotl_model.specs.Regions.{in_both}
-use Rattle.relations.specs.Pushed.{StandFrom}
-use Rattle.monitor_state.specs.StateCuts.{NodesCut, StateCut}
-use Rattle.state_split.specs.Fits.{NodesFit}
-use Rattle.state_split.specs.Splits.{AreCut, AreNumbered, IsNumbered}
-use Rattle.state_split.proofs.SieveLemmas.{one_longer, stand_next}
+use Rattle.std.proofs.Common.{rules, ◌∙◌, arith, refl}
+use Rattle.std.proofs.lemmas.Iterator.{YieldsList-from_map, YieldsList-from_range, YieldsList-from_zip}
+use Rattle.std.proofs.lemmas.Iterator.{items_from_collect}
+use Rattle.std.proofs.lemmas.Iterator.Adapters.{YieldsList-from_vec}
+use Rattle.std.proofs.lemmas.Iterator.Consumers.{YieldsList-at}
+use Rattle.state_split.proofs.ShareLemmas.{each_copied, each_numbered, each_paired}
 use Rattle.state_split.proofs.split.pieces_of.Goals as goal
 
-pub loop-to-init : goal.loop-to-init
-loop-to-init g c =
-    let near = g.S.Slicer.region c.args.strategy.now c.args.from in
-    let next = g.S2.Slicer.region c.args.next.now in
-    let nodes = c.args.state.nodes.items in
-    let none = sym c.in_ok-pieces.ensures.items in
-    record {
-      each = ap length c.in_ok-pieces.ensures.items;
-      rest = omega (arith, c.in_ok-cuts.ensures.sized, ap length c.into_iter-left.ensures.rest);
-      waiting = subst (StandFrom (λ to cut. NodesFit nodes → NodesCut (in_both near (next to)) nodes cut.items) 0)
-          (sym c.into_iter-left.ensures.rest) c.in_ok-cuts.ensures.each;
-      numbers = subst (AreNumbered c.args.generation c.args.from (g.S.Slicer.count c.args.strategy.now)) none tt;
-      cuts = λ fit. subst (AreCut near next c.args.state) none tt;
-    }
-
-pub loop-to-preserved : goal.loop-to-preserved
-loop-to-preserved g c =
-    let near = g.S.Slicer.region c.args.strategy.now c.args.from in
-    let next = g.S2.Slicer.region c.args.next.now in
-    let inv = c.loop-to.invariant in
-    let nodes = c.args.state.nodes.items in
-    let made = c.in_ok-state.ensures in
-    let waits = subst (StandFrom (λ to cut. NodesFit nodes → NodesCut (in_both near (next to)) nodes cut.items)
-    c.loop-to.to) c.in-Some.ensures.cases.0 inv.waiting in
-    record {
-      each = one_longer c.loop-to.pieces.items c.push.new.self.items _ c.loop-to.to
-          c.in_ok-push.ensures.items inv.each;
-      rest = omega (arith, inv.rest, ap length c.in-Some.ensures.cases.0);
-      waiting = waits.1;
-      numbers = stand_next (IsNumbered c.args.generation c.args.from (g.S.Slicer.count c.args.strategy.now))
-          c.loop-to.pieces.items c.push.new.self.items _ c.loop-to.to c.in_ok-push.ensures.items inv.each inv.numbers
-          (record { generation = refl; from = refl; to = refl; count = c.workers-count.ensures.count });
-      cuts = λ fit. stand_next (λ to piece. StateCut (in_both near (next to)) c.args.state piece.state)
-          c.loop-to.pieces.items c.push.new.self.items _ c.loop-to.to c.in_ok-push.ensures.items inv.each
-          (inv.cuts fit)
-          (record {
-            taken = made.counts.0;
-            given = made.counts.1;
-            times = made.times ∙ c.deref.ensures.value;
-            nodes = subst (NodesCut (in_both near (next c.loop-to.to)) nodes) (sym made.nodes) (waits.0 fit);
-          });
-    }
+pub returns : goal.returns
+returns g c =
+    let n = c.workers-workers.result in
+    let pairs = c.in_ok-pairs.pairs in
+    each_numbered n _ _ _ (λ e. record {
+      generation = c.args.generation;
+      from = c.args.from;
+      to = e.0;
+      count = c.workers-count.result;
+      state = record { taken = c.args.state.taken; given = c.args.state.given; times = e.1.0; nodes = e.1.1 };
+    }) pairs.items c.collect.result c.workers-workers.ensures.count
+    (items_from_collect _ c.collect.ensures.ran
+    (YieldsList-from_map _ _
+    (YieldsList-at c.map.ensures.source
+    (YieldsList-from_zip (YieldsList-from_range 0 n n c.zip.ensures.first (omega arith))
+    (YieldsList-from_vec pairs.items c.zip.ensures.second.0 (c.zip.ensures.second.1 ∙ pairs.ok.0))))
+    c.map.ensures.closure (λ x y q k. search rules)))
+    (λ to x is. (
+      record { generation = refl; from = refl; to = refl; count = c.workers-count.ensures.count },
+      λ fit. record { taken = refl; given = refl; times = is.0 ∙ c.deref.ensures.value; nodes = is.1 fit },
+    ))
+    (each_paired _ _ _ c.in_ok-times.times.items c.in_ok-cuts.cuts.items pairs.items
+    (each_copied (λ v. v.items) c.deref.result.now n _ c.in_ok-times.times.items c.workers-workers.ensures.count
+    c.in_ok-times.ensures) c.in_ok-cuts.ensures c.in_ok-pairs.ensures)

@@ -3,7 +3,12 @@ use Rattle.monitor_state.specs.Nodes.{nodes_of}
 use Rattle.monitor_state.specs.StateTimes.{times_of}
 use Rattle.state_split.proofs.CutLaw.{splits_stand}
 use Rattle.state_split.proofs.FitLemmas.{nodes_fit}
+use Rattle.state_split.proofs.ShareLemmas.{stand_weaker}
 use Rattle.state_split.proofs.split.split_state.Goals as goal
+
+pub returns-clause-numbers : goal.returns-clause-numbers
+returns-clause-numbers g c =
+    stand_weaker _ _ 0 c.in_ok-pieces.pieces.items (λ to piece is. is.0) c.in_ok-pieces.ensures.each
 
 pub returns-clause-cuts : goal.returns-clause-cuts
 returns-clause-cuts g c =
@@ -11,8 +16,9 @@ returns-clause-cuts g c =
     record {
       state = state;
       kept = record { rule = c.in_ok-state.ensures.rule; stands = c.in_ok-state.ensures.stands };
-      cut = λ rule. c.in_ok-pieces.ensures.cuts
-          (nodes_fit (times_of state) (nodes_of (monitor_of c.args.monitor.now).core) state.nodes.items rule);
+      cut = λ rule. stand_weaker _ _ 0 c.in_ok-pieces.pieces.items (λ to piece is. is.1
+          (nodes_fit (times_of state) (nodes_of (monitor_of c.args.monitor.now).core) state.nodes.items rule))
+          c.in_ok-pieces.ensures.each;
     }
 
 pub returns-clause-stands : goal.returns-clause-stands

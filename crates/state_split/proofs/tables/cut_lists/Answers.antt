@@ -32,10 +32,10 @@ loop-tables-preserved g c =
     let tables = c.in-Some.tables.items in
     let sized = length-map cuts (λ s. s.items) ∙ c.loop-tables.invariant.sized in
     record {
-      sized = sym (length-map c.in_ok-cuts-2.cuts.items (λ s. s.items)) ∙ ap length c.in_ok-cuts-2.ensures
+      sized = sym (length-map c.lengthen.new.shares.items (λ s. s.items)) ∙ ap length c.in_ok-lengthen.ensures
           ∙ longer_size (map (λ s. s.items) cuts) added ∙ sized;
       each = subst (StandFrom (λ k share. map (λ ts. ts.items) share ++ map (cut_tables (near k)) rest ≡ all k) 0)
-          (sym c.in_ok-cuts-2.ensures)
+          (sym c.in_ok-lengthen.ensures)
           (longer_stands (λ k share. map (λ ts. ts.items) share ++ map (cut_tables (near k)) before ≡ all k)
           (λ k share. map (λ ts. ts.items) share ++ map (cut_tables (near k)) rest ≡ all k)
           (λ k cut. cut.items ≡ cut_tables (near k) tables) 0 (map (λ s. s.items) cuts) added

@@ -1,34 +1,29 @@
-use Rattle.std.proofs.Common.{rules, ◌∙◌, length, sym, ap₂, map-id}
+use Rattle.std.proofs.Common.{◌∙◌, ap₂, map-id, refl, sym}
 use Rattle.std.specs.List.{filter}
+use Rattle.relations.specs.Tables.{IsTable}
 use Rattle.state_split.specs.Sieves.{is_kept}
-use Rattle.state_split.proofs.ShareLemmas.{build_more, build_none, each_weaker, first_waits}
+use Rattle.state_split.proofs.ShareLemmas.{each_mapped, stand_all}
 use Rattle.state_split.proofs.SieveLemmas.{kept_is_cut, kept_table}
 use Rattle.state_split.proofs.tables.cut_table.Goals as goal
 
-pub loop-rows-init : goal.loop-rows-init
-loop-rows-init g c =
-    let near = g.S.Sorter.region c.args.sorter.now in
-    build_none _ _ _ c.in_ok-shares.shares.items _ _ c.in_ok-cuts.ensures.items (search rules)
-    (each_weaker _ _ _ c.in_ok-shares.shares.items (λ k share e.
-    sym (map-id share.items) ∙ e
-    ∙ ap₂ (λ cs rs. filter (is_kept (near k) cs) rs)
+pub tables_over-requires : goal.tables_over-requires
+tables_over-requires g c =
+    let over = c.deref-2.ensures.value ∙ c.in_ok-columns.ensures.items ∙ c.columns.ensures.columns in
+    stand_all _ (λ rows. IsTable c.deref-2.result.now rows.items) 0 c.in_ok-shares.shares.items
+    (λ k rows is. kept_table (g.S.Sorter.region c.args.sorter.now k) c.args.table c.into_rows.ensures.is_table
+    c.deref-2.result.now rows.items over
+    (sym (map-id rows.items) ∙ is
+    ∙ ap₂ (λ cs rs. filter (is_kept (g.S.Sorter.region c.args.sorter.now k) cs) rs)
     (c.deref.ensures.value ∙ c.in_ok-columns.ensures.items ∙ c.columns.ensures.columns)
-    (map-id c.into_rows.result.items ∙ c.into_rows.ensures.rows)) c.in_ok-shares.ensures)
+    (map-id c.into_rows.result.items ∙ c.into_rows.ensures.rows))) c.in_ok-shares.ensures.each
 
-pub table_over-requires : goal.table_over-requires
-table_over-requires g c =
-    kept_table (g.S.Sorter.region c.args.sorter.now (length c.loop-rows.cuts.items)) c.args.table
-    c.into_rows.ensures.is_table
-    c.deref-in-loop-rows.result.now c.in-Some.rows.items
-    (c.deref-in-loop-rows.ensures.value ∙ c.in_ok-columns.ensures.items ∙ c.columns.ensures.columns)
-    (first_waits _ _ _ c.in-Some.rows _ _ _ c.in-Some.ensures.steps.0 c.loop-rows.invariant)
-
-pub loop-rows-preserved : goal.loop-rows-preserved
-loop-rows-preserved g c =
-    build_more _ _ _ c.in-Some.rows _ _ c.in_ok-table_over.field-0 _ _ c.in-Some.ensures.steps.0
-    c.in_ok-push.ensures.items
-    (λ waits. kept_is_cut (g.S.Sorter.region c.args.sorter.now (length c.loop-rows.cuts.items)) c.args.table
-    c.into_rows.ensures.is_table c.deref-in-loop-rows.result.now
-    c.in-Some.rows.items
-    (c.deref-in-loop-rows.ensures.value ∙ c.in_ok-columns.ensures.items ∙ c.columns.ensures.columns) waits
-    c.in_ok-table_over.field-0 c.in_ok-table_over.ensures) c.loop-rows.invariant
+pub returns : goal.returns
+returns g c =
+    let over = c.deref-2.ensures.value ∙ c.in_ok-columns.ensures.items ∙ c.columns.ensures.columns in
+    each_mapped _ _ _ _ c.in_ok-shares.shares.items c.in_ok-cuts.cuts.items c.in_ok-cuts.ensures
+    (λ k rows is. kept_is_cut (g.S.Sorter.region c.args.sorter.now k) c.args.table c.into_rows.ensures.is_table
+    c.deref-2.result.now rows.items over
+    (sym (map-id rows.items) ∙ is
+    ∙ ap₂ (λ cs rs. filter (is_kept (g.S.Sorter.region c.args.sorter.now k) cs) rs)
+    (c.deref.ensures.value ∙ c.in_ok-columns.ensures.items ∙ c.columns.ensures.columns)
+    (map-id c.into_rows.result.items ∙ c.into_rows.ensures.rows)) _ refl) c.in_ok-shares.ensures

@@ -29,9 +29,9 @@ loop-table-preserved g c =
     let added = c.in_ok-added.added.items in
     let sized = length-map cuts (λ s. s.items) ∙ c.loop-table.invariant.sized in
     record {
-      sized = sym (length-map c.in_ok-cuts-2.cuts.items (λ s. s.items)) ∙ ap length c.in_ok-cuts-2.ensures
+      sized = sym (length-map c.lengthen.new.shares.items (λ s. s.items)) ∙ ap length c.in_ok-lengthen.ensures
           ∙ longer_size (map (λ s. s.items) cuts) added ∙ sized;
-      each = subst (StandFrom (λ k share. share ++ cut_tables (near k) rest ≡ all k) 0) (sym c.in_ok-cuts-2.ensures)
+      each = subst (StandFrom (λ k share. share ++ cut_tables (near k) rest ≡ all k) 0) (sym c.in_ok-lengthen.ensures)
           (longer_stands (λ k share. share ++ cut_tables (near k) before ≡ all k)
           (λ k share. share ++ cut_tables (near k) rest ≡ all k) (λ k cut. cut ≡ cut_table (near k) c.in-Some.table) 0
           (map (λ s. s.items) cuts) added
