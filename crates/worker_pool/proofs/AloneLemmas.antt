@@ -22,7 +22,7 @@ use Rattle.monitorable.specs.Fragment.{IsMonitorable}
 use Rattle.monitorable.specs.Laws.{whole_view}
 use Rattle.monitor_state.proofs.LawProofs.{lone_worker_steps}
 use Rattle.monitor_state.specs.Beginnings.{Begins}
-use Rattle.monitor_state.specs.MonitorView.{monitor_of}
+use Rattle.monitor_state.specs.MonitorView.{MonitorOf, monitor_of}
 use Rattle.monitor_state.specs.Stands.{StateOf, Stands}
 use Rattle.monitor_state.specs.Steps.{News, Steps}
 use Rattle.monitor_state.specs.declared.monitor.Monitor.{Monitor}
@@ -210,16 +210,16 @@ module _ {core : CoreForm} {start now : Option (List ℕ)} {old : Monitor} (new 
       }
 
   -- once they are written, all are
-  pub took_one : {last : Monitor} {then : Option (List ℕ)} {more : Tally} → last ≡ new
+  pub took_one : {last : Monitor} {then : Option (List ℕ)} {more : Tally} → monitor_of last ≡ monitor_of new
       → (monitor_of new).core ≡ (monitor_of old).core → Settles core (points ++ point ∷ []) start then more
       → WritesAlone core start last then more (points ++ point ∷ [])
-  took_one {then = then} {more = more} same core_is settles =
-      subst (λ (m : Monitor). WritesAlone core start m then more (points ++ point ∷ [])) (sym same) (record {
-        core_is = core_is ∙ w.core_is;
-        evaluable = w.evaluable;
-        stands = stepped.0;
-        settles = settles;
-      })
+  took_one same core_is settles = record {
+    core_is = ap (λ (m : MonitorOf). m.core) same ∙ core_is ∙ w.core_is;
+    evaluable = w.evaluable;
+    stands = subst (λ (m : MonitorOf). Stands (whole_view (points ++ point ∷ []) core) core m.state) (sym same)
+        stepped.0;
+    settles = settles;
+  }
 
 -- ---- the beginning
 

@@ -45,7 +45,7 @@ impl LoneWorker {
     // Writes the line of a settled position, whose table this is.
     fn write_table<O: Sink>(&mut self, point: u64, table: Table, out: &mut O) -> Result<(), Stop>
         requires kept { IsKept (monitor_of self.old.monitor).state point 1 }
-        ensures same { self.new.monitor ≡ self.old.monitor }
+        ensures same { monitor_of self.new.monitor ≡ monitor_of self.old.monitor }
         ensures table { IsTable table.columns table.rows }
         ensures ok { OnOk result (Appends (O.written out.old) (O.written out.new)
             (line_of (told_of (monitor_of self.old.monitor).state point table))) }
@@ -73,7 +73,7 @@ impl LoneWorker {
         out: &mut O,
     ) -> Result<(), Stop>
         requires kept { IsKept (monitor_of self.old.monitor).state first (length tables) }
-        ensures same { self.new.monitor ≡ self.old.monitor }
+        ensures same { monitor_of self.new.monitor ≡ monitor_of self.old.monitor }
         ensures ok { OnOk result (ForEachDebt (monitor_of self.old.monitor).state (O.written out.old)
             self.old.writer.tally first tables (λ core points start.
             Settles core points start (O.written out.new) self.new.writer.tally)) }

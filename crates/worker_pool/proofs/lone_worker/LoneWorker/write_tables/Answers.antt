@@ -1,6 +1,5 @@
 use Rattle.std.proofs.Common.{◌∙◌, ◌+◌, arith, length, subst, sym}
-use Rattle.monitor_state.specs.MonitorView.{monitor_of}
-use Rattle.monitor_state.specs.declared.monitor.Monitor.{Monitor}
+use Rattle.monitor_state.specs.MonitorView.{MonitorOf}
 use Rattle.rescale_core.specs.Settlings.{IsKept}
 use Rattle.worker_pool.specs.Alone.{Owes}
 use Rattle.worker_pool.proofs.AloneLemmas.{kept_on, pays_one, pays_part}
@@ -19,10 +18,10 @@ loop-table-preserved g c =
     let same = c.write_table.ensures.same in
     record {
       same = same ∙ inv.same;
-      kept = subst (λ (m : Monitor). IsKept (monitor_of m).state (c.loop-table.point + 1) (length c.take.new.self))
+      kept = subst (λ (m : MonitorOf). IsKept m.state (c.loop-table.point + 1) (length c.take.new.self))
           (sym same) (kept_on _ _ _ _ _ c.in-Some.ensures.first inv.kept);
       owes = λ core points start owes.
-          subst (λ (m : Monitor). Owes core points start (monitor_of m).state (g.O.Sink.written c.write_table.new.out)
+          subst (λ (m : MonitorOf). Owes core points start m.state (g.O.Sink.written c.write_table.new.out)
           c.write_table.new.self.writer.tally (c.loop-table.point + 1) c.take.new.self) (sym same)
           (pays_one c.in-Some.ensures.first (inv.owes core points start owes) inv.kept.from
           c.write_table.ensures.table c.in_ok-write_table.ensures.ok c.in_ok-write_table.ensures.counts);

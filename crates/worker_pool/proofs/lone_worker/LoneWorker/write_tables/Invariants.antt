@@ -6,7 +6,7 @@ use Rattle.worker_pool.proofs.lone_worker.LoneWorker.write_tables.Given as goal
 
 abbrev pub invariant-loop-table : goal.invariant-loop-table
 invariant-loop-table g l = record {
-  same : l.self.monitor ≡ l.fn.self.monitor;
+  same : monitor_of l.self.monitor ≡ monitor_of l.fn.self.monitor;
   kept : IsKept (monitor_of l.self.monitor).state l.point (length l.tables);
   owes : ForEachDebt (monitor_of l.fn.self.monitor).state (g.O.Sink.written l.fn.out) l.fn.self.writer.tally l.fn.first
       l.fn.tables (λ core points start. Owes core points start (monitor_of l.self.monitor).state
