@@ -1,5 +1,5 @@
 //! Values for variables, kept on the stack.
-ghost use Rattle.std.specs.Prelude.{◌≡◌, IfOk, pos};
+ghost use Rattle.std.specs.Prelude.{◌≡◌, ◌++◌, ◌∷◌, [], IfOk, OnOk, pos};
 ghost use Rattle.mfotl_plain.specs.Bindings.{valuation_of};
 ghost use Rattle.mfotl_model.specs.Satisfaction.{event_of, term_value};
 ghost use Rattle.mfotl_model.specs.Violations.{valuation};
@@ -62,13 +62,26 @@ pub fn term_value<'a>(term: &'a Term, bindings: &'a Bindings<'a>, zero: &'a Valu
 pub fn event_of(alloc: Global, atom: &Atom, bindings: &Bindings<'_>) -> Result<Event, AllocError>
     ensures { IfOk result (λ event. event ≡ event_of (valuation_of bindings.now) atom.now) }
 {
-    let zero = Value::Int(0);
-    let mut args = Row::empty();
+    let mut args = Vec::new(alloc);
     for term in atom.args.as_slice() {
-        args = args.push(alloc, term_value(term, bindings, &zero).copy(alloc)?)?;
+        push_term_value(alloc, &mut args, term, bindings)?;
     }
     Ok(Event {
         pred: atom.pred,
-        args,
+        args: Row::new(args),
     })
+}
+
+fn push_term_value(
+    alloc: Global,
+    values: &mut Vec<Value>,
+    term: &Term,
+    bindings: &Bindings<'_>,
+) -> Result<(), AllocError>
+    ensures { OnOk result (values.new.items
+        ≡ values.old.items ++ term_value (valuation_of bindings.now) term.now ∷ []) }
+{
+    let zero = Value::Int(0);
+    values.push(term_value(term, bindings, &zero).copy(alloc)?)?;
+    Ok(())
 }

@@ -6,7 +6,7 @@ ghost use Rattle.mfotl_model.specs.Ascending.{ascending};
 ghost use Rattle.mfotl_model.specs.Formulas.{form};
 ghost use Rattle.mfotl_model.specs.Values.{value_cmp};
 
-use mfotl_model::{Event, Formula, Term, TimePoint, Value};
+use mfotl_model::{Comparison, Event, Formula, Term, TimePoint, Value};
 use std::alloc::{AllocError, Global};
 
 /// The values that occur in the log or in the formula, in ascending order.
@@ -59,7 +59,8 @@ fn push_arguments(
     Ok(())
 }
 
-fn push_values(alloc: Global, values: &mut Vec<Value>, more: &[Value]) -> Result<(), AllocError>
+/// Adds copies of more values.
+pub fn push_values(alloc: Global, values: &mut Vec<Value>, more: &[Value]) -> Result<(), AllocError>
     ensures { OnOk result (values.new.items ≡ values.old.items ++ more.now) }
 {
     for value in more {
@@ -68,6 +69,7 @@ fn push_values(alloc: Global, values: &mut Vec<Value>, more: &[Value]) -> Result
     Ok(())
 }
 
+#[cycle(constants)]
 #[tactic(auto, unfolding(mfotl_model::specs::ActiveDomain::constants))]
 fn push_constants(
     alloc: Global,
@@ -79,10 +81,7 @@ fn push_constants(
     match formula {
         Formula::True | Formula::False => Ok(()),
         Formula::Atom(atom) => push_all_constants(alloc, values, atom.args.as_slice()),
-        Formula::Compare(comparison) => {
-            push_constant(alloc, values, &comparison.left)?;
-            push_constant(alloc, values, &comparison.right)
-        }
+        Formula::Compare(comparison) => push_compared(alloc, values, comparison),
         Formula::Not(f)
         | Formula::Exists(_, f)
         | Formula::Forall(_, f)
@@ -97,11 +96,34 @@ fn push_constants(
         | Formula::Implies(f, g)
         | Formula::Equiv(f, g)
         | Formula::Since(_, f, g)
-        | Formula::Until(_, f, g) => {
-            push_constants(alloc, values, f)?;
-            push_constants(alloc, values, g)
-        }
+        | Formula::Until(_, f, g) => push_both_constants(alloc, values, f, g),
     }
+}
+
+#[cycle(constants)]
+fn push_both_constants(
+    alloc: Global,
+    values: &mut Vec<Value>,
+    left: &Formula,
+    right: &Formula,
+) -> Result<(), AllocError>
+    ensures { OnOk result (values.new.items
+        ≡ values.old.items ++ (constants (form left.now) ++ constants (form right.now))) }
+{
+    push_constants(alloc, values, left)?;
+    push_constants(alloc, values, right)
+}
+
+fn push_compared(
+    alloc: Global,
+    values: &mut Vec<Value>,
+    comparison: &Comparison,
+) -> Result<(), AllocError>
+    ensures { OnOk result (values.new.items
+        ≡ values.old.items ++ (constant_in comparison.now.left ++ constant_in comparison.now.right)) }
+{
+    push_constant(alloc, values, &comparison.left)?;
+    push_constant(alloc, values, &comparison.right)
 }
 
 fn push_all_constants(

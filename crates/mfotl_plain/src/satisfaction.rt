@@ -29,20 +29,24 @@ pub fn holds(
 {
     let bindings = Bindings::Row(part.cols, part.row.values());
     let interpretation = Interpretation {
+        alloc,
         log,
         dom,
         bindings: &bindings,
+        at,
     };
-    interpretation.holds(alloc, formula, at)
+    interpretation.holds(formula)
 }
 
-// What formulas are true or false of: a log, the values that quantified variables range over, and the
-// values that variables have.
+// What formulas are true or false of: a log, the values that quantified variables range over, the
+// values that variables have, and a position of the log.
 #[derive(Clone, Copy)]
 struct Interpretation<'a> {
+    alloc: Global,
     log: &'a [TimePoint],
     dom: &'a [Value],
     bindings: &'a Bindings<'a>,
+    at: usize,
 }
 
 // A connective of two operands.
@@ -70,75 +74,67 @@ impl Connective {
 impl Interpretation<'_> {
     #[cycle(satisfaction)]
     #[tactic(auto, unfolding(mfotl_model::specs::Satisfaction::sat))]
-    fn holds(&self, alloc: Global, formula: &Formula, at: usize) -> Result<bool, AllocError>
-        requires { at < length self.now.log.now }
+    fn holds(&self, formula: &Formula) -> Result<bool, AllocError>
+        requires { self.now.at < length self.now.log.now }
         ensures { IfOk result (λ held. held ≡ sat self.now.log.now self.now.dom.now
-            (valuation_of self.now.bindings.now) at (form formula.now)) }
+            (valuation_of self.now.bindings.now) self.now.at (form formula.now)) }
     {
         match formula {
             Formula::True => Ok(true),
             Formula::False => Ok(false),
-            Formula::Atom(atom) => self.has_event(alloc, atom, at),
+            Formula::Atom(atom) => self.has_event(atom),
             Formula::Compare(comparison) => Ok(self.compared(comparison)),
-            Formula::Not(f) => self.fails(alloc, f, at),
-            Formula::And(f, g) => self.connects(alloc, Connective::And, f, g, at),
-            Formula::Or(f, g) => self.connects(alloc, Connective::Or, f, g, at),
-            Formula::Implies(f, g) => self.connects(alloc, Connective::Implies, f, g, at),
-            Formula::Equiv(f, g) => self.connects(alloc, Connective::Equiv, f, g, at),
-            Formula::Exists(x, f) => self.holds_for_some(alloc, x.number, f, at),
-            Formula::Forall(x, f) => self.holds_for_every(alloc, x.number, f, at),
-            Formula::Previous(i, f) => self.holds_in_time(alloc, Modality::Previous, i, f, at),
-            Formula::Next(i, f) => self.holds_in_time(alloc, Modality::Next, i, f, at),
-            Formula::Once(i, f) => self.holds_in_time(alloc, Modality::Once, i, f, at),
-            Formula::Historically(i, f) => {
-                self.holds_in_time(alloc, Modality::Historically, i, f, at)
-            }
-            Formula::Eventually(i, f) => self.holds_in_time(alloc, Modality::Eventually, i, f, at),
-            Formula::Always(i, f) => self.holds_in_time(alloc, Modality::Always, i, f, at),
-            Formula::Since(i, f, g) => self.holds_between(alloc, Span::Since, i, f, g, at),
-            Formula::Until(i, f, g) => self.holds_between(alloc, Span::Until, i, f, g, at),
+            Formula::Not(f) => self.fails(f),
+            Formula::And(f, g) => self.connects(Connective::And, f, g),
+            Formula::Or(f, g) => self.connects(Connective::Or, f, g),
+            Formula::Implies(f, g) => self.connects(Connective::Implies, f, g),
+            Formula::Equiv(f, g) => self.connects(Connective::Equiv, f, g),
+            Formula::Exists(x, f) => self.holds_for_some(x.number, f),
+            Formula::Forall(x, f) => self.holds_for_every(x.number, f),
+            Formula::Previous(i, f) => self.holds_in_time(Modality::Previous, i, f),
+            Formula::Next(i, f) => self.holds_in_time(Modality::Next, i, f),
+            Formula::Once(i, f) => self.holds_in_time(Modality::Once, i, f),
+            Formula::Historically(i, f) => self.holds_in_time(Modality::Historically, i, f),
+            Formula::Eventually(i, f) => self.holds_in_time(Modality::Eventually, i, f),
+            Formula::Always(i, f) => self.holds_in_time(Modality::Always, i, f),
+            Formula::Since(i, f, g) => self.holds_between(Span::Since, i, f, g),
+            Formula::Until(i, f, g) => self.holds_between(Span::Until, i, f, g),
         }
     }
 
     #[cycle(satisfaction)]
-    fn fails(&self, alloc: Global, formula: &Formula, at: usize) -> Result<bool, AllocError>
-        requires { at < length self.now.log.now }
+    fn fails(&self, formula: &Formula) -> Result<bool, AllocError>
+        requires { self.now.at < length self.now.log.now }
         ensures { IfOk result (λ failed. failed ≡ not (sat self.now.log.now self.now.dom.now
-            (valuation_of self.now.bindings.now) at (form formula.now))) }
+            (valuation_of self.now.bindings.now) self.now.at (form formula.now))) }
     {
-        Ok(!self.holds(alloc, formula, at)?)
+        Ok(!self.holds(formula)?)
     }
 
     #[cycle(satisfaction)]
     fn connects(
         &self,
-        alloc: Global,
         connective: Connective,
         left: &Formula,
         right: &Formula,
-        at: usize,
     ) -> Result<bool, AllocError>
-        requires { at < length self.now.log.now }
+        requires { self.now.at < length self.now.log.now }
         ensures { IfOk result (λ held. held ≡ connected connective
-            (sat self.now.log.now self.now.dom.now (valuation_of self.now.bindings.now) at (form left.now))
-            (sat self.now.log.now self.now.dom.now (valuation_of self.now.bindings.now) at (form right.now))) }
+            (sat self.now.log.now self.now.dom.now (valuation_of self.now.bindings.now) self.now.at
+            (form left.now))
+            (sat self.now.log.now self.now.dom.now (valuation_of self.now.bindings.now) self.now.at
+            (form right.now))) }
     {
-        let left = self.holds(alloc, left, at)?;
-        let right = self.holds(alloc, right, at)?;
+        let left = self.holds(left)?;
+        let right = self.holds(right)?;
         Ok(connective.connects(left, right))
     }
 
     #[cycle(satisfaction)]
-    fn holds_for_some(
-        &self,
-        alloc: Global,
-        x: u32,
-        formula: &Formula,
-        at: usize,
-    ) -> Result<bool, AllocError>
-        requires { at < length self.now.log.now }
+    fn holds_for_some(&self, x: u32, formula: &Formula) -> Result<bool, AllocError>
+        requires { self.now.at < length self.now.log.now }
         ensures { IfOk result (λ held. held ≡ list_any (λ a. sat self.now.log.now self.now.dom.now
-            (with_value (valuation_of self.now.bindings.now) x a) at (form formula.now))
+            (with_value (valuation_of self.now.bindings.now) x a) self.now.at (form formula.now))
             self.now.dom.now) }
     {
         for value in self.dom {
@@ -147,7 +143,7 @@ impl Interpretation<'_> {
                 bindings: &bindings,
                 ..*self
             };
-            if inner.holds(alloc, formula, at)? {
+            if inner.holds(formula)? {
                 return Ok(true);
             }
         }
@@ -155,16 +151,10 @@ impl Interpretation<'_> {
     }
 
     #[cycle(satisfaction)]
-    fn holds_for_every(
-        &self,
-        alloc: Global,
-        x: u32,
-        formula: &Formula,
-        at: usize,
-    ) -> Result<bool, AllocError>
-        requires { at < length self.now.log.now }
+    fn holds_for_every(&self, x: u32, formula: &Formula) -> Result<bool, AllocError>
+        requires { self.now.at < length self.now.log.now }
         ensures { IfOk result (λ held. held ≡ list_all (λ a. sat self.now.log.now self.now.dom.now
-            (with_value (valuation_of self.now.bindings.now) x a) at (form formula.now))
+            (with_value (valuation_of self.now.bindings.now) x a) self.now.at (form formula.now))
             self.now.dom.now) }
     {
         for value in self.dom {
@@ -173,7 +163,7 @@ impl Interpretation<'_> {
                 bindings: &bindings,
                 ..*self
             };
-            if !inner.holds(alloc, formula, at)? {
+            if !inner.holds(formula)? {
                 return Ok(false);
             }
         }
@@ -182,14 +172,15 @@ impl Interpretation<'_> {
 
     // Whether the formula holds, for each position of the log.
     #[cycle(satisfaction)]
-    fn truths(&self, alloc: Global, formula: &Formula) -> Result<Vec<bool>, AllocError>
+    fn truths(&self, formula: &Formula) -> Result<Vec<bool>, AllocError>
         ensures { IfOk result (λ values. values.items ≡ truths (length self.now.log.now)
             (λ j. sat self.now.log.now self.now.dom.now (valuation_of self.now.bindings.now) j
             (form formula.now))) }
     {
-        let mut values = Vec::new(alloc);
+        let mut values = Vec::new(self.alloc);
         for at in 0..self.log.len() {
-            values.push(self.holds(alloc, formula, at)?)?;
+            let there = Interpretation { at, ..*self };
+            values.push(there.holds(formula)?)?;
         }
         Ok(values)
     }
@@ -197,58 +188,61 @@ impl Interpretation<'_> {
     #[cycle(satisfaction)]
     fn holds_in_time(
         &self,
-        alloc: Global,
         modality: Modality,
         interval: &Interval,
         formula: &Formula,
-        at: usize,
     ) -> Result<bool, AllocError>
-        requires { at < length self.now.log.now }
+        requires { self.now.at < length self.now.log.now }
         ensures { IfOk result (λ held. held ≡ in_time modality interval.now self.now.log.now
             (truths (length self.now.log.now) (λ j. sat self.now.log.now self.now.dom.now
-            (valuation_of self.now.bindings.now) j (form formula.now))) at) }
+            (valuation_of self.now.bindings.now) j (form formula.now))) self.now.at) }
     {
-        let truths = self.truths(alloc, formula)?;
-        in_time(alloc, modality, interval, self.log, truths.as_slice(), at)
+        let truths = self.truths(formula)?;
+        in_time(
+            self.alloc,
+            modality,
+            interval,
+            self.log,
+            truths.as_slice(),
+            self.at,
+        )
     }
 
     #[cycle(satisfaction)]
     fn holds_between(
         &self,
-        alloc: Global,
         span: Span,
         interval: &Interval,
         left: &Formula,
         right: &Formula,
-        at: usize,
     ) -> Result<bool, AllocError>
-        requires { at < length self.now.log.now }
+        requires { self.now.at < length self.now.log.now }
         ensures { IfOk result (λ held. held ≡ between span interval.now self.now.log.now
             (truths (length self.now.log.now) (λ j. sat self.now.log.now self.now.dom.now
             (valuation_of self.now.bindings.now) j (form left.now)))
             (truths (length self.now.log.now) (λ j. sat self.now.log.now self.now.dom.now
-            (valuation_of self.now.bindings.now) j (form right.now))) at) }
+            (valuation_of self.now.bindings.now) j (form right.now))) self.now.at) }
     {
-        let left = self.truths(alloc, left)?;
-        let right = self.truths(alloc, right)?;
+        let left = self.truths(left)?;
+        let right = self.truths(right)?;
         Ok(between(
             span,
             interval,
             self.log,
             left.as_slice(),
             right.as_slice(),
-            at,
+            self.at,
         ))
     }
 }
 
 impl Interpretation<'_> {
-    fn has_event(&self, alloc: Global, atom: &Atom, at: usize) -> Result<bool, AllocError>
-        ensures { IfOk result (λ found. found ≡ has_event (database_at self.now.log.now at)
+    fn has_event(&self, atom: &Atom) -> Result<bool, AllocError>
+        ensures { IfOk result (λ found. found ≡ has_event (database_at self.now.log.now self.now.at)
             (event_of (valuation_of self.now.bindings.now) atom.now)) }
     {
-        let event = event_of(alloc, atom, self.bindings)?;
-        match self.log.get(at) {
+        let event = event_of(self.alloc, atom, self.bindings)?;
+        match self.log.get(self.at) {
             Some(point) => Ok(point.db.contains(&event)),
             None => Ok(false),
         }

@@ -1,12 +1,12 @@
 //! The violations of a formula, found by trying every row over the active domain.
-ghost use Rattle.std.specs.Prelude.{◌≡◌, ◌<◌, ◌∷◌, ◌++◌, not, filter, length, map, IfOk, OnOk};
+ghost use Rattle.std.specs.Prelude.{◌≡◌, ◌<◌, ◌∷◌, ◌++◌, [], not, filter, length, map, IfOk, OnOk};
 ghost use Rattle.mfotl_model.specs.ActiveDomain.{ascending};
 ghost use Rattle.mfotl_model.specs.Formulas.{form};
 ghost use Rattle.mfotl_model.specs.Satisfaction.{sat};
 ghost use Rattle.mfotl_model.specs.Values.{row_cmp};
 ghost use Rattle.mfotl_model.specs.Violations.{all_rows, valuation, viol};
 
-use crate::domain::active_domain;
+use crate::domain::{active_domain, push_values};
 use crate::satisfaction::holds;
 use mfotl_model::{Formula, Partial, Row, RowList, TimePoint, Value};
 use std::alloc::{AllocError, Global};
@@ -25,43 +25,57 @@ pub fn violations(
     let columns = formula.free_vars(alloc)?;
     let dom = active_domain(alloc, formula, log)?;
     let rows = all_rows(alloc, columns.len(), dom.as_slice())?;
-    let found = failing(
-        alloc,
+    let query = Query {
         formula,
         log,
-        dom.as_slice(),
-        columns.as_slice(),
+        dom: dom.as_slice(),
+        columns: columns.as_slice(),
         at,
-        rows,
-    )?;
+    };
+    let found = query.failing(alloc, rows)?;
     Ok(RowList::in_order(found).into_vec())
 }
 
-// Those of the rows at which the formula doesn't hold.
-fn failing(
-    alloc: Global,
-    formula: &Formula,
-    log: &[TimePoint],
-    dom: &[Value],
-    columns: &[u32],
+// A formula asked at rows over `columns`, at a position of a log, its quantifiers over `dom`.
+#[derive(Clone, Copy)]
+struct Query<'a> {
+    formula: &'a Formula,
+    log: &'a [TimePoint],
+    dom: &'a [Value],
+    columns: &'a [u32],
     at: usize,
-    rows: Vec<Row>,
-) -> Result<Vec<Row>, AllocError>
-    requires { at < length log.now }
-    ensures { IfOk result (λ found. found.items ≡ filter (λ row.
-        not (sat log.now dom.now (valuation columns.now row) at (form formula.now))) rows.items) }
-{
-    let mut found = Vec::new(alloc);
-    for row in rows {
+}
+
+impl Query<'_> {
+    // Those of the rows at which the formula doesn't hold.
+    fn failing(&self, alloc: Global, rows: Vec<Row>) -> Result<Vec<Row>, AllocError>
+        requires { self.now.at < length self.now.log.now }
+        ensures { IfOk result (λ found. found.items ≡ filter (λ row. not (sat self.now.log.now self.now.dom.now
+            (valuation self.now.columns.now row) self.now.at (form self.now.formula.now))) rows.items) }
+    {
+        let mut found = Vec::new(alloc);
+        for row in rows {
+            self.push_failing(alloc, &mut found, row)?;
+        }
+        Ok(found)
+    }
+
+    // Adds the row, if the formula doesn't hold at it.
+    fn push_failing(&self, alloc: Global, found: &mut Vec<Row>, row: Row) -> Result<(), AllocError>
+        requires { self.now.at < length self.now.log.now }
+        ensures { OnOk result (found.new.items ≡ found.old.items ++ filter (λ row. not (sat self.now.log.now
+            self.now.dom.now (valuation self.now.columns.now row) self.now.at (form self.now.formula.now)))
+            (row ∷ [])) }
+    {
         let part = Partial {
-            cols: columns,
+            cols: self.columns,
             row: &row,
         };
-        if !holds(alloc, formula, log, dom, &part, at)? {
+        if !holds(alloc, self.formula, self.log, self.dom, &part, self.at)? {
             found.push(row)?;
         }
+        Ok(())
     }
-    Ok(found)
 }
 
 // All rows of `count` values of the domain.
@@ -98,9 +112,8 @@ fn add_rows(
 fn row_of(alloc: Global, value: &Value, row: &Row) -> Result<Row, AllocError>
     ensures { IfOk result (λ longer. longer ≡ value.now ∷ row.now) }
 {
-    let mut longer = Row::empty().push(alloc, value.copy(alloc)?)?;
-    for value in row.values() {
-        longer = longer.push(alloc, value.copy(alloc)?)?;
-    }
-    Ok(longer)
+    let mut longer = Vec::new(alloc);
+    longer.push(value.copy(alloc)?)?;
+    push_values(alloc, &mut longer, row.values())?;
+    Ok(Row::new(longer))
 }

@@ -34,13 +34,13 @@ decreases-holds_between l = 3 * max (size-Formula l.left.now) (size-Formula l.ri
 abbrev pub invariant-holds_for_every-loop-value : goal.invariant-holds_for_every-loop-value
 invariant-holds_for_every-loop-value l =
     let test = λ (a : Value). sat l.self.log.now l.self.dom.now
-    (with_value (valuation_of l.self.bindings.now) l.x a) l.at (form l.formula) in
+    (with_value (valuation_of l.self.bindings.now) l.x a) l.self.at (form l.formula) in
     list_all test (drop l.value-index l.self.dom.now) ≡ list_all test l.self.dom.now
 
 abbrev pub invariant-holds_for_some-loop-value : goal.invariant-holds_for_some-loop-value
 invariant-holds_for_some-loop-value l =
     let test = λ (a : Value). sat l.self.log.now l.self.dom.now
-    (with_value (valuation_of l.self.bindings.now) l.x a) l.at (form l.formula) in
+    (with_value (valuation_of l.self.bindings.now) l.x a) l.self.at (form l.formula) in
     list_any test (drop l.value-index l.self.dom.now) ≡ list_any test l.self.dom.now
 
 abbrev pub invariant-truths-loop-at : goal.invariant-truths-loop-at
