@@ -49,9 +49,13 @@ fn cut_since<S: Sorter>(
     ensures { IfOk result (λ cuts.
         CutWindows (S.count sorter.now) (S.region sorter.now) (Since since) cuts.items) }
 {
-    let interval = since.interval;
-    let kept = cut_since_data(alloc, sorter, &since.columns, since.kept)?;
-    let columns = copies(alloc, &since.columns, sorter.workers())?;
+    let SinceKept {
+        interval,
+        columns,
+        kept,
+    } = since;
+    let kept = cut_since_data(alloc, sorter, &columns, kept)?;
+    let columns = copies(alloc, &columns, sorter.workers())?;
     let pairs = paired(alloc, columns, kept)?;
     pairs
         .into_iter()
@@ -107,9 +111,10 @@ fn cut_until<S: Sorter>(
     ensures { IfOk result (λ cuts.
         CutWindows (S.count sorter.now) (S.region sorter.now) (Until until) cuts.items) }
 {
-    let kept = cut_until_data(alloc, sorter, &until.left, &until.right, until.kept)?;
-    let lefts = copies(alloc, &until.left, sorter.workers())?;
-    let rights = copies(alloc, &until.right, sorter.workers())?;
+    let UntilKept { left, right, kept } = until;
+    let kept = cut_until_data(alloc, sorter, &left, &right, kept)?;
+    let lefts = copies(alloc, &left, sorter.workers())?;
+    let rights = copies(alloc, &right, sorter.workers())?;
     let columns = paired(alloc, lefts, rights)?;
     let pairs = paired(alloc, columns, kept)?;
     pairs
