@@ -6,6 +6,7 @@ mod close;
 mod hub;
 pub mod laws;
 mod open;
+mod places;
 mod plays;
 mod serve;
 mod swap;

@@ -18,6 +18,19 @@ use atomic_table::{Refused, Table};
 use std::alloc::{AllocError, Global};
 use std::snapshot::Snapshot;
 
+// A cell with this work, with nothing handed over.
+fn fresh<W, I, O>(alloc: Global, work: W) -> Cell<W, I, O>
+    ensures { (result.work ≡ work) × (result.count ≡ 0) × (result.outs.items ≡ []) }
+{
+    Cell {
+        work,
+        count: 0,
+        items: Vec::new(alloc),
+        taken: 0,
+        outs: Vec::new(alloc),
+    }
+}
+
 // A cell for each work, with nothing handed over.
 fn cells<W: Work>(alloc: Global, works: Vec<W>) -> Result<Vec<Place<W>>, AllocError>
     ensures { IfOk result (λ v. (length v.items ≡ length works.items)
@@ -25,13 +38,7 @@ fn cells<W: Work>(alloc: Global, works: Vec<W>) -> Result<Vec<Place<W>>, AllocEr
 {
     let mut slots = Vec::with_capacity(alloc, works.len())?;
     for work in works {
-        slots.push(Some(Cell {
-            work,
-            count: 0,
-            items: Vec::new(alloc),
-            taken: 0,
-            outs: Vec::new(alloc),
-        }))?;
+        slots.push_reserved(Some(fresh(alloc, work)));
     }
     Ok(slots)
 }

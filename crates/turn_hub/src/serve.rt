@@ -1,6 +1,6 @@
 //! A hand's side: working what was handed over.
 
-ghost use Rattle.std.specs.Prelude.{◌≡◌, ◌++◌, List, IfOk};
+ghost use Rattle.std.specs.Prelude.{◌≡◌, ◌++◌, List, [], ◌∷◌, IfOk};
 ghost use Rattle.turn_hub.specs.Work.{Takes, Leads};
 ghost use Rattle.turn_hub.specs.Ends.{IsHandOf, hand_cell, hand_view};
 ghost use Rattle.turn_hub.specs.Answers.{ServedAs};
@@ -14,6 +14,24 @@ use mon_outside::Gate;
 use std::alloc::{AllocError, Global};
 use std::mem;
 
+// Works the item, once the gate let it pass.
+fn work_one<W: Work, G: Gate>(
+    alloc: Global,
+    cell: &mut Cell<W, W::Item, W::Out>,
+    gate: &G,
+    number: u32,
+    item: W::Item,
+) -> Result<(), AllocError>
+    requires { Takes W.stands W.may cell.old.work (item ∷ []) }
+    ensures count { IfOk result (λ _. cell.new.count ≡ cell.old.count) }
+    ensures did { IfOk result (λ _. (gave : List W.Out) × (cell.new.outs.items ≡ cell.old.outs.items ++ gave)
+        × Leads W.stands W.may cell.old.work (item ∷ []) cell.new.work gave) }
+{
+    gate.pass(number, cell.taken);
+    cell.taken = cell.taken.saturating_add(1);
+    cell.work.work(alloc, item, &mut cell.outs)
+}
+
 // Works the cell's items in order.
 fn work_all<W: Work, G: Gate>(
     alloc: Global,
@@ -26,12 +44,10 @@ fn work_all<W: Work, G: Gate>(
     ensures did { IfOk result (λ _. (gave : List W.Out) × (cell.new.outs.items ≡ cell.old.outs.items ++ gave)
         × Leads W.stands W.may cell.old.work cell.old.items.items cell.new.work gave) }
 {
+    cell.outs.reserve(cell.items.len())?;
     let items = mem::replace(&mut cell.items, Vec::new(alloc));
-    cell.outs.reserve(items.len())?;
     for item in items {
-        gate.pass(number, cell.taken);
-        cell.taken = cell.taken.saturating_add(1);
-        cell.work.work(alloc, item, &mut cell.outs)?;
+        work_one(alloc, cell, gate, number, item)?;
     }
     Ok(())
 }
@@ -50,12 +66,10 @@ impl<W: Work> Hub<W> {
         if found != HAND_TURN {
             return Served::NotGiven;
         }
-        let Some(mut cell) = shared.exchange(&mut hand.seat, place, None) else {
-            unreachable!()
-        };
+        let mut cell = self.take_cell(&mut hand.seat, place);
         let given = cell.items.len() as u64;
         let done = work_all(alloc, &mut cell, gate, hand.cell);
-        drop(shared.exchange(&mut hand.seat, place, Some(cell)));
+        self.put_cell(&mut hand.seat, place, cell);
         match done {
             Ok(()) => {
                 shared.store::<GiveBack>(&mut hand.seat, place, MAIN_TURN);

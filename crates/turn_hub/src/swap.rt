@@ -53,12 +53,10 @@ impl<W: Work> Hub<W> {
         if found != MAIN_TURN {
             return Swap::Broken(items);
         }
-        let Some(mut cell) = shared.exchange(&mut main.seat, place, None) else {
-            unreachable!()
-        };
+        let mut cell = self.take_cell(&mut main.seat, place);
         let turn = turn_after(items.len() as u64);
         let (count, outs) = refill(&mut cell, items, Vec::new(self.alloc));
-        drop(shared.exchange(&mut main.seat, place, Some(cell)));
+        self.put_cell(&mut main.seat, place, cell);
         shared.store::<HandOver>(&mut main.seat, place, turn);
         Swap::Back(count, outs)
     }

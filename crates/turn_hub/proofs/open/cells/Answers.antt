@@ -1,5 +1,6 @@
-use Rattle.std.proofs.Common.{◌≡◌, ◌++◌, ◌+◌, [], ◌∷◌, ℕ, List, length, ap, sym, ◌∙◌, subst, refl}
-use Rattle.std.proofs.Common.{append-nil, append_assoc, length-append, Option, Some, ⊎_elim}
+use Rattle.std.proofs.Common.{◌≡◌, ◌++◌, ◌+◌, ◌≤◌, [], ◌∷◌, ℕ, List, length, ap, sym, ◌∙◌, subst, refl}
+use Rattle.std.proofs.Common.{append-nil, append_assoc, length-append, Option, Some, ⊎_elim, arith, suc}
+use Rattle.std.specs.Prelude.{vec_capacity}
 use Rattle.std.proofs.lemmas.List.{nil_from_length}
 use mathlib.Core.Option.{some, some-ne-none}
 use lib.ListN.{get_elem?}
@@ -26,28 +27,40 @@ more_fresh works slots w c long work count outs old k x e = ⊎_elim
     (at_end works w x k e)
 
 pub loop-work-init : goal.loop-work-init
-loop-work-init g c = let e = (c.in_ok-slots.ensures {u = tt}).items in
-    (sym c.into_iter-work-iterator.ensures.into_iter_gives.0, ap length e, λ k w h. absurd (some-ne-none w (sym h)))
+loop-work-init g c = let e = (c.in_ok-slots.ensures {u = tt}).items in (
+  sym c.into_iter-work-iterator.ensures.into_iter_gives.0,
+  ap length e,
+  λ k w h. absurd (some-ne-none w (sym h)),
+  subst (λ (n : ℕ). n ≤ vec_capacity c.in_ok-slots.slots) (c.len.ensures ∙ c.args.works.ok.0)
+      (c.in_ok-slots.ensures {u = tt}).capacity,
+)
+
+pub push_reserved-requires : goal.push_reserved-requires
+push_reserved-requires g c =
+    let i = c.loop-work.invariant in
+    let steps = (c.in-Some.ensures {u = tt}).steps in
+    let left = c.next.new.self.rest.items in
+    let long = c.loop-work.slots.ok.0 in
+    let all : length c.args.works.items ≡ length c.loop-work.yielded + suc (length left) =
+    ap length (i.0 ∙ ap (λ xs. c.loop-work.yielded ++ xs) steps.0)
+    ∙ length-append c.loop-work.yielded (c.in-Some.work ∷ left) in
+    let wide = i.1 in
+    let room = i.3 in
+    omega arith
 
 pub loop-work-preserved : goal.loop-work-preserved
 loop-work-preserved g c = let steps = (c.in-Some.ensures {u = tt}).steps in let i = c.loop-work.invariant in let p =
-    (c.in_ok-push.ensures {u = tt}).items in let left = c.next.new.self.rest.items in
-    let cell : Cell g.row.W.Denot g.row.W-Item.Denot g.row.W-Out.Denot =
-    record {
-      work = c.in-Some.work;
-      count = 0;
-      items = c.new.result;
-      taken = 0;
-      outs =
-          c.new-in-loop-work.result;
-    } in (
+    c.push_reserved.ensures.items in let left = c.next.new.self.rest.items in
+    let cell = c.fresh.result in
+    let new = c.fresh.ensures in (
       i.0 ∙ ap (λ xs. c.loop-work.yielded ++ xs) steps.0
           ∙ sym (append_assoc c.loop-work.yielded (c.in-Some.work ∷ []) left),
       ap length p ∙ length-append c.loop-work.slots.items (Some cell ∷ []) ∙ ap (λ (n : ℕ). n + 1) i.1
           ∙ sym (length-append c.loop-work.yielded (c.in-Some.work ∷ [])),
       λ k w e. subst (λ xs. IsFresh xs k w) (sym p)
-          (more_fresh c.loop-work.yielded c.loop-work.slots.items c.in-Some.work cell i.1 refl refl
-          c.new-in-loop-work.ensures.items i.2 k w e),
+          (more_fresh c.loop-work.yielded c.loop-work.slots.items c.in-Some.work cell i.1 new.0
+          new.1 new.2 i.2 k w e),
+      subst (λ (n : ℕ). length c.args.works.items ≤ n) (sym c.push_reserved.ensures.capacity) i.3,
     )
 
 pub returns : goal.returns

@@ -16,8 +16,8 @@ loop-item-init g c =
       ([], c.reserve.ensures.items ∙ sym (append-nil c.args.cell.now.outs.items), none),
     )
 
-pub work-requires : goal.work-requires
-work-requires g c =
+pub work_one-requires : goal.work_one-requires
+work_one-requires g c =
     let steps = (c.in-Some.ensures {u = tt}).steps in
     let work = c.loop-item.cell.work in
     let takes = subst (Takes g.W.Work.stands g.W.Work.may work) steps.0 c.loop-item.invariant.2 in
@@ -28,7 +28,8 @@ pub loop-item-preserved : goal.loop-item-preserved
 loop-item-preserved g c =
     let steps = (c.in-Some.ensures {u = tt}).steps in
     let i = c.loop-item.invariant in
-    let did = c.in_ok-work.ensures {u = tt} in
+    let ok = c.in_ok-work_one.ensures {u = tt} in
+    let did = ok.did in
     let before = i.3 in
     let left = c.next.new.self.rest.items in
     let work = c.loop-item.cell.work in
@@ -36,13 +37,13 @@ loop-item-preserved g c =
     let done = c.loop-item.yielded in
     let takes = subst (Takes g.W.Work.stands g.W.Work.may work) steps.0 i.2 in (
       i.0 ∙ ap (λ xs. done ++ xs) steps.0 ∙ sym (append_assoc done item left),
-      i.1,
-      takes_on g.W.Work.stands g.W.Work.may g.met.W.Work.may_less work item left c.work.new.self did.0 takes did.2,
+      ok.count ∙ i.1,
+      takes_on g.W.Work.stands g.W.Work.may g.met.W.Work.may_less work item left c.work_one.new.cell.work did.0 takes did.2,
       (
         before.0 ++ did.0,
         did.1 ∙ ap (λ xs. xs ++ did.0) before.1 ∙ append_assoc c.args.cell.now.outs.items before.0 did.0,
         leads_on g.W.Work.stands g.W.Work.may g.met.W.Work.may_less c.args.cell.now.work done work before.0 item
-            c.work.new.self did.0 before.2 did.2,
+            c.work_one.new.cell.work did.0 before.2 did.2,
       ),
     )
 

@@ -16,9 +16,12 @@ load-found-requires g c = let m = c.requires.main in let sized = c.args.self.now
       main_loads g.W.Work.stands g.W.Work.may _ _ c.args.number c.args.main.now.seat.me m.0.1 m.0.3 m.0.4 near,
     )
 
-pub exchange-requires : goal.exchange-requires
-exchange-requires g c = let l = c.load-found.ensures in let p = l.2.0.0 c.if-found-ne-MAIN_TURN.false in
-    (l.0 ∙ c.requires.main.0.0, can_take c.args.number _ _ _ c.load-found.new.seat.me p.1)
+pub take_cell-cell-requires-clause-hub : goal.take_cell-cell-requires-clause-hub
+take_cell-cell-requires-clause-hub g c = let l = c.load-found.ensures in l.0 ∙ c.requires.main.0.0
+
+pub take_cell-cell-requires-clause-has : goal.take_cell-cell-requires-clause-has
+take_cell-cell-requires-clause-has g c = let l = c.load-found.ensures in let p = l.2.0.0 c.if-found-ne-MAIN_TURN.false in
+    can_take c.args.number _ _ _ c.load-found.new.seat.me p.1
 
 pub store-requires : goal.store-requires
 store-requires g c =
@@ -26,21 +29,22 @@ store-requires g c =
     let p = l.2.0.0 c.if-found-ne-MAIN_TURN.false in
     let m = c.requires.main in
     let may = c.requires.may in
-    let out = c.exchange.ensures in
-    let back = c.exchange-2.ensures in
+    let out = c.take_cell-cell.ensures.seat in
+    let back = c.put_cell.ensures.seat in
     let k = c.args.number in
     let items = c.args.items in
     let near : k < c.args.self.now.table.shared.table_id.slots = m.1 in
     let sized = c.args.self.now.sized in
-    let found : c.exchange.result ≡ Some p.0 = taken_out k _ _ _ _ c.load-found.new.seat.me p.1 out.2 in
-    let same : c.in-Some.cell ≡ p.0 = same_Some _ _ (sym c.in-Some.is ∙ found) in
-    let gone = put_in k _ _ _ _ c.load-found.new.seat.me c.exchange.new.seat.me p.1 out.3 in
-    let left = put_in k _ _ _ _ c.exchange.new.seat.me c.exchange-2.new.seat.me gone back.3 in
+    let found : Some c.take_cell-cell.result ≡ Some p.0 =
+    taken_out k _ _ _ _ c.load-found.new.seat.me p.1 c.take_cell-cell.ensures.cell in
+    let same : c.take_cell-cell.result ≡ p.0 = same_Some _ _ found in
+    let gone = put_in k _ _ _ _ c.load-found.new.seat.me c.take_cell-cell.new.seat.me p.1 out.2 in
+    let left = put_in k _ _ _ _ c.take_cell-cell.new.seat.me c.put_cell.new.seat.me gone back.2 in
     let new = c.refill-count.ensures.cell in
     let laid = ap (λ v. v.items) new.1 in (
       back.0 ∙ out.0 ∙ l.0 ∙ m.0.0,
       (let w : k < c.args.self.now.table.shared.table_id.words = omega arith in w),
-      main_stores g.W.Work.stands g.W.Work.may _ _ k c.exchange-2.new.seat.me _ may.0 p.0
+      main_stores g.W.Work.stands g.W.Work.may _ _ k c.put_cell.new.seat.me _ may.0 p.0
           c.refill-count.new.cell c.turn_after-turn.result
           (back.1 ∙ out.1 ∙ l.1 ∙ m.0.1) near (ap (λ y. y.1) left) (ap (λ y. get_elem? y.0.lines k) left ∙ may.1)
           (ap (λ y. y.0.has) left) (ap (λ y. y.0.cell) left) (new.0 ∙ ap (λ y. y.work) same)
@@ -56,14 +60,15 @@ pub returns-clause-did : goal.returns-clause-did
 returns-clause-did g c =
     let l = c.load-found.ensures in
     let p = l.2.0.0 c.if-found-ne-MAIN_TURN.false in
-    let out = c.exchange.ensures in
-    let back = c.exchange-2.ensures in
+    let out = c.take_cell-cell.ensures.seat in
+    let back = c.put_cell.ensures.seat in
     let k = c.args.number in
     let items = c.args.items in
-    let found : c.exchange.result ≡ Some p.0 = taken_out k _ _ _ _ c.load-found.new.seat.me p.1 out.2 in
-    let same : c.in-Some.cell ≡ p.0 = same_Some _ _ (sym c.in-Some.is ∙ found) in
-    let gone = put_in k _ _ _ _ c.load-found.new.seat.me c.exchange.new.seat.me p.1 out.3 in
-    let left = put_in k _ _ _ _ c.exchange.new.seat.me c.exchange-2.new.seat.me gone back.3 in
+    let found : Some c.take_cell-cell.result ≡ Some p.0 =
+    taken_out k _ _ _ _ c.load-found.new.seat.me p.1 c.take_cell-cell.ensures.cell in
+    let same : c.take_cell-cell.result ≡ p.0 = same_Some _ _ found in
+    let gone = put_in k _ _ _ _ c.load-found.new.seat.me c.take_cell-cell.new.seat.me p.1 out.2 in
+    let left = put_in k _ _ _ _ c.take_cell-cell.new.seat.me c.put_cell.new.seat.me gone back.2 in
     let new = c.refill-count.ensures in
     let laid = ap (λ v. v.items) new.cell.1 in
     let whole = left ∙ (λ i. (
@@ -72,7 +77,7 @@ returns-clause-did g c =
     )) in
     swaps g.W.Work.stands g.W.Work.told g.met.W.Work.tells c.args.self.now.table.shared.table_id.slots k
     c.turn_after-turn.result
-    c.args.main.now.seat.me c.exchange-2.new.seat.me c.store.new.seat.me p.0 c.refill-count.new.cell whole
+    c.args.main.now.seat.me c.put_cell.new.seat.me c.store.new.seat.me p.0 c.refill-count.new.cell whole
     c.store.ensures.2 p.2
     c.refill-count.result.0 c.refill-count.result.1.items items.items
     (ap (λ r. r.0) new.result ∙ ap (λ y. y.count) same)
