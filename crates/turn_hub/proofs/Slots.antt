@@ -19,5 +19,5 @@ module _ {S V : Type 0} where
   put_in k v x z xs me me' e put = put ∙ ap (λ (m : Me S V). (m.0, (k, z) ∷ rest m.1)) e
 
   pub can_take : (k : ℕ) (v : V) (x : S) (xs : List (ℕ × S)) (me : Me S V) → me ≡ (v, (k, x) ∷ xs)
-      → (old : S) × (me.1 ≡ (k, old) ∷ rest me.1)
-  can_take k v x xs me e = (x, ap (λ (m : Me S V). m.1) e ∙ ap (λ (m : Me S V). (k, x) ∷ rest m.1) (sym e))
+      → me.1 ≡ (k, x) ∷ rest me.1
+  can_take k v x xs me e = ap (λ (m : Me S V). m.1) e ∙ ap (λ (m : Me S V). (k, x) ∷ rest m.1) (sym e)

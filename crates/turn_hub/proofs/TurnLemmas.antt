@@ -1,5 +1,5 @@
 -- What one side leaves is what the other side finds.
-use Rattle.std.proofs.Common.{◌≡◌, ◌∙◌, ap, sym, length, List}
+use Rattle.std.proofs.Common.{◌∙◌, ap, sym, length, List}
 use Rattle.std.proofs.lemmas.Option.{same_Some}
 use Rattle.turn_hub.specs.declared.hub.Swap.TheVariants.{Back, NotYet, Broken}
 use Rattle.turn_hub.specs.Turns.{BrokenIsLeft, BackIsLeft, NotYetIsWorked, WorkedIsFound}

@@ -1,5 +1,4 @@
 use Rattle.std.proofs.Common.{◌≡◌, ◌++◌, [], ◌∷◌, ap, sym, ◌∙◌, subst, append-nil, append_assoc}
-use Rattle.std.proofs.Common.{refl}
 use Rattle.std.proofs.lemmas.List.{nil_from_length}
 use Rattle.turn_hub.specs.Work.{Takes, Leads}
 use Rattle.turn_hub.proofs.WorkLemmas.{leads_none, leads_on, takes_less, takes_on}
@@ -7,13 +6,20 @@ use Rattle.turn_hub.proofs.serve.work_all.Goals as goal
 
 pub loop-item-init : goal.loop-item-init
 loop-item-init g c =
-    let whole = ap (λ v. v.items) (sym c.replace-items.ensures.value)
-    ∙ sym c.into_iter-item-iterator.ensures.into_iter_gives.0 in
-    let none = leads_none g.W.Work.stands g.W.Work.may g.met.W.Work.may_less c.args.cell.now.work in (
+    let out = c.in_ok-items.ensures {u = tt} in
+    let kept = out.cell in
+    let whole = sym out.items ∙ sym c.into_iter-item-iterator.ensures.into_iter_gives.0 in
+    let before = c.args.cell.now in
+    let none = leads_none g.W.Work.stands g.W.Work.may g.met.W.Work.may_less before.work in (
       whole,
-      refl,
-      subst (Takes g.W.Work.stands g.W.Work.may c.args.cell.now.work) whole c.requires,
-      ([], c.reserve.ensures.items ∙ sym (append-nil c.args.cell.now.outs.items), none),
+      kept.1,
+      subst (λ w. Takes g.W.Work.stands g.W.Work.may w c.into_iter-item-iterator.result.rest.items) (sym kept.0)
+          (subst (Takes g.W.Work.stands g.W.Work.may before.work) whole c.requires),
+      (
+        [],
+        kept.2 ∙ sym (append-nil before.outs.items),
+        subst (λ w. Leads g.W.Work.stands g.W.Work.may before.work [] w []) (sym kept.0) none,
+      ),
     )
 
 pub work_one-requires : goal.work_one-requires

@@ -18,7 +18,7 @@ take_cell-cell-requires-clause-hub g c = let l = c.load-found.ensures in l.0 ∙
 
 pub take_cell-cell-requires-clause-has : goal.take_cell-cell-requires-clause-has
 take_cell-cell-requires-clause-has g c = let l = c.load-found.ensures in let p = l.2.0 c.if-found-ne-HAND_TURN.false in
-    can_take c.args.hand.now.cell _ _ _ c.load-found.new.seat.me p.1
+    (p.0, can_take c.args.hand.now.cell _ _ _ c.load-found.new.seat.me p.1)
 
 pub work_all-done-requires : goal.work_all-done-requires
 work_all-done-requires g c = let l = c.load-found.ensures in let p = l.2.0 c.if-found-ne-HAND_TURN.false in

@@ -21,7 +21,7 @@ take_cell-cell-requires-clause-hub g c = let l = c.load-found.ensures in l.0 ∙
 
 pub take_cell-cell-requires-clause-has : goal.take_cell-cell-requires-clause-has
 take_cell-cell-requires-clause-has g c = let l = c.load-found.ensures in let p = l.2.0.0 c.if-found-ne-MAIN_TURN.false in
-    can_take c.args.number _ _ _ c.load-found.new.seat.me p.1
+    (p.0, can_take c.args.number _ _ _ c.load-found.new.seat.me p.1)
 
 pub store-requires : goal.store-requires
 store-requires g c =
