@@ -57,7 +57,7 @@ fn ordered(
     Ok(entries)
 }
 
-/// Takes the keys and the rows apart.
+/// Puts the keys and the rows behind those of two lists.
 fn part_entries(
     entries: Vec<Entry>,
     keys: &mut Vec<Row>,
@@ -73,6 +73,17 @@ fn part_entries(
         rows.push(entry.row)?;
     }
     Ok(())
+}
+
+/// The keys and the rows in lists of their own.
+fn parted(alloc: Global, entries: Vec<Entry>) -> Result<(Vec<Row>, Vec<Row>), AllocError>
+    ensures keys { IfOk result (λ lists. lists.0.items ≡ map (λ e. e.key) entries.items) }
+    ensures rows { IfOk result (λ lists. lists.1.items ≡ map (λ e. e.row) entries.items) }
+{
+    let mut keys = Vec::with_capacity(alloc, entries.len())?;
+    let mut rows = Vec::with_capacity(alloc, entries.len())?;
+    part_entries(entries, &mut keys, &mut rows)?;
+    Ok((keys, rows))
 }
 
 /// The rows whose key is this one.
@@ -131,9 +142,7 @@ impl Index {
             IsSorted (index_cmp columns.items key_columns.items) index.rows) }
     {
         let entries = ordered(alloc, columns.as_slice(), key_columns.as_slice(), rows)?;
-        let mut keys = Vec::with_capacity(alloc, entries.len())?;
-        let mut rows = Vec::with_capacity(alloc, entries.len())?;
-        part_entries(entries, &mut keys, &mut rows)?;
+        let (keys, rows) = parted(alloc, entries)?;
         Ok(Index {
             columns,
             key_columns,

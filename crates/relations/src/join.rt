@@ -19,6 +19,23 @@ use std::alloc::{AllocError, Global};
 use std::marker::Brand;
 use std::sync::ledger::{Blank, Ledger};
 
+/// A table's rows in the order of the columns that both of two tables have.
+pub(crate) fn index_of_common(
+    alloc: Global,
+    table: &Table,
+    first: &Table,
+    second: &Table,
+) -> Result<Index, AllocError>
+    requires inside { IsTrue (all_among (common first.now.columns second.now.columns) table.now.columns) }
+    ensures columns { IfOk result (λ index. index.columns ≡ table.now.columns) }
+    ensures key { IfOk result (λ index.
+        index.key_columns ≡ common first.now.columns second.now.columns) }
+    ensures moved { IfOk result (λ index. IsPermutation table.now.rows index.rows) }
+{
+    let key = common(alloc, first.columns(), second.columns())?;
+    table.index(alloc, key)
+}
+
 /// The pairs that agree, by an index of the second table.
 fn pairs_by_second<L: Ledger>(
     alloc: Global,
@@ -29,8 +46,7 @@ fn pairs_by_second<L: Ledger>(
     ensures { IfOk result (λ rows.
         ascending row_cmp rows.items ≡ joined_rows first.now second.now) }
 {
-    let key = common(alloc, first.columns(), second.columns())?;
-    let index = second.index(alloc, key)?;
+    let index = index_of_common(alloc, second, first, second)?;
     let rows = matched_pairs(alloc, first.columns(), first.rows(), &index, steps)?;
     Ok(rows)
 }
@@ -45,8 +61,7 @@ fn pairs_by_first<L: Ledger>(
     ensures { IfOk result (λ rows.
         ascending row_cmp rows.items ≡ joined_rows first.now second.now) }
 {
-    let key = common(alloc, first.columns(), second.columns())?;
-    let index = first.index(alloc, key)?;
+    let index = index_of_common(alloc, first, first, second)?;
     let rows = turned_pairs(alloc, &index, second.columns(), second.rows(), steps)?;
     Ok(rows)
 }

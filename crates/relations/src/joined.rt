@@ -10,9 +10,9 @@ ghost use Rattle.mfotl_model.specs.Values.{row_cmp};
 ghost use Rattle.relations.specs.Operations.{has_part, joined_rows, joined_table};
 
 use crate::antijoin::has_part;
-use crate::columns::{all_among, both_columns, common};
-use crate::hashed::hashed;
-use crate::pairs::kept_pairs;
+use crate::columns::{all_among, both_columns};
+use crate::hashed::pairs_kept_by;
+use crate::join::index_of_common;
 use crate::steps::Steps;
 use crate::table::Table;
 use mfotl_model::Row;
@@ -56,7 +56,7 @@ fn only_matched(alloc: Global, table: Table, other: &Table) -> Result<Table, All
     Ok(Table::from_ascending(columns, kept))
 }
 
-// The pairs that agree and of which the third has a part, by an index of the second and a set of the third's rows.
+// The pairs that agree and of which the third has a part, by an index of the second.
 fn pairs_kept<L: Ledger>(
     alloc: Global,
     first: &Table,
@@ -70,18 +70,8 @@ fn pairs_kept<L: Ledger>(
         filter (has_part third.now (joined first.now.columns second.now.columns))
         (joined_rows first.now second.now)) }
 {
-    let key = common(alloc, first.columns(), second.columns())?;
-    let index = second.index(alloc, key)?;
-    let set = hashed(alloc, third.rows())?;
-    let rows = kept_pairs(
-        alloc,
-        first.columns(),
-        first.rows(),
-        &index,
-        third.columns(),
-        &set,
-        steps,
-    )?;
+    let index = index_of_common(alloc, second, first, second)?;
+    let rows = pairs_kept_by(alloc, first, &index, third, steps)?;
     Ok(rows)
 }
 
