@@ -131,14 +131,13 @@ impl<T: Copy + Drop> ShortQueue<T> {
         ensures items { OnOk result (self.new ≡ self.old ++ item ∷ []) }
         ensures err { OnErr result (self.new ≡ self.old) }
     {
-        match &mut self.held {
-            Held::Zero => self.held = Held::One(item),
-            Held::One(first) => self.held = Held::Two(*first, item),
-            Held::Two(first, second) => {
-                self.held = Held::Many(three(alloc, *first, *second, item)?);
-            }
-            Held::Many(items) => items.push_back(item)?,
-        }
+        let held = match &mut self.held {
+            Held::Zero => Held::One(item),
+            Held::One(first) => Held::Two(*first, item),
+            Held::Two(first, second) => Held::Many(three(alloc, *first, *second, item)?),
+            Held::Many(items) => return Ok(items.push_back(item)?),
+        };
+        self.held = held;
         Ok(())
     }
 
