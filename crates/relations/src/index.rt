@@ -138,8 +138,7 @@ impl Index {
         ensures columns { IfOk result (λ index. index.columns ≡ columns.items) }
         ensures key_columns { IfOk result (λ index. index.key_columns ≡ key_columns.items) }
         ensures moved { IfOk result (λ index. IsPermutation rows.now index.rows) }
-        ensures order { IfOk result (λ index.
-            IsSorted (index_cmp columns.items key_columns.items) index.rows) }
+        ensures order { IfOk result (λ index. IsSorted (index_cmp columns.items key_columns.items) index.rows) }
     {
         let entries = ordered(alloc, columns.as_slice(), key_columns.as_slice(), rows)?;
         let (keys, rows) = parted(alloc, entries)?;
