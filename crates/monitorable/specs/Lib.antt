@@ -1,4 +1,5 @@
 pub mod CoreForms
+pub mod Operators
 pub mod NormalForm
 pub mod NodeCount
 pub mod Limits

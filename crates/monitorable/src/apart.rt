@@ -1,6 +1,7 @@
 //! A core whose quantifiers bind different variables.
 ghost use Rattle.std.specs.Prelude.{◌≡◌, ◌+◌, IfOk, OnOk};
 ghost use Rattle.monitorable.specs.CoreForms.{Exists, node_form};
+ghost use Rattle.monitorable.specs.Operators.{IsBinary, over_two};
 ghost use Rattle.monitorable.specs.Renaming.{above, apart_form, binder_count, renamed, renamed_atom};
 ghost use Rattle.monitorable.specs.Renaming.{renamed_comparison, with_number};
 ghost use Rattle.monitorable.specs.RenamingScope.{numbers_of};
@@ -38,33 +39,37 @@ fn renamed(
         Node::False => boxes::boxed(alloc, Node::False),
         Node::Atom(atom) => renamed_atom(alloc, atom, renaming),
         Node::Compare(comparison) => renamed_comparison(alloc, comparison, renaming),
-        Node::Not(inner) => boxes::not(alloc, renamed(alloc, inner, renaming, next)?),
-        Node::And(left, right) => {
-            let left = renamed(alloc, left, renaming, next)?;
-            boxes::and(alloc, left, renamed(alloc, right, renaming, next)?)
-        }
-        Node::Or(left, right) => {
-            let left = renamed(alloc, left, renaming, next)?;
-            boxes::or(alloc, left, renamed(alloc, right, renaming, next)?)
-        }
         Node::Exists(bound, inner) => quantified(alloc, bound, inner, renaming, next),
-        Node::Previous(interval, inner) => {
-            boxes::previous(alloc, interval, renamed(alloc, inner, renaming, next)?)
+        Node::Not(inner) | Node::Previous(_, inner) | Node::Next(_, inner) => {
+            boxes::over_one(alloc, node, renamed(alloc, inner, renaming, next)?)
         }
-        Node::Next(interval, inner) => {
-            boxes::next(alloc, interval, renamed(alloc, inner, renaming, next)?)
-        }
-        Node::Since(interval, left, right) => {
-            let left = renamed(alloc, left, renaming, next)?;
-            let right = renamed(alloc, right, renaming, next)?;
-            boxes::since(alloc, interval, left, right)
-        }
-        Node::Until(interval, left, right) => {
-            let left = renamed(alloc, left, renaming, next)?;
-            let right = renamed(alloc, right, renaming, next)?;
-            boxes::until(alloc, interval, left, right)
-        }
+        Node::And(left, right)
+        | Node::Or(left, right)
+        | Node::Since(_, left, right)
+        | Node::Until(_, left, right) => renamed_both(alloc, node, left, right, renaming, next),
     }
+}
+
+// The node's operator over both sides in new numbers.
+#[cycle(renaming)]
+#[inline(never)]
+fn renamed_both(
+    alloc: Global,
+    node: &Node,
+    left: &Node,
+    right: &Node,
+    renaming: &Renaming,
+    next: &mut u32,
+) -> Result<Box<Node>, AllocError>
+    requires { IsBinary (node_form node.now) }
+    ensures renamed { IfOk result (λ node'. node_form node'.value
+        ≡ over_two (node_form node.now) (renamed (numbers_of renaming.now) next.old (node_form left.now))
+        (renamed (numbers_of renaming.now) (next.old + binder_count (node_form left.now)) (node_form right.now))) }
+    ensures next { OnOk result (next.new
+        ≡ next.old + (binder_count (node_form left.now) + binder_count (node_form right.now))) }
+{
+    let left = renamed(alloc, left, renaming, next)?;
+    boxes::over_two(alloc, node, left, renamed(alloc, right, renaming, next)?)
 }
 
 // EXISTS, whose variable has the next number.

@@ -1,5 +1,5 @@
 //! The atoms of a core.
-ghost use Rattle.std.specs.Prelude.{◌≡◌, ◌++◌, IfOk, OnOk};
+ghost use Rattle.std.specs.Prelude.{◌≡◌, ◌++◌, ◌∷◌, [], IfOk, OnOk};
 ghost use Rattle.monitorable.specs.Atoms.{atoms_of};
 ghost use Rattle.monitorable.specs.CoreForms.{node_form};
 
@@ -22,7 +22,7 @@ fn add_atoms(alloc: Global, node: &Node, atoms: &mut Vec<Atom>) -> Result<(), Al
 {
     match node {
         Node::True | Node::False | Node::Compare(_) => Ok(()),
-        Node::Atom(atom) => Ok(atoms.push(atom.copy(alloc)?)?),
+        Node::Atom(atom) => add_copy(alloc, atom, atoms),
         Node::Not(inner)
         | Node::Exists(_, inner)
         | Node::Previous(_, inner)
@@ -35,4 +35,10 @@ fn add_atoms(alloc: Global, node: &Node, atoms: &mut Vec<Atom>) -> Result<(), Al
             add_atoms(alloc, right, atoms)
         }
     }
+}
+
+fn add_copy(alloc: Global, atom: &Atom, atoms: &mut Vec<Atom>) -> Result<(), AllocError>
+    ensures { OnOk result (atoms.new.items ≡ atoms.old.items ++ atom.now ∷ []) }
+{
+    Ok(atoms.push(atom.copy(alloc)?)?)
 }

@@ -2,6 +2,7 @@
 //! hands only boxes from level to level, and has no room for nodes in its frames.
 ghost use Rattle.std.specs.Prelude.{◌≡◌, IfOk};
 ghost use Rattle.monitorable.specs.CoreForms.{And, Exists, Next, Not, Or, Previous, Since, True, Until, node_form};
+ghost use Rattle.monitorable.specs.Operators.{IsBinary, IsUnary, over_one, over_two};
 
 use crate::node::Node;
 use mfotl_model::{Atom, Bound, Comparison, Interval};
@@ -73,6 +74,42 @@ pub fn next(alloc: Global, interval: &Interval, inner: Box<Node>) -> Result<Box<
     ensures { IfOk result (λ node. node_form node.value ≡ Next interval.now (node_form inner.value)) }
 {
     Ok(Box::new(alloc, Node::Next(*interval, inner))?)
+}
+
+/// The node's operator over another operand.
+#[inline(never)]
+pub fn over_one(alloc: Global, node: &Node, inner: Box<Node>) -> Result<Box<Node>, AllocError>
+    requires { IsUnary (node_form node.now) }
+    ensures { IfOk result (λ made. node_form made.value ≡ over_one (node_form node.now) (node_form inner.value)) }
+{
+    match node {
+        Node::Not(_) => not(alloc, inner),
+        Node::Exists(bound, _) => exists(alloc, bound, inner),
+        Node::Previous(interval, _) => previous(alloc, interval, inner),
+        Node::Next(interval, _) => next(alloc, interval, inner),
+        _ => unreachable!(),
+    }
+}
+
+/// The node's operator over two other operands.
+#[inline(never)]
+pub fn over_two(
+    alloc: Global,
+    node: &Node,
+    left: Box<Node>,
+    right: Box<Node>,
+) -> Result<Box<Node>, AllocError>
+    requires { IsBinary (node_form node.now) }
+    ensures { IfOk result (λ made. node_form made.value
+        ≡ over_two (node_form node.now) (node_form left.value) (node_form right.value)) }
+{
+    match node {
+        Node::And(_, _) => and(alloc, left, right),
+        Node::Or(_, _) => or(alloc, left, right),
+        Node::Since(interval, _, _) => since(alloc, interval, left, right),
+        Node::Until(interval, _, _) => until(alloc, interval, left, right),
+        _ => unreachable!(),
+    }
 }
 
 #[inline(never)]

@@ -59,27 +59,16 @@ impl Node {
             Node::False => boxes::boxed(alloc, Node::False),
             Node::Atom(atom) => boxes::atom(alloc, atom),
             Node::Compare(comparison) => boxes::comparison(alloc, comparison),
-            Node::Not(inner) => boxes::not(alloc, inner.boxed(alloc)?),
-            Node::And(left, right) => {
+            Node::Not(inner)
+            | Node::Exists(_, inner)
+            | Node::Previous(_, inner)
+            | Node::Next(_, inner) => boxes::over_one(alloc, self, inner.boxed(alloc)?),
+            Node::And(left, right)
+            | Node::Or(left, right)
+            | Node::Since(_, left, right)
+            | Node::Until(_, left, right) => {
                 let left = left.boxed(alloc)?;
-                boxes::and(alloc, left, right.boxed(alloc)?)
-            }
-            Node::Or(left, right) => {
-                let left = left.boxed(alloc)?;
-                boxes::or(alloc, left, right.boxed(alloc)?)
-            }
-            Node::Exists(bound, inner) => boxes::exists(alloc, bound, inner.boxed(alloc)?),
-            Node::Previous(interval, inner) => {
-                boxes::previous(alloc, interval, inner.boxed(alloc)?)
-            }
-            Node::Next(interval, inner) => boxes::next(alloc, interval, inner.boxed(alloc)?),
-            Node::Since(interval, left, right) => {
-                let left = left.boxed(alloc)?;
-                boxes::since(alloc, interval, left, right.boxed(alloc)?)
-            }
-            Node::Until(interval, left, right) => {
-                let left = left.boxed(alloc)?;
-                boxes::until(alloc, interval, left, right.boxed(alloc)?)
+                boxes::over_two(alloc, self, left, right.boxed(alloc)?)
             }
         }
     }

@@ -4,6 +4,7 @@ ghost use Rattle.std.specs.Prelude.{◌≡◌, IfOk};
 ghost use Rattle.mfotl_model.specs.Formulas.{form};
 ghost use Rattle.monitorable.specs.CoreForms.{And, Exists, Next, Not, Or, Previous, Since, True, Until, node_form};
 ghost use Rattle.monitorable.specs.NormalForm.{negative, positive};
+ghost use Rattle.monitorable.specs.Operators.{IsTemporal};
 
 use crate::boxes;
 use crate::node::Node;
@@ -28,14 +29,14 @@ pub fn normal_form(alloc: Global, formula: &Formula) -> Result<Box<Node>, AllocE
         Formula::Equiv(left, right) => equivalence(alloc, left, right),
         Formula::Exists(bound, inner) => exists(alloc, bound, inner),
         Formula::Forall(bound, inner) => forall(alloc, bound, inner),
-        Formula::Previous(interval, inner) => previous(alloc, interval, inner),
-        Formula::Next(interval, inner) => next(alloc, interval, inner),
-        Formula::Once(interval, inner) => once(alloc, interval, inner),
-        Formula::Historically(interval, inner) => historically(alloc, interval, inner),
-        Formula::Eventually(interval, inner) => eventually(alloc, interval, inner),
-        Formula::Always(interval, inner) => always(alloc, interval, inner),
-        Formula::Since(interval, left, right) => since(alloc, interval, left, right),
-        Formula::Until(interval, left, right) => until(alloc, interval, left, right),
+        Formula::Previous(_, _)
+        | Formula::Next(_, _)
+        | Formula::Once(_, _)
+        | Formula::Historically(_, _)
+        | Formula::Eventually(_, _)
+        | Formula::Always(_, _)
+        | Formula::Since(_, _, _)
+        | Formula::Until(_, _, _) => temporal(alloc, formula),
     }
 }
 
@@ -65,6 +66,27 @@ pub fn negated_normal_form(alloc: Global, formula: &Formula) -> Result<Box<Node>
         | Formula::Eventually(_, _)
         | Formula::Since(_, _, _)
         | Formula::Until(_, _, _) => boxes::not(alloc, normal_form(alloc, formula)?),
+    }
+}
+
+/// The normal form of a formula with a temporal operator.
+#[cycle(normal_form)]
+#[tactic(auto, unfolding(crate::specs::NormalForm::positive))]
+#[inline(never)]
+fn temporal(alloc: Global, formula: &Formula) -> Result<Box<Node>, AllocError>
+    requires { IsTemporal (form formula.now) }
+    ensures { IfOk result (λ node. node_form node.value ≡ positive (form formula.now)) }
+{
+    match formula {
+        Formula::Previous(interval, inner) => previous(alloc, interval, inner),
+        Formula::Next(interval, inner) => next(alloc, interval, inner),
+        Formula::Once(interval, inner) => once(alloc, interval, inner),
+        Formula::Historically(interval, inner) => historically(alloc, interval, inner),
+        Formula::Eventually(interval, inner) => eventually(alloc, interval, inner),
+        Formula::Always(interval, inner) => always(alloc, interval, inner),
+        Formula::Since(interval, left, right) => since(alloc, interval, left, right),
+        Formula::Until(interval, left, right) => until(alloc, interval, left, right),
+        _ => unreachable!(),
     }
 }
 
