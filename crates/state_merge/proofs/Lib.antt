@@ -1,5 +1,6 @@
 pub mod PairLemmas
 pub mod PutLemmas
+pub mod StepLemmas
 pub mod EndLemmas
 pub mod JoinedLemmas
 pub mod KeepingLemmas

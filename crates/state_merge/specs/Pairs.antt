@@ -1,5 +1,5 @@
 -- Two lists of things that stand by their keys, walked side by side.
-use Rattle.std.specs.Prelude.{min, Option, Some, None, List, [], ◌∷◌, map}
+use Rattle.std.specs.Prelude.{◌≡◌, ◌+◌, ◌≤◌, min, IfNone, Option, List, [], ◌∷◌, ◌++◌, length, map, option_to_list}
 use Rattle.std.specs.List.Sorted.{IsStrictlySortedBy}
 use Rattle.std.specs.Ordering.{nat_cmp}
 use Rattle.std.specs.declared.cmp.Ordering.{Ordering}
@@ -21,10 +21,20 @@ walked order told both (x ∷ xs) (y ∷ ys) =
     by_order (order x y) (told x ∷ walked order told both xs (y ∷ ys)) (both x y ∷ walked order told both xs ys)
     (told y ∷ walked order told both (x ∷ xs) ys)
 
--- a list of which the first one was taken, if it had one
-abbrev pub held : {I : Type 0} → Option I → List I → List I
-held None xs = []
-held (Some x) xs = x ∷ xs
+-- how the first ones of two lists stand, where one that stands alone comes first
+abbrev pub order_of_firsts : {I : Type 0} → (I → I → Ordering) → List I → List I → Ordering
+order_of_firsts order [] [] = Less
+order_of_firsts order [] (y ∷ ys) = Greater
+order_of_firsts order (x ∷ xs) [] = Less
+order_of_firsts order (x ∷ xs) (y ∷ ys) = order x y
+
+-- the first one that a walk over two lists meets, if there is one, and what it leaves of the lists
+pub record IsStep {I X : Type 0} (order : I → I → Ordering) (told : I → X) (both : I → I → X) (xs ys : List I)
+    (next : Option I) (xs2 ys2 : List I) : Type 0 where
+  pub walk : walked order told both xs ys
+      ≡ map told (option_to_list next) ++ walked order told both xs2 ys2
+  pub end : IfNone next ((xs2 ≡ []) × (ys2 ≡ []))
+  pub fewer : length xs2 + length ys2 + length (option_to_list next) ≤ length xs + length ys
 
 -- the places of marks ascend
 abbrev pub MarksAscend : List Mark → Type 0

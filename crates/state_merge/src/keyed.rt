@@ -1,11 +1,12 @@
 //! Two lists, each in the order of its keys, walked side by side.
-ghost use Rattle.std.specs.Prelude.{◌≡◌, IfOk, map};
+ghost use Rattle.std.specs.Prelude.{◌≡◌, ◌++◌, [], IfNone, IfOk, OnOk, Some, map, option_to_list};
 ghost use Rattle.std.specs.List.{AllByRecursion};
-ghost use Rattle.state_merge.specs.Pairs.{held, walked};
+ghost use Rattle.std.specs.declared.cmp.Ordering.TheVariants.{Equal};
+ghost use Rattle.state_merge.specs.Pairs.{IsStep, order_of_firsts, walked};
 
 use std::alloc::{AllocError, Global};
 use std::cmp::Ordering;
-use std::vec::IntoIter;
+use std::collections::VecDeque;
 
 /// What stands in a list by its key.
 pub(crate) trait Keyed: Drop + Sized {
@@ -38,10 +39,85 @@ pub(crate) trait Keyed: Drop + Sized {
         ensures { IfOk result (λ one. told one ≡ both limit self other) };
 }
 
-fn taken<K: Drop>(rest: &mut IntoIter<K>) -> Option<K>
-    ensures { rest.old.rest.items ≡ held result rest.new.rest.items }
+// Which of the first ones comes first. One that stands alone does.
+fn order_of_firsts<K: Keyed>(first: &VecDeque<K>, second: &VecDeque<K>) -> Ordering
+    ensures { result ≡ order_of_firsts K.order first.now.items second.now.items }
 {
-    rest.next()
+    match (first.front(), second.front()) {
+        (Some(one), Some(other)) => one.order(other),
+        (None, Some(_)) => Ordering::Greater,
+        (_, None) => Ordering::Less,
+    }
+}
+
+fn take_first<K: Drop>(list: &mut VecDeque<K>) -> Option<K>
+    ensures first { list.old.items ≡ option_to_list result ++ list.new.items }
+    ensures none { IfNone result (list.old.items ≡ []) }
+{
+    list.pop_front()
+}
+
+// Takes the first one of each list, for one key, as what both come to.
+fn take_both<K: Keyed>(
+    alloc: Global,
+    limit: K::Limit,
+    first: &mut VecDeque<K>,
+    second: &mut VecDeque<K>,
+) -> Result<K, AllocError>
+    requires first { AllByRecursion K.fits first.old.items }
+    requires second { AllByRecursion K.fits second.old.items }
+    requires same { order_of_firsts K.order first.old.items second.old.items ≡ Equal }
+    ensures first { OnOk result (AllByRecursion K.fits first.new.items) }
+    ensures second { OnOk result (AllByRecursion K.fits second.new.items) }
+    ensures step { IfOk result (λ both. IsStep K.order K.told (K.both limit)
+        first.old.items second.old.items (Some both) first.new.items second.new.items) }
+{
+    let Some((one, other)) = take_first(first).zip(take_first(second)) else {
+        unreachable!();
+    };
+    one.united(alloc, limit, other)
+}
+
+// Takes the one that comes next by the keys. For two of one key that is what both come to.
+fn take_next<K: Keyed>(
+    alloc: Global,
+    limit: K::Limit,
+    first: &mut VecDeque<K>,
+    second: &mut VecDeque<K>,
+) -> Result<Option<K>, AllocError>
+    requires first { AllByRecursion K.fits first.old.items }
+    requires second { AllByRecursion K.fits second.old.items }
+    ensures first { OnOk result (AllByRecursion K.fits first.new.items) }
+    ensures second { OnOk result (AllByRecursion K.fits second.new.items) }
+    ensures step { IfOk result (λ next. IsStep K.order K.told (K.both limit)
+        first.old.items second.old.items next first.new.items second.new.items) }
+{
+    match order_of_firsts(first, second) {
+        Ordering::Less => Ok(take_first(first)),
+        Ordering::Equal => Ok(Some(take_both(alloc, limit, first, second)?)),
+        Ordering::Greater => Ok(take_first(second)),
+    }
+}
+
+// Puts behind what is there, for each key, what both have for it.
+fn push_joined<K: Keyed>(
+    alloc: Global,
+    limit: K::Limit,
+    all: &mut Vec<K>,
+    first: Vec<K>,
+    second: Vec<K>,
+) -> Result<(), AllocError>
+    requires first { AllByRecursion K.fits first.items }
+    requires second { AllByRecursion K.fits second.items }
+    ensures { OnOk result (map K.told all.new.items ≡ map K.told all.old.items
+        ++ walked K.order K.told (K.both limit) first.items second.items) }
+{
+    let mut ones = VecDeque::from_vec(first);
+    let mut others = VecDeque::from_vec(second);
+    while let Some(next) = take_next(alloc, limit, &mut ones, &mut others)? {
+        all.push(next)?;
+    }
+    Ok(())
 }
 
 /// For each key what both have for it, by one walk over the two lists.
@@ -57,40 +133,6 @@ pub(crate) fn joined<K: Keyed>(
         ≡ walked K.order K.told (K.both limit) first.items second.items) }
 {
     let mut all = Vec::with_capacity(alloc, first.len())?;
-    let mut ones = first.into_iter();
-    let mut others = second.into_iter();
-    let mut one = taken(&mut ones);
-    let mut other = taken(&mut others);
-    loop {
-        match (one, other) {
-            (None, None) => return Ok(all),
-            (Some(x), None) => {
-                all.push(x)?;
-                one = taken(&mut ones);
-                other = None;
-            }
-            (None, Some(y)) => {
-                all.push(y)?;
-                one = None;
-                other = taken(&mut others);
-            }
-            (Some(x), Some(y)) => match x.order(&y) {
-                Ordering::Less => {
-                    all.push(x)?;
-                    one = taken(&mut ones);
-                    other = Some(y);
-                }
-                Ordering::Equal => {
-                    all.push(x.united(alloc, limit, y)?)?;
-                    one = taken(&mut ones);
-                    other = taken(&mut others);
-                }
-                Ordering::Greater => {
-                    all.push(y)?;
-                    one = Some(x);
-                    other = taken(&mut others);
-                }
-            },
-        }
-    }
+    push_joined(alloc, limit, &mut all, first, second)?;
+    Ok(all)
 }

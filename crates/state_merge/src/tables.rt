@@ -54,3 +54,19 @@ pub fn united_lists(
     }
     Ok(lists)
 }
+
+/// The rows of both, for each operand.
+pub fn united_operands(
+    alloc: Global,
+    lefts: (Vec<Table>, Vec<Table>),
+    rights: (Vec<Table>, Vec<Table>),
+) -> Result<(Vec<Table>, Vec<Table>), AllocError>
+    requires lefts { TablesFit lefts.0.items lefts.1.items }
+    requires rights { TablesFit rights.0.items rights.1.items }
+    ensures lefts { IfOk result (λ both. TablesUnion lefts.0.items lefts.1.items both.0.items) }
+    ensures rights { IfOk result (λ both. TablesUnion rights.0.items rights.1.items both.1.items) }
+{
+    let lefts = united_tables(alloc, lefts.0, lefts.1)?;
+    let rights = united_tables(alloc, rights.0, rights.1)?;
+    Ok((lefts, rights))
+}

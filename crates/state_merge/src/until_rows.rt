@@ -10,7 +10,7 @@ ghost use Rattle.state_merge.specs.Pairs.{MarksAscend};
 
 use crate::keyed::{Keyed, joined};
 use crate::marks::joined_marks;
-use eval_until::{KeptMarks, KeptStart};
+use eval_until::{KeptMarks, KeptStart, Mark};
 use std::alloc::{AllocError, Global};
 use std::cmp::Ordering;
 
@@ -64,12 +64,19 @@ impl Keyed for KeptMarks {
     }
 
     fn united(self, alloc: Global, _limit: (), other: Self) -> Result<Self, AllocError> {
-        let marks = joined_marks(alloc, self.marks, other.marks)?;
+        let others = marks_of(other);
+        let marks = joined_marks(alloc, self.marks, others)?;
         Ok(KeptMarks {
             row: self.row,
             marks,
         })
     }
+}
+
+fn marks_of(kept: KeptMarks) -> Vec<Mark>
+    ensures { result ≡ kept.marks }
+{
+    kept.marks
 }
 
 /// For each row the start that is kept, of two the lesser one, by one walk over the two lists.

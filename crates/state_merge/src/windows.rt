@@ -4,7 +4,7 @@ ghost use Rattle.monitor_state.specs.StateUnions.{SinceUnion, UntilUnion, Window
 ghost use Rattle.state_merge.specs.Fits.{SincesFit, UntilsFit, WindowsFit};
 
 use crate::since_rows::united_times;
-use crate::tables::united_tables;
+use crate::tables::united_operands;
 use crate::until_rows::{united_marks, united_starts};
 use eval_since::SinceData;
 use eval_until::UntilData;
@@ -21,8 +21,9 @@ fn united_since(alloc: Global, first: SinceKept, second: SinceKept) -> Result<Si
         kept,
     } = first;
     let other = second.kept;
-    let lefts = united_tables(alloc, kept.lefts, other.lefts)?;
-    let rights = united_tables(alloc, kept.rights, other.rights)?;
+    let lefts = (kept.lefts, other.lefts);
+    let rights = (kept.rights, other.rights);
+    let (lefts, rights) = united_operands(alloc, lefts, rights)?;
     let rows = united_times(alloc, interval.hi, kept.rows, other.rows)?;
     let kept = SinceData {
         pulled: kept.pulled,
@@ -43,8 +44,9 @@ fn united_until(alloc: Global, first: UntilKept, second: UntilKept) -> Result<Un
 {
     let UntilKept { left, right, kept } = first;
     let other = second.kept;
-    let lefts = united_tables(alloc, kept.lefts, other.lefts)?;
-    let rights = united_tables(alloc, kept.rights, other.rights)?;
+    let lefts = (kept.lefts, other.lefts);
+    let rights = (kept.rights, other.rights);
+    let (lefts, rights) = united_operands(alloc, lefts, rights)?;
     let starts = united_starts(alloc, kept.starts, other.starts)?;
     let rows = united_marks(alloc, kept.rows, other.rows)?;
     let kept = UntilData {

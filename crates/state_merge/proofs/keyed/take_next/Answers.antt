@@ -1,0 +1,15 @@
+use Rattle.std.proofs.Common.{sym, ◌∙◌}
+use Rattle.state_merge.proofs.StepLemmas.{steps_in_first, steps_in_second}
+use Rattle.state_merge.proofs.keyed.take_next.Goals as goal
+
+pub returns-in-Less-clause-step : goal.returns-in-Less-clause-step
+returns-in-Less-clause-step g c =
+    steps_in_first g.K.Keyed.order g.K.Keyed.told (g.K.Keyed.both c.args.limit) c.take_first.result
+    c.args.first.now.items c.take_first.new.list.items c.args.second.now.items c.take_first.ensures.first
+    c.take_first.ensures.none (sym c.order_of_firsts.ensures ∙ c.in-Less.is)
+
+pub returns-in-Greater-clause-step : goal.returns-in-Greater-clause-step
+returns-in-Greater-clause-step g c =
+    steps_in_second g.K.Keyed.order g.K.Keyed.told (g.K.Keyed.both c.args.limit) c.take_first-in-Greater.result
+    c.args.first.now.items c.args.second.now.items c.take_first-in-Greater.new.list.items c.take_first-in-Greater.ensures.first
+    c.take_first-in-Greater.ensures.none (sym c.order_of_firsts.ensures ∙ c.in-Greater.is)
