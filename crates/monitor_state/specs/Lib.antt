@@ -1,5 +1,6 @@
 pub mod Stacks
 pub mod Quantified
+pub mod Ordered
 pub mod Feeding
 pub mod JoinFeeding
 pub mod OrFeeding

@@ -2,44 +2,80 @@
 ghost use Rattle.std.specs.Prelude.{◌≡◌, IfOk, nat_eq};
 ghost use Rattle.std.specs.Cmp.Lexicographic.{pointwise};
 ghost use Rattle.mfotl_model.specs.FreeVariables.{fv};
-ghost use Rattle.monitorable.specs.CoreForms.{meaning, node_form, And};
+ghost use Rattle.monitorable.specs.CoreForms.{meaning, node_form, And, Or, Since, Until};
 ghost use Rattle.monitor_state.specs.Nodes.{arranged, before_windows, connects, goes_before, last_conjunct, windowed};
 ghost use Rattle.monitor_state.specs.Nodes.{with_conjunct, with_conjuncts, without_windows};
 
 use crate::begin_filter::{is_window, some_among, without_not};
 use crate::boxes::{beside, boxed, exists, next, not, or, previous, since, until};
+use mfotl_model::Interval;
 use monitorable::Node as Core;
 use relations::all_among;
 use std::alloc::{AllocError, Global};
 
 /// A core with each of its conjunctions as a chain, the windows at its end as far as may be.
+#[cycle(arranged)]
 pub fn arranged(alloc: Global, core: &Core) -> Result<Box<Core>, AllocError>
     ensures { IfOk result (λ own. node_form own.value ≡ arranged (node_form core.now)) }
 {
     match core {
         Core::Not(inner) => not(alloc, arranged(alloc, inner)?),
-        Core::And(left, right) => {
-            let left = arranged(alloc, left)?;
-            let right = arranged(alloc, right)?;
-            with_conjuncts(alloc, left, &right)
-        }
-        Core::Or(left, right) => {
-            let left = arranged(alloc, left)?;
-            or(alloc, left, arranged(alloc, right)?)
-        }
+        Core::And(left, right) => arranged_and(alloc, left, right),
+        Core::Or(left, right) => arranged_or(alloc, left, right),
         Core::Exists(bound, inner) => exists(alloc, bound, arranged(alloc, inner)?),
         Core::Previous(interval, inner) => previous(alloc, interval, arranged(alloc, inner)?),
         Core::Next(interval, inner) => next(alloc, interval, arranged(alloc, inner)?),
-        Core::Since(interval, left, right) => {
-            let left = arranged(alloc, left)?;
-            since(alloc, interval, left, arranged(alloc, right)?)
-        }
-        Core::Until(interval, left, right) => {
-            let left = arranged(alloc, left)?;
-            until(alloc, interval, left, arranged(alloc, right)?)
-        }
+        Core::Since(interval, left, right) => arranged_since(alloc, interval, left, right),
+        Core::Until(interval, left, right) => arranged_until(alloc, interval, left, right),
         _ => boxed(alloc, core),
     }
+}
+
+#[cycle(arranged)]
+fn arranged_and(alloc: Global, left: &Core, right: &Core) -> Result<Box<Core>, AllocError>
+    ensures { IfOk result (λ own. node_form own.value
+        ≡ arranged (And (node_form left.now) (node_form right.now))) }
+{
+    let left = arranged(alloc, left)?;
+    let right = arranged(alloc, right)?;
+    with_conjuncts(alloc, left, &right)
+}
+
+#[cycle(arranged)]
+fn arranged_or(alloc: Global, left: &Core, right: &Core) -> Result<Box<Core>, AllocError>
+    ensures { IfOk result (λ own. node_form own.value
+        ≡ arranged (Or (node_form left.now) (node_form right.now))) }
+{
+    let left = arranged(alloc, left)?;
+    or(alloc, left, arranged(alloc, right)?)
+}
+
+#[cycle(arranged)]
+fn arranged_since(
+    alloc: Global,
+    interval: &Interval,
+    left: &Core,
+    right: &Core,
+) -> Result<Box<Core>, AllocError>
+    ensures { IfOk result (λ own. node_form own.value
+        ≡ arranged (Since interval.now (node_form left.now) (node_form right.now))) }
+{
+    let left = arranged(alloc, left)?;
+    since(alloc, interval, left, arranged(alloc, right)?)
+}
+
+#[cycle(arranged)]
+fn arranged_until(
+    alloc: Global,
+    interval: &Interval,
+    left: &Core,
+    right: &Core,
+) -> Result<Box<Core>, AllocError>
+    ensures { IfOk result (λ own. node_form own.value
+        ≡ arranged (Until interval.now (node_form left.now) (node_form right.now))) }
+{
+    let left = arranged(alloc, left)?;
+    until(alloc, interval, left, arranged(alloc, right)?)
 }
 
 // A chain of conjuncts with those of another core.

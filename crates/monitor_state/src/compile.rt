@@ -1,7 +1,7 @@
 //! The nodes of a core. What makes a node is a function of its own that isn't inlined, so that a chain of hundreds of
 //! operands takes little of the stack.
 ghost use Rattle.std.specs.Prelude.{◌≡◌, ◌++◌, ◌∷◌, [], IfOk, OnOk};
-ghost use Rattle.monitorable.specs.CoreForms.{node_form, And, Atom};
+ghost use Rattle.monitorable.specs.CoreForms.{node_form, And, Atom, Or, Since, Until};
 ghost use Rattle.monitor_state.specs.Beginnings.{Accepted, Adds};
 ghost use Rattle.monitor_state.specs.Nodes.{nodes_in, nodes_of, without_last};
 ghost use Rattle.monitor_state.specs.declared.node.Node.TheVariants.{Exists};
@@ -14,7 +14,7 @@ use crate::node::{Node, add};
 use crate::operators::{add_next, add_or, add_previous, add_since};
 use crate::posing::posed;
 use eval_bool::AtomReader;
-use mfotl_model::Atom as OneAtom;
+use mfotl_model::{Atom as OneAtom, Interval};
 use monitorable::{Node as Core, Role};
 use std::alloc::{AllocError, Global};
 
@@ -55,17 +55,12 @@ fn add_nodes(
         }
         Core::And(left, right) => add_and(alloc, core, left, right, role, nodes),
         Core::Since(interval, left, right) => {
-            add_both(alloc, left, Role::Left, right, Role::Whole, nodes)?;
-            add_since(alloc, core, interval, left, right, nodes)
+            add_whole_since(alloc, core, interval, left, right, nodes)
         }
         Core::Until(interval, left, right) => {
-            add_both(alloc, left, Role::Left, right, Role::Whole, nodes)?;
-            add_until(alloc, core, interval, left, right, nodes)
+            add_whole_until(alloc, core, interval, left, right, nodes)
         }
-        Core::Or(left, right) => {
-            add_both(alloc, left, Role::Whole, right, Role::Whole, nodes)?;
-            add_or(alloc, left, right, nodes)
-        }
+        Core::Or(left, right) => add_whole_or(alloc, core, left, right, nodes),
         Core::Previous(interval, inner) => {
             add_nodes(alloc, inner, Role::Whole, nodes)?;
             add_previous(alloc, interval, inner, nodes)
@@ -95,6 +90,62 @@ fn add_both(
 {
     add_nodes(alloc, left, left_role, nodes)?;
     add_nodes(alloc, right, right_role, nodes)
+}
+
+// The nodes of a SINCE, those of its operands first.
+#[cycle(add_nodes)]
+#[inline(never)]
+fn add_whole_since(
+    alloc: Global,
+    core: &Core,
+    interval: &Interval,
+    left: &Core,
+    right: &Core,
+    nodes: &mut Vec<Node>,
+) -> Result<(), AllocError>
+    requires operands { node_form core.now ≡ Since interval.now (node_form left.now) (node_form right.now) }
+    requires accepted { (role : Role) × Accepted role (node_form core.now) }
+    ensures { OnOk result ((role : Role) → Adds (nodes_in role (node_form core.now)) nodes.old.items nodes.new.items) }
+{
+    add_both(alloc, left, Role::Left, right, Role::Whole, nodes)?;
+    add_since(alloc, core, interval, left, right, nodes)
+}
+
+// The nodes of an UNTIL, those of its operands first.
+#[cycle(add_nodes)]
+#[inline(never)]
+fn add_whole_until(
+    alloc: Global,
+    core: &Core,
+    interval: &Interval,
+    left: &Core,
+    right: &Core,
+    nodes: &mut Vec<Node>,
+) -> Result<(), AllocError>
+    requires operands { node_form core.now ≡ Until interval.now (node_form left.now) (node_form right.now) }
+    requires accepted { (role : Role) × Accepted role (node_form core.now) }
+    ensures { OnOk result ((role : Role) → Adds (nodes_in role (node_form core.now)) nodes.old.items nodes.new.items) }
+{
+    add_both(alloc, left, Role::Left, right, Role::Whole, nodes)?;
+    add_until(alloc, core, interval, left, right, nodes)
+}
+
+// The nodes of an OR, those of its operands first.
+#[cycle(add_nodes)]
+#[inline(never)]
+fn add_whole_or(
+    alloc: Global,
+    core: &Core,
+    left: &Core,
+    right: &Core,
+    nodes: &mut Vec<Node>,
+) -> Result<(), AllocError>
+    requires operands { node_form core.now ≡ Or (node_form left.now) (node_form right.now) }
+    requires accepted { (role : Role) × Accepted role (node_form core.now) }
+    ensures { OnOk result ((role : Role) → Adds (nodes_in role (node_form core.now)) nodes.old.items nodes.new.items) }
+{
+    add_both(alloc, left, Role::Whole, right, Role::Whole, nodes)?;
+    add_or(alloc, left, right, nodes)
 }
 
 // The nodes of a conjunction of these sides.

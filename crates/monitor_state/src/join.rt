@@ -1,10 +1,11 @@
 //! A conjunction takes its children's tables.
 ghost use Rattle.std.specs.Prelude.{◌≡◌, ◌+◌, ◌<◌, false, length, IfOk, OnOk};
-ghost use Rattle.eval_bool.specs.JoinView.{join_due};
+ghost use Rattle.eval_bool.specs.JoinView.{child_pushed, join_due};
 ghost use Rattle.monitor_state.specs.JoinFeeding.{JoinPulled, JoinTakes, child_fed, join_fed};
 
 use crate::tables::Tables;
 use eval_bool::JoinState;
+use relations::Table;
 use std::alloc::{AllocError, Global};
 
 /// Pushes the children's tables, one list for each child, and pulls all tables that are due then.
@@ -41,12 +42,18 @@ fn push_child(state: &mut JoinState, child: u32, tables: Tables) -> Result<(), A
     ensures { OnOk result (state.new ≡ record state.old { children = child_fed state.old.children child tables }) }
 {
     for table in tables {
-        if !state.takes(child, &table) {
-            return Err(AllocError);
-        }
-        state.push(child, table)?;
+        push_table(state, child, table)?;
     }
     Ok(())
+}
+
+fn push_table(state: &mut JoinState, child: u32, table: Table) -> Result<(), AllocError>
+    ensures { OnOk result (state.new ≡ record state.old { children = child_pushed state.old.children child table }) }
+{
+    if !state.takes(child, &table) {
+        return Err(AllocError);
+    }
+    state.push(child, table)
 }
 
 fn pulled(alloc: Global, state: &mut JoinState) -> Result<Tables, AllocError>

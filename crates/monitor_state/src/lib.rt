@@ -9,6 +9,7 @@ mod boxes;
 mod compile;
 mod conjunction;
 mod constant;
+mod exists;
 mod filter;
 mod join;
 mod kept_times;

@@ -1,10 +1,13 @@
 //! A NEXT takes a time and its operand's tables.
-ghost use Rattle.std.specs.Prelude.{◌≡◌, false, IfOk, OnOk};
-ghost use Rattle.eval_until.specs.NextView.{next_due};
+ghost use Rattle.std.specs.Prelude.{◌≡◌, ℕ, Bool, List, false, IfOk, OnOk};
+ghost use Rattle.eval_until.specs.NextView.{FollowsNext, next_due, tables_pushed, with_table};
+ghost use Rattle.mfotl_model.specs.Satisfaction.{Valuation, truth_at};
+ghost use Rattle.mfotl_model.specs.Tables.{has};
 ghost use Rattle.monitor_state.specs.NextFeeding.{NextPulled, NextPushed, NextTakes};
 
 use crate::tables::Tables;
 use eval_until::NextState;
+use relations::Table;
 use std::alloc::{AllocError, Global};
 
 /// Pushes a time and the operand's tables, and pulls all tables that are due then.
@@ -28,12 +31,20 @@ fn push_tables(state: &mut NextState, tables: Tables) -> Result<(), AllocError>
     ensures { OnOk result (NextPushed state.old state.new tables) }
 {
     for table in tables {
-        if !state.takes_right(&table) {
-            return Err(AllocError);
-        }
-        state.push_right(table)?;
+        push_table(state, table)?;
     }
     Ok(())
+}
+
+fn push_table(state: &mut NextState, table: Table) -> Result<(), AllocError>
+    ensures pushed { OnOk result (state.new ≡ with_table state.old table) }
+    ensures follows { OnOk result ((t : List ℕ) (a : List Bool) (v : Valuation) → FollowsNext state.old t a v
+        → has table v ≡ truth_at a (tables_pushed state.old) → FollowsNext state.new t a v) }
+{
+    if !state.takes_right(&table) {
+        return Err(AllocError);
+    }
+    state.push_right(table)
 }
 
 fn pulled(alloc: Global, state: &mut NextState) -> Result<Tables, AllocError>

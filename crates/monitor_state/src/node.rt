@@ -1,8 +1,8 @@
 //! The nodes of a monitor.
 ghost use Rattle.std.specs.Prelude.{◌≡◌, ◌++◌, ◌∷◌, [], IfOk, OnOk};
-ghost use Rattle.monitor_state.specs.Quantified.{Quantifies};
 ghost use Rattle.monitor_state.specs.Steps.{TakesPoint};
 
+use crate::exists::quantified;
 use crate::filter::{FilterState, take_filter};
 use crate::join::take_join;
 use crate::next::take_next;
@@ -117,16 +117,6 @@ fn advance_exists(
 {
     let tables = popped(alloc, stack);
     quantified(alloc, tables, var)
-}
-
-fn quantified(alloc: Global, tables: Tables, var: u32) -> Result<Tables, AllocError>
-    ensures { IfOk result (λ without. Quantifies var tables without) }
-{
-    let mut without = Tables::new(alloc);
-    for table in tables {
-        without.push(table.exists(alloc, var)?)?;
-    }
-    Ok(without)
 }
 
 fn advance_join(

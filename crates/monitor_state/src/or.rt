@@ -1,10 +1,11 @@
 //! An OR takes its operands' tables.
 ghost use Rattle.std.specs.Prelude.{◌≡◌, false, IfOk, OnOk};
-ghost use Rattle.eval_bool.specs.OrView.{or_due};
+ghost use Rattle.eval_bool.specs.OrView.{or_due, or_pushed};
 ghost use Rattle.monitor_state.specs.OrFeeding.{OrPulled, OrTakes, operand_fed};
 
 use crate::tables::Tables;
 use eval_bool::OrState;
+use relations::Table;
 use std::alloc::{AllocError, Global};
 
 /// Pushes the operands' tables, and pulls all tables that are due then.
@@ -25,12 +26,18 @@ fn push_operand(state: &mut OrState, child: u32, tables: Tables) -> Result<(), A
     ensures { OnOk result (state.new ≡ operand_fed state.old child tables) }
 {
     for table in tables {
-        if !state.takes(child, &table) {
-            return Err(AllocError);
-        }
-        state.push(child, table)?;
+        push_table(state, child, table)?;
     }
     Ok(())
+}
+
+fn push_table(state: &mut OrState, child: u32, table: Table) -> Result<(), AllocError>
+    ensures { OnOk result (state.new ≡ or_pushed state.old child table) }
+{
+    if !state.takes(child, &table) {
+        return Err(AllocError);
+    }
+    state.push(child, table)
 }
 
 fn pulled(alloc: Global, state: &mut OrState) -> Result<Tables, AllocError>

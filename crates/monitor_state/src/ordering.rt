@@ -1,9 +1,11 @@
 //! Tables with their columns in another order.
-ghost use Rattle.std.specs.Prelude.{◌≡◌, IfOk, IsTrue};
+ghost use Rattle.std.specs.Prelude.{◌≡◌, IfOk, IsTrue, OnOk};
 ghost use Rattle.eval_bool.specs.OrView.{same_columns};
 ghost use Rattle.mfotl_model.specs.Satisfaction.{Valuation};
 ghost use Rattle.mfotl_model.specs.Tables.{all_among, has};
+ghost use Rattle.monitor_state.specs.Ordered.{PushedInOrder};
 
+use crate::tables::Tables;
 use eval_bool::reordered;
 use relations::{Table, all_among};
 use std::alloc::{AllocError, Global};
@@ -19,6 +21,18 @@ pub fn in_order(alloc: Global, table: Table, order: &Table) -> Result<Table, All
         return order.copy(alloc);
     }
     reordered(alloc, table, order.columns())
+}
+
+/// Adds a table with its columns in the order that those of another table have. They are the same columns.
+pub fn push_in_order(
+    alloc: Global,
+    tables: &mut Tables,
+    table: Table,
+    order: &Table,
+) -> Result<(), AllocError>
+    ensures { OnOk result (PushedInOrder order.now.columns table tables.old tables.new) }
+{
+    tables.push(in_order(alloc, table, order)?)
 }
 
 // Whether both lists have the same columns, in whatever order.

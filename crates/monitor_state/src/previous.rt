@@ -1,10 +1,11 @@
 //! A PREVIOUS takes a time and its operand's tables.
-ghost use Rattle.std.specs.Prelude.{◌≡◌, false, IfOk, OnOk};
+ghost use Rattle.std.specs.Prelude.{◌≡◌, ◌∷◌, [], false, IfOk, OnOk};
 ghost use Rattle.eval_since.specs.PreviousView.{previous_due};
 ghost use Rattle.monitor_state.specs.PreviousFeeding.{PreviousPulled, PreviousPushed, PreviousTakes};
 
 use crate::tables::Tables;
 use eval_since::PrevState;
+use relations::Table;
 use std::alloc::{AllocError, Global};
 
 /// Pushes a time and the operand's tables, and pulls all tables that are due then.
@@ -28,11 +29,18 @@ fn push_tables(state: &mut PrevState, tables: Tables) -> Result<(), AllocError>
     ensures { OnOk result (PreviousPushed state.old state.new tables) }
 {
     for table in tables {
-        if !state.takes_right(&table) {
-            return Err(AllocError);
-        }
-        state.push_right(table)?;
+        push_table(state, table)?;
     }
+    Ok(())
+}
+
+fn push_table(state: &mut PrevState, table: Table) -> Result<(), AllocError>
+    ensures { OnOk result (PreviousPushed state.old state.new (table ∷ [])) }
+{
+    if !state.takes_right(&table) {
+        return Err(AllocError);
+    }
+    state.push_right(table)?;
     Ok(())
 }
 

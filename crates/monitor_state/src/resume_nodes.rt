@@ -1,11 +1,11 @@
 //! Nodes into which the data that others kept is put. What isn't put in is dropped by a call, whose proof needn't tell
 //! the kinds of data apart.
-ghost use Rattle.std.specs.Prelude.{IfOk};
+ghost use Rattle.std.specs.Prelude.{◌≡◌, ◌++◌, ◌∷◌, [], IfOk, OnOk};
 ghost use Rattle.monitor_state.specs.Resuming.{AllMatch, Matches, NodeResumed, NodesResumed};
 
 use crate::filter::FilterState;
 use crate::kept_times::KeptTimes;
-use crate::node::Node;
+use crate::node::{Node, add};
 use crate::resume_windows::{since_resumed, until_resumed, window_resumed};
 use crate::state::{NodeData, WindowData};
 use crate::tables::Tables;
@@ -31,9 +31,23 @@ pub fn nodes_resumed(
         let Some(data) = left.next() else {
             unreachable!();
         };
-        nodes.push(node_resumed(alloc, node, times, data)?)?;
+        push_resumed(alloc, node, times, data, &mut nodes)?;
     }
     Ok(nodes)
+}
+
+fn push_resumed(
+    alloc: Global,
+    node: Node,
+    times: &KeptTimes,
+    kept: NodeData,
+    nodes: &mut Vec<Node>,
+) -> Result<(), AllocError>
+    requires { Matches times.now node kept }
+    ensures { OnOk result ((resumed : Node) × NodeResumed times.now node kept resumed
+        × (nodes.new.items ≡ nodes.old.items ++ resumed ∷ [])) }
+{
+    add(node_resumed(alloc, node, times, kept)?, nodes)
 }
 
 fn node_resumed(

@@ -1,9 +1,10 @@
 //! A SINCE takes a time and its operands' tables.
-ghost use Rattle.std.specs.Prelude.{◌≡◌, false, IfOk, OnOk};
-ghost use Rattle.eval_since.specs.SinceView.{due};
+ghost use Rattle.std.specs.Prelude.{◌≡◌, ◌+◌, ◌++◌, ◌∷◌, [], ℕ, Bool, List, false, length, IfOk, OnOk};
+ghost use Rattle.eval_since.specs.SinceView.{Follows, due};
+ghost use Rattle.mfotl_model.specs.Satisfaction.{Valuation, time_at};
 ghost use Rattle.monitor_state.specs.Feeding.{LeftsPushed, RightsPushed, SinceFeeds, SincePulled, SinceTakes};
 
-use crate::ordering::in_order;
+use crate::ordering::push_in_order;
 use crate::tables::Tables;
 use eval_since::SinceState;
 use relations::Table;
@@ -34,23 +35,39 @@ pub fn feed_since(
 ) -> Result<(), AllocError>
     ensures { OnOk result (SinceFeeds state.old ts left right state.new) }
 {
+    push_time(state, ts)?;
+    push_lefts(state, left)?;
+    push_rights(state, right)
+}
+
+fn push_time(state: &mut SinceState, ts: u64) -> Result<(), AllocError>
+    ensures pushed { OnOk result
+        (state.new ≡ record state.old { newest = ts; times = state.old.times ++ ts ∷ [] }) }
+    ensures follows { OnOk result ((t : List ℕ) (a b : List Bool) (v : Valuation) → Follows state.old t a b v
+        → ts ≡ time_at t (state.old.pulled + length state.old.times) → Follows state.new t a b v) }
+{
     if !state.takes_time(ts) {
         return Err(AllocError);
     }
-    state.push_time(ts)?;
-    push_lefts(state, left)?;
-    push_rights(state, right)
+    state.push_time(ts)
 }
 
 fn push_lefts(state: &mut SinceState, tables: Tables) -> Result<(), AllocError>
     ensures { OnOk result (LeftsPushed state.old state.new tables) }
 {
     for table in tables {
-        if !state.takes_left(&table) {
-            return Err(AllocError);
-        }
-        state.push_left(table)?;
+        push_left(state, table)?;
     }
+    Ok(())
+}
+
+fn push_left(state: &mut SinceState, table: Table) -> Result<(), AllocError>
+    ensures { OnOk result (LeftsPushed state.old state.new (table ∷ [])) }
+{
+    if !state.takes_left(&table) {
+        return Err(AllocError);
+    }
+    state.push_left(table)?;
     Ok(())
 }
 
@@ -58,11 +75,18 @@ fn push_rights(state: &mut SinceState, tables: Tables) -> Result<(), AllocError>
     ensures { OnOk result (RightsPushed state.old state.new tables) }
 {
     for table in tables {
-        if !state.takes_right(&table) {
-            return Err(AllocError);
-        }
-        state.push_right(table)?;
+        push_right(state, table)?;
     }
+    Ok(())
+}
+
+fn push_right(state: &mut SinceState, table: Table) -> Result<(), AllocError>
+    ensures { OnOk result (RightsPushed state.old state.new (table ∷ [])) }
+{
+    if !state.takes_right(&table) {
+        return Err(AllocError);
+    }
+    state.push_right(table)?;
     Ok(())
 }
 
@@ -72,7 +96,7 @@ fn pulled(alloc: Global, state: &mut SinceState, order: &Table) -> Result<Tables
 {
     let mut tables = Tables::new(alloc);
     while let Some(table) = state.pull(alloc)? {
-        tables.push(in_order(alloc, table, order)?)?;
+        push_in_order(alloc, &mut tables, table, order)?;
     }
     Ok(tables)
 }

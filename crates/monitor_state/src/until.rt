@@ -1,10 +1,11 @@
 //! An UNTIL takes a time and its operands' tables.
-ghost use Rattle.std.specs.Prelude.{◌≡◌, false, true, IfOk, OnOk};
-ghost use Rattle.eval_until.specs.UntilView.{due, took_all};
+ghost use Rattle.std.specs.Prelude.{◌≡◌, ◌+◌, ◌<◌, ◌++◌, ◌∷◌, [], ℕ, Bool, List, false, true, length, IfOk, OnOk};
+ghost use Rattle.eval_until.specs.UntilView.{Follows, FollowsLeft, due, took_all};
+ghost use Rattle.mfotl_model.specs.Satisfaction.{Valuation, time_at};
 ghost use Rattle.monitor_state.specs.UntilFeeding.{UntilFeeds, UntilLeftsPushed, UntilPulled, UntilRightsPushed};
 ghost use Rattle.monitor_state.specs.UntilFeeding.{UntilTakes};
 
-use crate::ordering::in_order;
+use crate::ordering::push_in_order;
 use crate::tables::Tables;
 use eval_until::UntilState;
 use relations::Table;
@@ -35,23 +36,41 @@ pub fn feed_until(
 ) -> Result<(), AllocError>
     ensures { OnOk result (UntilFeeds state.old ts left right state.new) }
 {
+    push_time(state, ts)?;
+    push_lefts(state, left)?;
+    push_rights(state, right)
+}
+
+fn push_time(state: &mut UntilState, ts: u64) -> Result<(), AllocError>
+    ensures pushed { OnOk result (state.new ≡ record state.old { times = state.old.times ++ ts ∷ [] }) }
+    ensures left { OnOk result ((a : List Bool) (v : Valuation) → FollowsLeft state.old a v
+        → FollowsLeft state.new a v) }
+    ensures follows { OnOk result ((t : List ℕ) (a b : List Bool) (v : Valuation) → Follows state.old t a b v
+        → ts ≡ time_at t (state.old.ahead.pulled + length state.old.times)
+        → state.old.ahead.pulled + length state.old.times < length t → Follows state.new t a b v) }
+{
     if !state.takes_time() {
         return Err(AllocError);
     }
-    state.push_time(ts)?;
-    push_lefts(state, left)?;
-    push_rights(state, right)
+    state.push_time(ts)
 }
 
 fn push_lefts(state: &mut UntilState, tables: Tables) -> Result<(), AllocError>
     ensures { OnOk result (UntilLeftsPushed state.old state.new tables) }
 {
     for table in tables {
-        if !state.takes_left(&table) {
-            return Err(AllocError);
-        }
-        state.push_left(table)?;
+        push_left(state, table)?;
     }
+    Ok(())
+}
+
+fn push_left(state: &mut UntilState, table: Table) -> Result<(), AllocError>
+    ensures { OnOk result (UntilLeftsPushed state.old state.new (table ∷ [])) }
+{
+    if !state.takes_left(&table) {
+        return Err(AllocError);
+    }
+    state.push_left(table)?;
     Ok(())
 }
 
@@ -59,11 +78,18 @@ fn push_rights(state: &mut UntilState, tables: Tables) -> Result<(), AllocError>
     ensures { OnOk result (UntilRightsPushed state.old state.new tables) }
 {
     for table in tables {
-        if !state.takes_right(&table) {
-            return Err(AllocError);
-        }
-        state.push_right(table)?;
+        push_right(state, table)?;
     }
+    Ok(())
+}
+
+fn push_right(state: &mut UntilState, table: Table) -> Result<(), AllocError>
+    ensures { OnOk result (UntilRightsPushed state.old state.new (table ∷ [])) }
+{
+    if !state.takes_right(&table) {
+        return Err(AllocError);
+    }
+    state.push_right(table)?;
     Ok(())
 }
 
@@ -74,7 +100,7 @@ fn pulled(alloc: Global, state: &mut UntilState, order: &Table) -> Result<Tables
 {
     let mut tables = Tables::new(alloc);
     while let Some(table) = state.pull(alloc)? {
-        tables.push(in_order(alloc, table, order)?)?;
+        push_in_order(alloc, &mut tables, table, order)?;
     }
     Ok(tables)
 }

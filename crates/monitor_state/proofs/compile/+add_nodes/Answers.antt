@@ -102,38 +102,6 @@ add_nodes-add_join-requires-clause-guarded t c =
     not_own_at c.args.role (node_form c.args.core.now) (node_form c.in-Not.inner.value) c.judges_not.result
     (ap node_form c.in-Not.is) c.judges_not.ensures c.requires
 
-pub add_nodes-add_since-requires : goal.add_nodes-add_since-requires
-add_nodes-add_since-requires t c =
-    let left = ap node_form c.deref-in-Since-3.ensures in
-    let right = ap node_form c.deref-in-Since-4.ensures in
-    since_covered_at c.args.role (node_form c.args.core.now) c.in-Since.interval
-    (node_form c.deref-in-Since-3.result.now)
-    (node_form c.deref-in-Since-4.result.now)
-    (ap node_form c.in-Since.is
-    ∙ ap (λ f. Since c.in-Since.interval f (node_form c.in-Since.right.value)) (sym left)
-    ∙ ap (λ g. Since c.in-Since.interval (node_form c.deref-in-Since-3.result.now) g) (sym right)) c.requires
-
-pub add_nodes-add_until-requires : goal.add_nodes-add_until-requires
-add_nodes-add_until-requires t c =
-    let left = ap node_form c.deref-in-Until-3.ensures in
-    let right = ap node_form c.deref-in-Until-4.ensures in
-    until_covered_at c.args.role (node_form c.args.core.now) c.in-Until.interval
-    (node_form c.deref-in-Until-3.result.now)
-    (node_form c.deref-in-Until-4.result.now)
-    (ap node_form c.in-Until.is
-    ∙ ap (λ f. Until c.in-Until.interval f (node_form c.in-Until.right.value)) (sym left)
-    ∙ ap (λ g. Until c.in-Until.interval (node_form c.deref-in-Until-3.result.now) g) (sym right)) c.requires
-
-pub add_nodes-add_or-requires : goal.add_nodes-add_or-requires
-add_nodes-add_or-requires t c =
-    let left = ap node_form c.deref-in-Or-3.ensures in
-    let right = ap node_form c.deref-in-Or-4.ensures in
-    or_even_at c.args.role (node_form c.args.core.now) (node_form c.deref-in-Or-3.result.now)
-    (node_form c.deref-in-Or-4.result.now)
-    (ap node_form c.in-Or.is
-    ∙ ap (λ f. Or f (node_form c.in-Or.right.value)) (sym left)
-    ∙ ap (λ g. Or (node_form c.deref-in-Or-3.result.now) g) (sym right)) c.requires
-
 pub add_nodes-add_nodes-requires : goal.add_nodes-add_nodes-requires
 add_nodes-add_nodes-requires t c =
     let same : node_form c.args.core.now ≡ Exists c.in-Exists.bound (node_form c.deref.result.now) =
@@ -187,129 +155,142 @@ add_nodes-add_nodes-requires-in-Next t c =
           (node_form c.deref-in-Next.result.now) same c.requires,
     )
 
-pub add_nodes-add_both-requires : goal.add_nodes-add_both-requires
-add_nodes-add_both-requires t c =
+pub add_nodes-add_whole_since-requires : goal.add_nodes-add_whole_since-requires
+add_nodes-add_whole_since-requires t c =
     let same : node_form c.args.core.now ≡ Since c.in-Since.interval (node_form c.deref-in-Since.result.now)
     (node_form c.deref-in-Since-2.result.now) =
     ap node_form c.in-Since.is
-    ∙ ap (λ n. Since c.in-Since.interval (node_form n) (node_form c.in-Since.right.value))
-    (sym c.deref-in-Since.ensures)
-    ∙ ap (λ n. Since c.in-Since.interval (node_form c.deref-in-Since.result.now) (node_form n))
-    (sym c.deref-in-Since-2.ensures) in
-    let smaller : 2 * (nodes (node_form c.deref-in-Since.result.now) + nodes (node_form c.deref-in-Since-2.result.now))
+    ∙ ap (λ n. Since c.in-Since.interval (node_form n) (node_form c.in-Since.right.value)) (sym c.deref-in-Since.ensures)
+    ∙ ap (λ n. Since c.in-Since.interval (node_form c.deref-in-Since.result.now) (node_form n)) (sym c.deref-in-Since-2.ensures) in
+    let less : 2 * (nodes (node_form c.deref-in-Since.result.now) + nodes (node_form c.deref-in-Since-2.result.now))
     < 2 * nodes (node_form c.args.core.now) =
     since_both_smaller (node_form c.args.core.now) c.in-Since.interval (node_form c.deref-in-Since.result.now)
-    (node_form c.deref-in-Since-2.result.now) same in (
+    (node_form c.deref-in-Since-2.result.now) same in
+    let smaller : 2 * (nodes (node_form c.deref-in-Since.result.now) + nodes (node_form c.deref-in-Since-2.result.now)) + 1
+    < 2 * nodes (node_form c.args.core.now) = omega arith in
+    (search rules, (same, (c.args.role, c.requires)))
+
+pub add_nodes-returns-in-Since : goal.add_nodes-returns-in-Since
+add_nodes-returns-in-Since t c =
+    on_ok_weaker c.add_whole_since.result (λ added. added c.args.role) c.add_whole_since.ensures
+
+pub add_whole_since-add_both-requires : goal.add_whole_since-add_both-requires
+add_whole_since-add_both-requires t c =
+    let smaller : 2 * (nodes (node_form c.args.left.now) + nodes (node_form c.args.right.now)) < 2 *
+    (nodes (node_form c.args.left.now) + nodes (node_form c.args.right.now)) + 1 = omega arith in (
       search rules,
       (
-        since_left_at c.args.role (node_form c.args.core.now) c.in-Since.interval
-            (node_form c.deref-in-Since.result.now)
-            (node_form c.deref-in-Since-2.result.now) same c.requires,
-        since_right_at c.args.role (node_form c.args.core.now) c.in-Since.interval
-            (node_form c.deref-in-Since.result.now)
-            (node_form c.deref-in-Since-2.result.now) same c.requires,
+        since_left_at c.requires.accepted.0 (node_form c.args.core.now) c.args.interval.now (node_form c.args.left.now)
+            (node_form c.args.right.now) c.requires.operands c.requires.accepted.1,
+        since_right_at c.requires.accepted.0 (node_form c.args.core.now) c.args.interval.now (node_form c.args.left.now)
+            (node_form c.args.right.now) c.requires.operands c.requires.accepted.1,
       ),
     )
 
-pub add_nodes-returns-in_ok-add_both-in-Since : goal.add_nodes-returns-in_ok-add_both-in-Since
-add_nodes-returns-in_ok-add_both-in-Since t c =
+pub add_whole_since-add_since-requires : goal.add_whole_since-add_since-requires
+add_whole_since-add_since-requires t c =
+    since_covered_at c.requires.accepted.0 (node_form c.args.core.now) c.args.interval.now (node_form c.args.left.now)
+    (node_form c.args.right.now) c.requires.operands c.requires.accepted.1
+
+pub add_whole_since-returns : goal.add_whole_since-returns
+add_whole_since-returns t c =
     on_ok_weaker c.add_since.result
-    (λ own.
-    since_adds c.args.role (node_form c.args.core.now) c.in-Since.interval (node_form c.in-Since.left.value)
-    (node_form c.in-Since.right.value)
-    c.args.nodes.now.items c.add_both.new.nodes.items c.add_since.new.nodes.items
-    (ap node_form c.in-Since.is)
-    (subst (λ n. Adds (nodes_in role.Left (node_form c.in-Since.left.value) ++ nodes_in role.Whole (node_form n))
-    c.args.nodes.now.items c.add_both.new.nodes.items) c.deref-in-Since-2.ensures
-    (subst (λ n. Adds (nodes_in role.Left (node_form n) ++ nodes_in role.Whole
-    (node_form c.deref-in-Since-2.result.now)) c.args.nodes.now.items c.add_both.new.nodes.items)
-    c.deref-in-Since.ensures c.in_ok-add_both-in-Since.ensures))
-    (λ same. own (same
-    ∙ ap (λ f. Since c.in-Since.interval f (node_form c.in-Since.right.value))
-    (sym (ap node_form c.deref-in-Since-3.ensures))
-    ∙ ap (λ g. Since c.in-Since.interval (node_form c.deref-in-Since-3.result.now) g)
-    (sym (ap node_form c.deref-in-Since-4.ensures)))))
+    (λ own role.
+    since_adds role (node_form c.args.core.now) c.args.interval.now (node_form c.args.left.now) (node_form c.args.right.now)
+    c.args.nodes.now.items c.add_both.new.nodes.items c.add_since.new.nodes.items c.requires.operands
+    c.in_ok-add_both.ensures own)
     c.add_since.ensures
 
-pub add_nodes-add_both-requires-in-Until : goal.add_nodes-add_both-requires-in-Until
-add_nodes-add_both-requires-in-Until t c =
+pub add_nodes-add_whole_until-requires : goal.add_nodes-add_whole_until-requires
+add_nodes-add_whole_until-requires t c =
     let same : node_form c.args.core.now ≡ Until c.in-Until.interval (node_form c.deref-in-Until.result.now)
     (node_form c.deref-in-Until-2.result.now) =
     ap node_form c.in-Until.is
-    ∙ ap (λ n. Until c.in-Until.interval (node_form n) (node_form c.in-Until.right.value))
-    (sym c.deref-in-Until.ensures)
-    ∙ ap (λ n. Until c.in-Until.interval (node_form c.deref-in-Until.result.now) (node_form n))
-    (sym c.deref-in-Until-2.ensures) in
-    let smaller : 2 * (nodes (node_form c.deref-in-Until.result.now) + nodes (node_form c.deref-in-Until-2.result.now))
+    ∙ ap (λ n. Until c.in-Until.interval (node_form n) (node_form c.in-Until.right.value)) (sym c.deref-in-Until.ensures)
+    ∙ ap (λ n. Until c.in-Until.interval (node_form c.deref-in-Until.result.now) (node_form n)) (sym c.deref-in-Until-2.ensures) in
+    let less : 2 * (nodes (node_form c.deref-in-Until.result.now) + nodes (node_form c.deref-in-Until-2.result.now))
     < 2 * nodes (node_form c.args.core.now) =
     until_both_smaller (node_form c.args.core.now) c.in-Until.interval (node_form c.deref-in-Until.result.now)
-    (node_form c.deref-in-Until-2.result.now) same in (
+    (node_form c.deref-in-Until-2.result.now) same in
+    let smaller : 2 * (nodes (node_form c.deref-in-Until.result.now) + nodes (node_form c.deref-in-Until-2.result.now)) + 1
+    < 2 * nodes (node_form c.args.core.now) = omega arith in
+    (search rules, (same, (c.args.role, c.requires)))
+
+pub add_nodes-returns-in-Until : goal.add_nodes-returns-in-Until
+add_nodes-returns-in-Until t c =
+    on_ok_weaker c.add_whole_until.result (λ added. added c.args.role) c.add_whole_until.ensures
+
+pub add_whole_until-add_both-requires : goal.add_whole_until-add_both-requires
+add_whole_until-add_both-requires t c =
+    let smaller : 2 * (nodes (node_form c.args.left.now) + nodes (node_form c.args.right.now)) < 2 *
+    (nodes (node_form c.args.left.now) + nodes (node_form c.args.right.now)) + 1 = omega arith in (
       search rules,
       (
-        until_left_at c.args.role (node_form c.args.core.now) c.in-Until.interval
-            (node_form c.deref-in-Until.result.now)
-            (node_form c.deref-in-Until-2.result.now) same c.requires,
-        until_right_at c.args.role (node_form c.args.core.now) c.in-Until.interval
-            (node_form c.deref-in-Until.result.now)
-            (node_form c.deref-in-Until-2.result.now) same c.requires,
+        until_left_at c.requires.accepted.0 (node_form c.args.core.now) c.args.interval.now (node_form c.args.left.now)
+            (node_form c.args.right.now) c.requires.operands c.requires.accepted.1,
+        until_right_at c.requires.accepted.0 (node_form c.args.core.now) c.args.interval.now (node_form c.args.left.now)
+            (node_form c.args.right.now) c.requires.operands c.requires.accepted.1,
       ),
     )
 
-pub add_nodes-returns-in_ok-add_both-in-Until : goal.add_nodes-returns-in_ok-add_both-in-Until
-add_nodes-returns-in_ok-add_both-in-Until t c =
+pub add_whole_until-add_until-requires : goal.add_whole_until-add_until-requires
+add_whole_until-add_until-requires t c =
+    until_covered_at c.requires.accepted.0 (node_form c.args.core.now) c.args.interval.now (node_form c.args.left.now)
+    (node_form c.args.right.now) c.requires.operands c.requires.accepted.1
+
+pub add_whole_until-returns : goal.add_whole_until-returns
+add_whole_until-returns t c =
     on_ok_weaker c.add_until.result
-    (λ own.
-    until_adds c.args.role (node_form c.args.core.now) c.in-Until.interval (node_form c.in-Until.left.value)
-    (node_form c.in-Until.right.value)
-    c.args.nodes.now.items c.add_both-in-Until.new.nodes.items c.add_until.new.nodes.items
-    (ap node_form c.in-Until.is)
-    (subst (λ n. Adds (nodes_in role.Left (node_form c.in-Until.left.value) ++ nodes_in role.Whole (node_form n))
-    c.args.nodes.now.items c.add_both-in-Until.new.nodes.items) c.deref-in-Until-2.ensures
-    (subst (λ n. Adds (nodes_in role.Left (node_form n) ++ nodes_in role.Whole
-    (node_form c.deref-in-Until-2.result.now)) c.args.nodes.now.items c.add_both-in-Until.new.nodes.items)
-    c.deref-in-Until.ensures c.in_ok-add_both-in-Until.ensures))
-    (λ same. own (same
-    ∙ ap (λ f. Until c.in-Until.interval f (node_form c.in-Until.right.value))
-    (sym (ap node_form c.deref-in-Until-3.ensures))
-    ∙ ap (λ g. Until c.in-Until.interval (node_form c.deref-in-Until-3.result.now) g)
-    (sym (ap node_form c.deref-in-Until-4.ensures)))))
+    (λ own role.
+    until_adds role (node_form c.args.core.now) c.args.interval.now (node_form c.args.left.now) (node_form c.args.right.now)
+    c.args.nodes.now.items c.add_both.new.nodes.items c.add_until.new.nodes.items c.requires.operands
+    c.in_ok-add_both.ensures own)
     c.add_until.ensures
 
-pub add_nodes-add_both-requires-in-Or : goal.add_nodes-add_both-requires-in-Or
-add_nodes-add_both-requires-in-Or t c =
+pub add_nodes-add_whole_or-requires : goal.add_nodes-add_whole_or-requires
+add_nodes-add_whole_or-requires t c =
     let same : node_form c.args.core.now ≡ Or (node_form c.deref-in-Or.result.now)
     (node_form c.deref-in-Or-2.result.now) =
     ap node_form c.in-Or.is
     ∙ ap (λ n. Or (node_form n) (node_form c.in-Or.right.value)) (sym c.deref-in-Or.ensures)
     ∙ ap (λ n. Or (node_form c.deref-in-Or.result.now) (node_form n)) (sym c.deref-in-Or-2.ensures) in
-    let smaller : 2 * (nodes (node_form c.deref-in-Or.result.now) + nodes (node_form c.deref-in-Or-2.result.now))
+    let less : 2 * (nodes (node_form c.deref-in-Or.result.now) + nodes (node_form c.deref-in-Or-2.result.now))
     < 2 * nodes (node_form c.args.core.now) =
     or_both_smaller (node_form c.args.core.now) (node_form c.deref-in-Or.result.now)
-    (node_form c.deref-in-Or-2.result.now) same in (
+    (node_form c.deref-in-Or-2.result.now) same in
+    let smaller : 2 * (nodes (node_form c.deref-in-Or.result.now) + nodes (node_form c.deref-in-Or-2.result.now)) + 1
+    < 2 * nodes (node_form c.args.core.now) = omega arith in
+    (search rules, (same, (c.args.role, c.requires)))
+
+pub add_nodes-returns-in-Or : goal.add_nodes-returns-in-Or
+add_nodes-returns-in-Or t c =
+    on_ok_weaker c.add_whole_or.result (λ added. added c.args.role) c.add_whole_or.ensures
+
+pub add_whole_or-add_both-requires : goal.add_whole_or-add_both-requires
+add_whole_or-add_both-requires t c =
+    let smaller : 2 * (nodes (node_form c.args.left.now) + nodes (node_form c.args.right.now)) < 2 *
+    (nodes (node_form c.args.left.now) + nodes (node_form c.args.right.now)) + 1 = omega arith in (
       search rules,
       (
-        or_left_at c.args.role (node_form c.args.core.now) (node_form c.deref-in-Or.result.now)
-            (node_form c.deref-in-Or-2.result.now) same c.requires,
-        or_right_at c.args.role (node_form c.args.core.now) (node_form c.deref-in-Or.result.now)
-            (node_form c.deref-in-Or-2.result.now) same c.requires,
+        or_left_at c.requires.accepted.0 (node_form c.args.core.now) (node_form c.args.left.now)
+            (node_form c.args.right.now) c.requires.operands c.requires.accepted.1,
+        or_right_at c.requires.accepted.0 (node_form c.args.core.now) (node_form c.args.left.now)
+            (node_form c.args.right.now) c.requires.operands c.requires.accepted.1,
       ),
     )
 
-pub add_nodes-returns-in_ok-add_both-in-Or : goal.add_nodes-returns-in_ok-add_both-in-Or
-add_nodes-returns-in_ok-add_both-in-Or t c =
+pub add_whole_or-add_or-requires : goal.add_whole_or-add_or-requires
+add_whole_or-add_or-requires t c =
+    or_even_at c.requires.accepted.0 (node_form c.args.core.now) (node_form c.args.left.now)
+    (node_form c.args.right.now) c.requires.operands c.requires.accepted.1
+
+pub add_whole_or-returns : goal.add_whole_or-returns
+add_whole_or-returns t c =
     on_ok_weaker c.add_or.result
-    (λ own.
-    or_adds c.args.role (node_form c.args.core.now) (node_form c.in-Or.left.value) (node_form c.in-Or.right.value)
-    c.args.nodes.now.items c.add_both-in-Or.new.nodes.items c.add_or.new.nodes.items
-    (ap node_form c.in-Or.is)
-    (subst (λ n. Adds (nodes_in role.Whole (node_form c.in-Or.left.value) ++ nodes_in role.Whole (node_form n))
-    c.args.nodes.now.items c.add_both-in-Or.new.nodes.items) c.deref-in-Or-2.ensures
-    (subst (λ n. Adds (nodes_in role.Whole (node_form n) ++ nodes_in role.Whole (node_form c.deref-in-Or-2.result.now))
-    c.args.nodes.now.items c.add_both-in-Or.new.nodes.items) c.deref-in-Or.ensures c.in_ok-add_both-in-Or.ensures))
-    (subst (λ n. Adds (Or (node_form c.in-Or.left.value) (node_form n) ∷ []) c.add_both-in-Or.new.nodes.items
-    c.add_or.new.nodes.items) c.deref-in-Or-4.ensures
-    (subst (λ n. Adds (Or (node_form n) (node_form c.deref-in-Or-4.result.now) ∷ []) c.add_both-in-Or.new.nodes.items
-    c.add_or.new.nodes.items) c.deref-in-Or-3.ensures own)))
+    (λ own role.
+    or_adds role (node_form c.args.core.now) (node_form c.args.left.now) (node_form c.args.right.now)
+    c.args.nodes.now.items c.add_both.new.nodes.items c.add_or.new.nodes.items c.requires.operands
+    c.in_ok-add_both.ensures own)
     c.add_or.ensures
 
 pub add_nodes-add_and-requires : goal.add_nodes-add_and-requires

@@ -14,3 +14,12 @@ decreases-add_and l = 2 * (nodes (node_form l.left.now) + nodes (node_form l.rig
 
 abbrev pub decreases-add_operands : goal.decreases-add_operands
 decreases-add_operands l = 2 * nodes (node_form l.window.now)
+
+abbrev pub decreases-add_whole_since : goal.decreases-add_whole_since
+decreases-add_whole_since l = 2 * (nodes (node_form l.left.now) + nodes (node_form l.right.now)) + 1
+
+abbrev pub decreases-add_whole_until : goal.decreases-add_whole_until
+decreases-add_whole_until l = 2 * (nodes (node_form l.left.now) + nodes (node_form l.right.now)) + 1
+
+abbrev pub decreases-add_whole_or : goal.decreases-add_whole_or
+decreases-add_whole_or l = 2 * (nodes (node_form l.left.now) + nodes (node_form l.right.now)) + 1

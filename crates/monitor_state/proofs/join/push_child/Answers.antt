@@ -13,7 +13,7 @@ loop-table-init c =
 
 pub loop-table-preserved : goal.loop-table-preserved
 loop-table-preserved c =
-    c.in_ok-push.ensures.pushed
+    c.in_ok-push_table.ensures
     ∙ ap (λ (x : JoinOf). record x { children = child_pushed x.children c.args.child c.in-Some.table })
     c.loop-table.invariant
     ∙ ap (λ (cs : List ChildOf). record c.args.state.now { children = cs })

@@ -10,7 +10,7 @@ loop-table-init c = operand_none c.args.state.now c.args.child
 
 pub loop-table-preserved : goal.loop-table-preserved
 loop-table-preserved c =
-    c.in_ok-push.ensures.pushed ∙ ap (λ (x : OrOf). or_pushed x c.args.child c.in-Some.table) c.loop-table.invariant
+    c.in_ok-push_table.ensures ∙ ap (λ (x : OrOf). or_pushed x c.args.child c.in-Some.table) c.loop-table.invariant
     ∙ operand_one c.args.state.now c.args.child c.loop-table.yielded c.in-Some.table
 
 pub returns : goal.returns

@@ -4,8 +4,8 @@ use Rattle.monitor_state.proofs.ResumeState.{GoesBehind, nodes_done, nodes_on}
 use Rattle.monitor_state.specs.Resuming.{AllMatch}
 use Rattle.monitor_state.proofs.resume_nodes.nodes_resumed.Goals as goal
 
-pub node_resumed-requires : goal.node_resumed-requires
-node_resumed-requires c =
+pub push_resumed-requires : goal.push_resumed-requires
+push_resumed-requires c =
     let first : c.loop-node.node-iterator.rest.items ≡ c.in-Some.node ∷ c.next.new.self.rest.items =
     c.in-Some.ensures.steps.0 in
     (subst₂ (AllMatch c.args.times.now) first c.in-Some-next.ensures.items c.loop-node.invariant.match).0
@@ -20,13 +20,13 @@ loop-node-preserved c =
     let made = c.loop-node.nodes.items in
     let first : c.loop-node.node-iterator.rest.items ≡ c.in-Some.node ∷ rest = c.in-Some.ensures.steps.0 in
     let second : c.loop-node.left.rest.items ≡ c.in-Some-next.data ∷ left = c.in-Some-next.ensures.items in
+    let pushed = c.in_ok-push_resumed.ensures in
     let behind = subst₂ (λ os ds. GoesBehind k fresh kept os ds made) first second c.loop-node.invariant.behind in
     record {
       match = (subst₂ (AllMatch k) first second c.loop-node.invariant.match).1;
       behind =
-          subst (GoesBehind k fresh kept rest left) (sym c.in_ok-push.ensures.items)
-          (nodes_on k fresh kept rest left made c.in-Some.node c.in-Some-next.data c.in_ok-node_resumed.field-0
-          c.in_ok-node_resumed.ensures behind);
+          subst (GoesBehind k fresh kept rest left) (sym pushed.2)
+          (nodes_on k fresh kept rest left made c.in-Some.node c.in-Some-next.data pushed.0 pushed.1 behind);
     }
 
 pub returns : goal.returns

@@ -9,7 +9,7 @@ returns c =
     c.push_rights.result
     (λ rights.
     record {
-      timed = c.push_time.new.self;
+      timed = c.push_time.new.state;
       fed_left = c.push_lefts.new.state;
       time = c.in_ok-push_time.ensures.pushed;
       time_follows = c.in_ok-push_time.ensures.follows;

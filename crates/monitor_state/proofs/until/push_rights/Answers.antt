@@ -9,9 +9,9 @@ loop-table-init c = rights_none c.args.state.now
 
 pub loop-table-preserved : goal.loop-table-preserved
 loop-table-preserved c =
-    rights_more c.args.state.now c.loop-table.state c.push_right.new.self c.loop-table.yielded c.in-Some.table
+    rights_more c.args.state.now c.loop-table.state c.push_right.new.state c.loop-table.yielded c.in-Some.table
     c.loop-table.invariant c.in_ok-push_right.ensures.pushed c.in_ok-push_right.ensures.left
-    c.in_ok-push_right.ensures.follows
+    (λ t a b v h one. c.in_ok-push_right.ensures.follows t a b v h (one, tt))
 
 pub returns : goal.returns
 returns c =

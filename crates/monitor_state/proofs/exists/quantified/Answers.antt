@@ -2,14 +2,14 @@ use Rattle.std.proofs.Common.{◌∷◌, [], ◌++◌, sym, subst}
 use Rattle.monitor_state.proofs.NodeSteps.{quantifies_more}
 use Rattle.monitor_state.proofs.TablesLemmas.{all_yielded}
 use Rattle.monitor_state.specs.Quantified.{Quantifies}
-use Rattle.monitor_state.proofs.node.quantified.Goals as goal
+use Rattle.monitor_state.proofs.exists.quantified.Goals as goal
 
 pub loop-table-preserved : goal.loop-table-preserved
 loop-table-preserved c =
-    subst (Quantifies c.args.var (c.loop-table.yielded ++ c.in-Some.table ∷ [])) (sym c.in_ok-push.ensures)
-    (quantifies_more c.args.var c.loop-table.yielded c.loop-table.without c.in-Some.table c.in_ok-exists.field-0
-    c.loop-table.invariant
-    (record { columns = c.in_ok-exists.ensures.columns; rows = c.in_ok-exists.ensures.has }))
+    let pushed = c.in_ok-push_quantified.ensures in
+    subst (Quantifies c.args.var (c.loop-table.yielded ++ c.in-Some.table ∷ [])) (sym pushed.2)
+    (quantifies_more c.args.var c.loop-table.yielded c.loop-table.without c.in-Some.table pushed.0
+    c.loop-table.invariant pushed.1)
 
 pub returns : goal.returns
 returns c =

@@ -1,0 +1,18 @@
+use Rattle.std.proofs.Common.{◌+◌, ◌*◌, max}
+use Rattle.monitorable.specs.declared.node.Node.{size-Node}
+use Rattle.monitor_state.proofs.arranging.+arranged.Given as goal
+
+abbrev pub decreases-arranged : goal.decreases-arranged
+decreases-arranged l = 2 * size-Node l.core.now
+
+abbrev pub decreases-arranged_and : goal.decreases-arranged_and
+decreases-arranged_and l = 2 * max (size-Node l.left.now) (size-Node l.right.now) + 1
+
+abbrev pub decreases-arranged_or : goal.decreases-arranged_or
+decreases-arranged_or l = 2 * max (size-Node l.left.now) (size-Node l.right.now) + 1
+
+abbrev pub decreases-arranged_since : goal.decreases-arranged_since
+decreases-arranged_since l = 2 * max (size-Node l.left.now) (size-Node l.right.now) + 1
+
+abbrev pub decreases-arranged_until : goal.decreases-arranged_until
+decreases-arranged_until l = 2 * max (size-Node l.left.now) (size-Node l.right.now) + 1
