@@ -1,10 +1,9 @@
 //! The nodes of a core. What makes a node is a function of its own that isn't inlined, so that a chain of hundreds of
 //! operands takes little of the stack.
 ghost use Rattle.std.specs.Prelude.{◌≡◌, ◌++◌, ◌∷◌, [], IfOk, OnOk};
-ghost use Rattle.monitorable.specs.CoreForms.{node_form, And, Atom, Or, Since, Until};
+ghost use Rattle.monitorable.specs.CoreForms.{node_form, And, Atom, Exists, Next, Not, Or, Previous, Since, Until};
 ghost use Rattle.monitor_state.specs.Beginnings.{Accepted, Adds};
 ghost use Rattle.monitor_state.specs.Nodes.{nodes_in, nodes_of, without_last};
-ghost use Rattle.monitor_state.specs.declared.node.Node.TheVariants.{Exists};
 
 use crate::begin_filter::{add_filter, is_filtered, without_not};
 use crate::begin_until::add_until;
@@ -14,7 +13,7 @@ use crate::node::{Node, add};
 use crate::operators::{add_next, add_or, add_previous, add_since};
 use crate::posing::posed;
 use eval_bool::AtomReader;
-use mfotl_model::{Atom as OneAtom, Interval};
+use mfotl_model::{Atom as OneAtom, Bound, Interval};
 use monitorable::{Node as Core, Role};
 use std::alloc::{AllocError, Global};
 
@@ -45,14 +44,8 @@ fn add_nodes(
         Core::False => add_false(alloc, nodes),
         Core::Atom(atom) => add_atom(alloc, atom, nodes),
         Core::Compare(comparison) => add_comparison(alloc, role, comparison, nodes),
-        Core::Exists(bound, inner) => {
-            add_nodes(alloc, inner, Role::Whole, nodes)?;
-            add_exists(bound.number, nodes)
-        }
-        Core::Not(inner) => {
-            add_nodes(alloc, inner, role.under_not(), nodes)?;
-            add_join(alloc, role.judges_not(), core, nodes)
-        }
+        Core::Exists(bound, inner) => add_whole_exists(alloc, core, bound, inner, nodes),
+        Core::Not(inner) => add_not(alloc, core, inner, role, nodes),
         Core::And(left, right) => add_and(alloc, core, left, right, role, nodes),
         Core::Since(interval, left, right) => {
             add_whole_since(alloc, core, interval, left, right, nodes)
@@ -62,13 +55,9 @@ fn add_nodes(
         }
         Core::Or(left, right) => add_whole_or(alloc, core, left, right, nodes),
         Core::Previous(interval, inner) => {
-            add_nodes(alloc, inner, Role::Whole, nodes)?;
-            add_previous(alloc, interval, inner, nodes)
+            add_whole_previous(alloc, core, interval, inner, nodes)
         }
-        Core::Next(interval, inner) => {
-            add_nodes(alloc, inner, Role::Whole, nodes)?;
-            add_next(alloc, interval, inner, nodes)
-        }
+        Core::Next(interval, inner) => add_whole_next(alloc, core, interval, inner, nodes),
     }
 }
 
@@ -90,6 +79,78 @@ fn add_both(
 {
     add_nodes(alloc, left, left_role, nodes)?;
     add_nodes(alloc, right, right_role, nodes)
+}
+
+// The nodes of an EXISTS, those of its operand first.
+#[cycle(add_nodes)]
+#[inline(never)]
+fn add_whole_exists(
+    alloc: Global,
+    core: &Core,
+    bound: &Bound,
+    inner: &Core,
+    nodes: &mut Vec<Node>,
+) -> Result<(), AllocError>
+    requires operand { node_form core.now ≡ Exists bound.now (node_form inner.now) }
+    requires accepted { (role : Role) × Accepted role (node_form core.now) }
+    ensures { OnOk result ((role : Role) → Adds (nodes_in role (node_form core.now)) nodes.old.items nodes.new.items) }
+{
+    add_nodes(alloc, inner, Role::Whole, nodes)?;
+    add_exists(bound.number, nodes)
+}
+
+// The nodes of a NOT in its role, those of its operand first.
+#[cycle(add_nodes)]
+#[inline(never)]
+fn add_not(
+    alloc: Global,
+    core: &Core,
+    inner: &Core,
+    role: Role,
+    nodes: &mut Vec<Node>,
+) -> Result<(), AllocError>
+    requires operand { node_form core.now ≡ Not (node_form inner.now) }
+    requires accepted { Accepted role (node_form core.now) }
+    ensures { OnOk result (Adds (nodes_in role (node_form core.now)) nodes.old.items nodes.new.items) }
+{
+    add_nodes(alloc, inner, role.under_not(), nodes)?;
+    add_join(alloc, role.judges_not(), core, nodes)
+}
+
+// The nodes of a PREVIOUS, those of its operand first.
+#[cycle(add_nodes)]
+#[inline(never)]
+fn add_whole_previous(
+    alloc: Global,
+    core: &Core,
+    interval: &Interval,
+    inner: &Core,
+    nodes: &mut Vec<Node>,
+) -> Result<(), AllocError>
+    requires operand { node_form core.now ≡ Previous interval.now (node_form inner.now) }
+    requires accepted { (role : Role) × Accepted role (node_form core.now) }
+    ensures { OnOk result ((role : Role) → Adds (nodes_in role (node_form core.now)) nodes.old.items nodes.new.items) }
+{
+    add_nodes(alloc, inner, Role::Whole, nodes)?;
+    add_previous(alloc, interval, inner, nodes)
+}
+
+// The nodes of a NEXT, those of its operand first.
+#[cycle(add_nodes)]
+#[inline(never)]
+fn add_whole_next(
+    alloc: Global,
+    core: &Core,
+    interval: &Interval,
+    inner: &Core,
+    nodes: &mut Vec<Node>,
+) -> Result<(), AllocError>
+    requires operand { node_form core.now ≡ Next interval.now (node_form inner.now) }
+    requires accepted { (role : Role) × Accepted role (node_form core.now) }
+    ensures { OnOk result ((role : Role) → Adds (nodes_in role (node_form core.now)) nodes.old.items nodes.new.items) }
+{
+    add_nodes(alloc, inner, Role::Whole, nodes)?;
+    add_next(alloc, interval, inner, nodes)
 }
 
 // The nodes of a SINCE, those of its operands first.
@@ -194,7 +255,7 @@ fn add_operands(alloc: Global, window: &Core, nodes: &mut Vec<Node>) -> Result<(
 
 #[inline(never)]
 fn add_exists(variable: u32, nodes: &mut Vec<Node>) -> Result<(), AllocError>
-    ensures { OnOk result (nodes.new.items ≡ nodes.old.items ++ Exists variable ∷ []) }
+    ensures { OnOk result (nodes.new.items ≡ nodes.old.items ++ Node.Exists variable ∷ []) }
 {
     add(Node::Exists(variable), nodes)
 }

@@ -12,10 +12,23 @@ pub fn quantified(alloc: Global, tables: Tables, var: u32) -> Result<Tables, All
     ensures { IfOk result (λ without. Quantifies var tables without) }
 {
     let mut without = Tables::new(alloc);
-    for table in tables {
-        push_quantified(alloc, &mut without, table, var)?;
-    }
+    push_tables(alloc, &mut without, tables, var)?;
     Ok(without)
+}
+
+fn push_tables(
+    alloc: Global,
+    without: &mut Tables,
+    tables: Tables,
+    var: u32,
+) -> Result<(), AllocError>
+    requires { without.old ≡ [] }
+    ensures { OnOk result (Quantifies var tables without.new) }
+{
+    for table in tables {
+        push_quantified(alloc, without, table, var)?;
+    }
+    Ok(())
 }
 
 fn push_quantified(

@@ -6,6 +6,7 @@ mod arranging;
 mod begin_filter;
 mod begin_until;
 mod boxes;
+mod chains;
 mod compile;
 mod conjunction;
 mod constant;

@@ -51,109 +51,129 @@ add_nodes-returns-in-Compare t c =
     c.add_comparison.new.nodes.items (ap node_form c.in-Compare.is))
     c.add_comparison.ensures
 
-pub add_nodes-returns-in_ok-add_nodes-in-Exists : goal.add_nodes-returns-in_ok-add_nodes-in-Exists
-add_nodes-returns-in_ok-add_nodes-in-Exists t c =
-    on_ok_weaker c.add_exists.result
-    (exists_adds c.args.role (node_form c.args.core.now) c.in-Exists.bound (node_form c.in-Exists.inner.value)
-    c.args.nodes.now.items c.add_nodes.new.nodes.items c.add_exists.new.nodes.items (ap node_form c.in-Exists.is)
-    (subst (λ n. Adds (nodes_in role.Whole (node_form n)) c.args.nodes.now.items c.add_nodes.new.nodes.items)
-    c.deref.ensures c.in_ok-add_nodes-in-Exists.ensures))
-    c.add_exists.ensures
-
-pub add_nodes-returns-in_ok-add_nodes-in-Not : goal.add_nodes-returns-in_ok-add_nodes-in-Not
-add_nodes-returns-in_ok-add_nodes-in-Not t c =
-    on_ok_weaker c.add_join.result
-    (not_adds c.args.role c.under_not.result (node_form c.args.core.now) (node_form c.in-Not.inner.value)
-    c.judges_not.result
-    c.args.nodes.now.items c.add_nodes-in-Not.new.nodes.items c.add_join.new.nodes.items
-    (ap node_form c.in-Not.is) c.judges_not.ensures c.under_not.ensures
-    (subst (λ n. Adds (nodes_in c.under_not.result (node_form n)) c.args.nodes.now.items
-    c.add_nodes-in-Not.new.nodes.items) c.deref-in-Not.ensures c.in_ok-add_nodes-in-Not.ensures))
-    c.add_join.ensures
-
-pub add_nodes-returns-in_ok-add_nodes-in-Previous : goal.add_nodes-returns-in_ok-add_nodes-in-Previous
-add_nodes-returns-in_ok-add_nodes-in-Previous t c =
-    on_ok_weaker c.add_previous.result
-    (λ own.
-    previous_adds c.args.role (node_form c.args.core.now) c.in-Previous.interval (node_form c.in-Previous.inner.value)
-    c.args.nodes.now.items c.add_nodes-in-Previous.new.nodes.items c.add_previous.new.nodes.items
-    (ap node_form c.in-Previous.is)
-    (subst (λ n. Adds (nodes_in role.Whole (node_form n)) c.args.nodes.now.items
-    c.add_nodes-in-Previous.new.nodes.items) c.deref-in-Previous.ensures c.in_ok-add_nodes-in-Previous.ensures)
-    (subst (λ n. Adds (Previous c.in-Previous.interval (node_form n) ∷ []) c.add_nodes-in-Previous.new.nodes.items
-    c.add_previous.new.nodes.items) c.deref-in-Previous-2.ensures own))
-    c.add_previous.ensures
-
-pub add_nodes-returns-in_ok-add_nodes-in-Next : goal.add_nodes-returns-in_ok-add_nodes-in-Next
-add_nodes-returns-in_ok-add_nodes-in-Next t c =
-    on_ok_weaker c.add_next.result
-    (λ own.
-    next_adds c.args.role (node_form c.args.core.now) c.in-Next.interval (node_form c.in-Next.inner.value)
-    c.args.nodes.now.items c.add_nodes-in-Next.new.nodes.items c.add_next.new.nodes.items
-    (ap node_form c.in-Next.is)
-    (subst (λ n. Adds (nodes_in role.Whole (node_form n)) c.args.nodes.now.items c.add_nodes-in-Next.new.nodes.items)
-    c.deref-in-Next.ensures c.in_ok-add_nodes-in-Next.ensures)
-    (subst (λ n. Adds (Next c.in-Next.interval (node_form n) ∷ []) c.add_nodes-in-Next.new.nodes.items
-    c.add_next.new.nodes.items) c.deref-in-Next-2.ensures own))
-    c.add_next.ensures
-
-pub add_nodes-add_join-requires-clause-guarded : goal.add_nodes-add_join-requires-clause-guarded
-add_nodes-add_join-requires-clause-guarded t c =
-    not_own_at c.args.role (node_form c.args.core.now) (node_form c.in-Not.inner.value) c.judges_not.result
-    (ap node_form c.in-Not.is) c.judges_not.ensures c.requires
-
-pub add_nodes-add_nodes-requires : goal.add_nodes-add_nodes-requires
-add_nodes-add_nodes-requires t c =
+pub add_nodes-add_whole_exists-requires : goal.add_nodes-add_whole_exists-requires
+add_nodes-add_whole_exists-requires t c =
     let same : node_form c.args.core.now ≡ Exists c.in-Exists.bound (node_form c.deref.result.now) =
     ap node_form c.in-Exists.is ∙ ap (λ n. Exists c.in-Exists.bound (node_form n)) (sym c.deref.ensures) in
     let less : nodes (node_form c.deref.result.now) < nodes (node_form c.args.core.now) =
     exists_smaller (node_form c.args.core.now) c.in-Exists.bound (node_form c.deref.result.now) same in
-    let smaller : 2 * nodes (node_form c.deref.result.now) < 2 * nodes (node_form c.args.core.now) = omega arith in (
+    let smaller : 2 * nodes (node_form c.deref.result.now) + 1 < 2 * nodes (node_form c.args.core.now) =
+    omega arith in
+    (search rules, (same, (c.args.role, c.requires)))
+
+pub add_nodes-returns-in-Exists : goal.add_nodes-returns-in-Exists
+add_nodes-returns-in-Exists t c =
+    on_ok_weaker c.add_whole_exists.result (λ added. added c.args.role) c.add_whole_exists.ensures
+
+pub add_whole_exists-add_nodes-requires : goal.add_whole_exists-add_nodes-requires
+add_whole_exists-add_nodes-requires t c =
+    let smaller : 2 * nodes (node_form c.args.inner.now) < 2 * nodes (node_form c.args.inner.now) + 1 = omega arith in (
       search rules,
-      exists_under_at c.args.role (node_form c.args.core.now) c.in-Exists.bound
-          (node_form c.deref.result.now) same c.requires,
+      exists_under_at c.requires.accepted.0 (node_form c.args.core.now) c.args.bound.now (node_form c.args.inner.now)
+          c.requires.operand c.requires.accepted.1,
     )
 
-pub add_nodes-add_nodes-requires-in-Not : goal.add_nodes-add_nodes-requires-in-Not
-add_nodes-add_nodes-requires-in-Not t c =
+pub add_whole_exists-returns : goal.add_whole_exists-returns
+add_whole_exists-returns t c =
+    on_ok_weaker c.add_exists.result
+    (λ own role.
+    exists_adds role (node_form c.args.core.now) c.args.bound.now (node_form c.args.inner.now)
+    c.args.nodes.now.items c.add_nodes.new.nodes.items c.add_exists.new.nodes.items c.requires.operand
+    c.in_ok-add_nodes.ensures own)
+    c.add_exists.ensures
+
+pub add_nodes-add_not-requires : goal.add_nodes-add_not-requires
+add_nodes-add_not-requires t c =
     let same : node_form c.args.core.now ≡ Not (node_form c.deref-in-Not.result.now) =
     ap node_form c.in-Not.is ∙ ap (λ n. Not (node_form n)) (sym c.deref-in-Not.ensures) in
     let less : nodes (node_form c.deref-in-Not.result.now) < nodes (node_form c.args.core.now) =
     not_smaller (node_form c.args.core.now) (node_form c.deref-in-Not.result.now) same in
-    let smaller : 2 * nodes (node_form c.deref-in-Not.result.now) < 2 * nodes (node_form c.args.core.now) =
-    omega arith in (
+    let smaller : 2 * nodes (node_form c.deref-in-Not.result.now) + 1 < 2 * nodes (node_form c.args.core.now) =
+    omega arith in
+    (search rules, (same, c.requires))
+
+pub add_not-add_nodes-requires : goal.add_not-add_nodes-requires
+add_not-add_nodes-requires t c =
+    let smaller : 2 * nodes (node_form c.args.inner.now) < 2 * nodes (node_form c.args.inner.now) + 1 = omega arith in (
       search rules,
-      not_under_at c.args.role c.under_not.result (node_form c.args.core.now)
-          (node_form c.deref-in-Not.result.now) same c.under_not.ensures c.requires,
+      not_under_at c.args.role c.under_not.result (node_form c.args.core.now) (node_form c.args.inner.now)
+          c.requires.operand c.under_not.ensures c.requires.accepted,
     )
 
-pub add_nodes-add_nodes-requires-in-Previous : goal.add_nodes-add_nodes-requires-in-Previous
-add_nodes-add_nodes-requires-in-Previous t c =
+pub add_not-add_join-requires-clause-guarded : goal.add_not-add_join-requires-clause-guarded
+add_not-add_join-requires-clause-guarded t c =
+    not_own_at c.args.role (node_form c.args.core.now) (node_form c.args.inner.now) c.judges_not.result
+    c.requires.operand c.judges_not.ensures c.requires.accepted
+
+pub add_not-returns : goal.add_not-returns
+add_not-returns t c =
+    on_ok_weaker c.add_join.result
+    (not_adds c.args.role c.under_not.result (node_form c.args.core.now) (node_form c.args.inner.now)
+    c.judges_not.result c.args.nodes.now.items c.add_nodes.new.nodes.items c.add_join.new.nodes.items
+    c.requires.operand c.judges_not.ensures c.under_not.ensures c.in_ok-add_nodes.ensures)
+    c.add_join.ensures
+
+pub add_nodes-add_whole_previous-requires : goal.add_nodes-add_whole_previous-requires
+add_nodes-add_whole_previous-requires t c =
     let same : node_form c.args.core.now ≡ Previous c.in-Previous.interval (node_form c.deref-in-Previous.result.now) =
-    ap node_form c.in-Previous.is ∙ ap (λ n. Previous c.in-Previous.interval (node_form n))
-    (sym c.deref-in-Previous.ensures) in
+    ap node_form c.in-Previous.is ∙ ap (λ n. Previous c.in-Previous.interval (node_form n)) (sym c.deref-in-Previous.ensures) in
     let less : nodes (node_form c.deref-in-Previous.result.now) < nodes (node_form c.args.core.now) =
-    previous_smaller (node_form c.args.core.now) c.in-Previous.interval (node_form c.deref-in-Previous.result.now)
-    same in
-    let smaller : 2 * nodes (node_form c.deref-in-Previous.result.now) < 2 * nodes (node_form c.args.core.now) =
-    omega arith in (
+    previous_smaller (node_form c.args.core.now) c.in-Previous.interval (node_form c.deref-in-Previous.result.now) same in
+    let smaller : 2 * nodes (node_form c.deref-in-Previous.result.now) + 1 < 2 * nodes (node_form c.args.core.now) =
+    omega arith in
+    (search rules, (same, (c.args.role, c.requires)))
+
+pub add_nodes-returns-in-Previous : goal.add_nodes-returns-in-Previous
+add_nodes-returns-in-Previous t c =
+    on_ok_weaker c.add_whole_previous.result (λ added. added c.args.role) c.add_whole_previous.ensures
+
+pub add_whole_previous-add_nodes-requires : goal.add_whole_previous-add_nodes-requires
+add_whole_previous-add_nodes-requires t c =
+    let smaller : 2 * nodes (node_form c.args.inner.now) < 2 * nodes (node_form c.args.inner.now) + 1 = omega arith in (
       search rules,
-      previous_under_at c.args.role (node_form c.args.core.now) c.in-Previous.interval
-          (node_form c.deref-in-Previous.result.now) same c.requires,
+      previous_under_at c.requires.accepted.0 (node_form c.args.core.now) c.args.interval.now (node_form c.args.inner.now)
+          c.requires.operand c.requires.accepted.1,
     )
 
-pub add_nodes-add_nodes-requires-in-Next : goal.add_nodes-add_nodes-requires-in-Next
-add_nodes-add_nodes-requires-in-Next t c =
+pub add_whole_previous-returns : goal.add_whole_previous-returns
+add_whole_previous-returns t c =
+    on_ok_weaker c.add_previous.result
+    (λ own role.
+    previous_adds role (node_form c.args.core.now) c.args.interval.now (node_form c.args.inner.now)
+    c.args.nodes.now.items c.add_nodes.new.nodes.items c.add_previous.new.nodes.items c.requires.operand
+    c.in_ok-add_nodes.ensures own)
+    c.add_previous.ensures
+
+pub add_nodes-add_whole_next-requires : goal.add_nodes-add_whole_next-requires
+add_nodes-add_whole_next-requires t c =
     let same : node_form c.args.core.now ≡ Next c.in-Next.interval (node_form c.deref-in-Next.result.now) =
     ap node_form c.in-Next.is ∙ ap (λ n. Next c.in-Next.interval (node_form n)) (sym c.deref-in-Next.ensures) in
     let less : nodes (node_form c.deref-in-Next.result.now) < nodes (node_form c.args.core.now) =
     next_smaller (node_form c.args.core.now) c.in-Next.interval (node_form c.deref-in-Next.result.now) same in
-    let smaller : 2 * nodes (node_form c.deref-in-Next.result.now) < 2 * nodes (node_form c.args.core.now) =
-    omega arith in (
+    let smaller : 2 * nodes (node_form c.deref-in-Next.result.now) + 1 < 2 * nodes (node_form c.args.core.now) =
+    omega arith in
+    (search rules, (same, (c.args.role, c.requires)))
+
+pub add_nodes-returns-in-Next : goal.add_nodes-returns-in-Next
+add_nodes-returns-in-Next t c =
+    on_ok_weaker c.add_whole_next.result (λ added. added c.args.role) c.add_whole_next.ensures
+
+pub add_whole_next-add_nodes-requires : goal.add_whole_next-add_nodes-requires
+add_whole_next-add_nodes-requires t c =
+    let smaller : 2 * nodes (node_form c.args.inner.now) < 2 * nodes (node_form c.args.inner.now) + 1 = omega arith in (
       search rules,
-      next_under_at c.args.role (node_form c.args.core.now) c.in-Next.interval
-          (node_form c.deref-in-Next.result.now) same c.requires,
+      next_under_at c.requires.accepted.0 (node_form c.args.core.now) c.args.interval.now (node_form c.args.inner.now)
+          c.requires.operand c.requires.accepted.1,
     )
+
+pub add_whole_next-returns : goal.add_whole_next-returns
+add_whole_next-returns t c =
+    on_ok_weaker c.add_next.result
+    (λ own role.
+    next_adds role (node_form c.args.core.now) c.args.interval.now (node_form c.args.inner.now)
+    c.args.nodes.now.items c.add_nodes.new.nodes.items c.add_next.new.nodes.items c.requires.operand
+    c.in_ok-add_nodes.ensures own)
+    c.add_next.ensures
 
 pub add_nodes-add_whole_since-requires : goal.add_nodes-add_whole_since-requires
 add_nodes-add_whole_since-requires t c =

@@ -23,3 +23,15 @@ decreases-add_whole_until l = 2 * (nodes (node_form l.left.now) + nodes (node_fo
 
 abbrev pub decreases-add_whole_or : goal.decreases-add_whole_or
 decreases-add_whole_or l = 2 * (nodes (node_form l.left.now) + nodes (node_form l.right.now)) + 1
+
+abbrev pub decreases-add_whole_exists : goal.decreases-add_whole_exists
+decreases-add_whole_exists l = 2 * nodes (node_form l.inner.now) + 1
+
+abbrev pub decreases-add_not : goal.decreases-add_not
+decreases-add_not l = 2 * nodes (node_form l.inner.now) + 1
+
+abbrev pub decreases-add_whole_previous : goal.decreases-add_whole_previous
+decreases-add_whole_previous l = 2 * nodes (node_form l.inner.now) + 1
+
+abbrev pub decreases-add_whole_next : goal.decreases-add_whole_next
+decreases-add_whole_next l = 2 * nodes (node_form l.inner.now) + 1

@@ -2,7 +2,10 @@ use Rattle.std.proofs.Common.{◌∷◌, [], ◌++◌, sym, subst}
 use Rattle.monitor_state.proofs.NodeSteps.{quantifies_more}
 use Rattle.monitor_state.proofs.TablesLemmas.{all_yielded}
 use Rattle.monitor_state.specs.Quantified.{Quantifies}
-use Rattle.monitor_state.proofs.exists.quantified.Goals as goal
+use Rattle.monitor_state.proofs.exists.push_tables.Goals as goal
+
+pub loop-table-init : goal.loop-table-init
+loop-table-init c = subst (Quantifies c.args.var []) (sym c.requires) tt
 
 pub loop-table-preserved : goal.loop-table-preserved
 loop-table-preserved c =
