@@ -151,3 +151,8 @@ pub hashed_is : {X : Type 0} (tree map : List (List Value × X)) → RowsAscend 
     → ((u : List Value) → kept_for map u ≡ last_for tree u None) → in_order map ≡ tree
 hashed_is tree map up found = same_ascending (in_order map) tree (in_order_ascends map) up (λ u.
     kept_in_order map u ∙ hashed_finds tree map up found u)
+
+-- a map in order, once it was filled with pairs by ascending rows
+pub ascending_is : {X : Type 0} (es tree : List (List Value × X)) → RowsAscend es → RowsAscend tree
+    → ((u : List Value) → kept_for tree u ≡ last_for es u None) → tree ≡ es
+ascending_is es tree low up found = same_ascending tree es up low (hashed_finds es tree low found)

@@ -1,6 +1,6 @@
 //! What UNTIL has seen from the next position on.
 ghost use Rattle.std.specs.Prelude.{◌≡◌, ◌||◌, ◌&&◌, ◌+◌, ◌-◌, ◌∷◌, ◌++◌, ◌≤◌, ◌<◌, ◌^◌, [], ℕ, Bool, true, List};
-ghost use Rattle.std.specs.Prelude.{IfOk, IsTrue, OnOk, cond, if◌then◌else◌, is_ok, length, nat_le};
+ghost use Rattle.std.specs.Prelude.{IfOk, IsTrue, OnErr, OnOk, cond, if◌then◌else◌, is_ok, length, nat_le};
 ghost use Rattle.std.specs.List.{AllByRecursion};
 ghost use Rattle.std.specs.List.Sorted.{IsStrictlySortedBy};
 ghost use Rattle.relations.specs.KeptRows.{RowsAscend};
@@ -11,21 +11,22 @@ ghost use Rattle.mfotl_model.specs.Values.{row_cmp};
 ghost use Rattle.mfotl_model.specs.declared.value.Value.{Value};
 ghost use Rattle.relations.specs.Pushed.{turned};
 ghost use Rattle.eval_until.specs.AheadView.{AheadOf, met, run_start};
-ghost use Rattle.eval_until.specs.Keeping.{Sized};
+ghost use Rattle.eval_until.specs.ByKey.{Listed};
+ghost use Rattle.eval_until.specs.InOrder.{in_order};
+ghost use Rattle.eval_until.specs.Keeping.{Keeps, Sized};
 ghost use Rattle.eval_until.specs.Rules.{Ascending, NoneEmpty, StartsAbove, StartsBelow, Waiting};
 
-use crate::by_key::{RowsByKey, rows_by_key};
+use crate::by_key::rows_by_key;
 use crate::contents::{Contents, take_position};
-use crate::entries::Entries;
 use crate::expiry::expire;
-use crate::ordered::{hashed_rows, hashed_starts, ordered_rows};
-use crate::rebuild::{kept_marks, kept_starts, queue_of};
+use crate::ordered::ordered_rows;
+use crate::rebuild::{kept_marks, kept_starts, rows_map, starts_map};
 use crate::recalled::{KeptMarks, KeptStart};
 use crate::row_entries::{push_met, row_met};
 use mfotl_model::{Interval, Row};
 use relations::{Columns, Table};
 use std::alloc::{AllocError, Global};
-use std::collections::{BTreeMap, VecDeque};
+use std::collections::VecDeque;
 use std::marker::Model;
 
 /// What UNTIL has seen from the next position on.
@@ -98,68 +99,65 @@ impl Ahead {
         }
     }
 
-    /// With these starts and entries, after so many positions.
-    pub fn resume(
+    /// Puts these starts and marks, after so many positions, in place of what is kept; `times` are those of the
+    /// positions from the next one to pull on.
+    pub fn recall(
+        &mut self,
         alloc: Global,
-        interval: Interval,
-        left: Vec<u32>,
-        right: Vec<u32>,
-        negated: bool,
         pulled: u64,
         taken: u64,
-        starts: BTreeMap<Row, u64>,
-        rows: BTreeMap<Row, Entries>,
-    ) -> Result<Self, AllocError>
-        requires apart { IsTrue (all_apart right.items) }
-        requires sized { Sized (length right.items) rows.entries }
-        requires some { NoneEmpty rows.entries }
-        requires waiting { Waiting pulled taken rows.entries }
-        requires ascend { Ascending rows.entries }
-        requires below { StartsBelow taken starts.entries }
-        requires above { negated ≡ true → StartsAbove pulled starts.entries }
-        ensures { IfOk result (λ ahead. ahead ≡ record {
-          interval = interval;
-          left = left.items;
-          right = right.items;
-          negated = negated;
+        times: &[u64],
+        starts: Vec<KeptStart>,
+        rows: Vec<KeptMarks>,
+    ) -> Result<(), AllocError>
+        requires starts { RowsAscend (starts_kept starts.items) }
+        requires rows { RowsAscend (entries_kept pulled times.now rows.items) }
+        requires sized { Sized (length self.old.right) (entries_kept pulled times.now rows.items) }
+        requires some { AllByRecursion (λ r. 0 < length r.1) (entries_kept pulled times.now rows.items) }
+        requires waiting { Waiting pulled taken (entries_kept pulled times.now rows.items) }
+        requires ascend { Ascending (entries_kept pulled times.now rows.items) }
+        requires below { StartsBelow taken (starts_kept starts.items) }
+        requires above { self.old.negated ≡ true → StartsAbove pulled (starts_kept starts.items) }
+        ensures recalled { OnOk result (self.new ≡ record self.old {
           pulled = pulled;
           taken = taken;
-          starts = starts.entries;
-          rows = rows.entries;
+          starts = starts_kept starts.items;
+          rows = entries_kept pulled times.now rows.items;
         }) }
+        ensures old { OnErr result (self.new ≡ self.old) }
     {
-        let queue = queue_of(alloc, negated, &starts, &rows)?;
-        let starts = hashed_starts(alloc, starts)?;
-        let rows = hashed_rows(alloc, rows)?;
-        let by_key = RowsByKey::new(alloc, Vec::new(alloc));
-        Ok(Ahead {
-            interval,
-            left,
-            right,
-            negated,
-            pulled,
-            taken,
-            contents: Contents {
-                starts,
-                rows,
-                by_key,
-                queue,
-            },
-        })
+        let starts = starts_map(alloc, starts)?;
+        let rows = rows_map(alloc, rows, pulled, times)?;
+        let right = self.right.as_slice();
+        let keys = self.contents.by_key.columns();
+        let contents = Contents::recalled(alloc, right, keys, self.negated, starts, rows)?;
+        self.go_on(contents, pulled, taken);
+        Ok(())
+    }
+
+    fn go_on(&mut self, contents: Contents, pulled: u64, taken: u64)
+        requires kept { Keeps self.old.negated self.old.right pulled taken contents.starts contents.rows.entries
+            contents.queue.items }
+        requires listed { Listed self.old.right contents.by_key contents.rows.entries }
+        ensures { self.new ≡ record self.old {
+          pulled = pulled;
+          taken = taken;
+          starts = in_order contents.starts;
+          rows = in_order contents.rows.entries;
+        } }
+    {
+        self.contents = contents;
+        self.pulled = pulled;
+        self.taken = taken;
     }
 
     /// Finds rows by their values in these columns at once from now on.
-    pub fn find_by(&mut self, alloc: Global, keys: Vec<u32>) -> Result<(), AllocError>
+    pub fn find_by(&mut self, alloc: Global, keys: &[u32]) -> Result<(), AllocError>
         ensures { self.new ≡ self.old }
     {
         let right = self.right.as_slice();
         self.contents.by_key = rows_by_key(alloc, right, keys, &self.contents.rows)?;
         Ok(())
-    }
-
-    /// The columns by whose values rows are found at once.
-    pub fn keys(&self) -> &[u32] {
-        self.contents.by_key.columns()
     }
 
     /// The rows with their starts, in order.

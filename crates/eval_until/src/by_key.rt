@@ -189,11 +189,12 @@ pub fn list_rows(
 pub fn rows_by_key(
     alloc: Global,
     right: &[u32],
-    columns: Vec<u32>,
+    keys: &[u32],
     rows: &HashMap<Row, Entries>,
 ) -> Result<RowsByKey, AllocError>
     ensures { IfOk result (λ by_key. Listed right.now by_key rows.now.entries) }
 {
+    let columns = Vec::from_slice(alloc, keys)?;
     let mut by_key = RowsByKey::new(alloc, columns);
     if by_key.columns().is_empty() {
         return Ok(by_key);

@@ -1,21 +1,28 @@
 //! What is kept of the positions that were taken, and how one more is taken.
-ghost use Rattle.std.specs.Prelude.{◌≡◌, ◌+◌, ◌∷◌, ◌++◌, ◌≤◌, ◌<◌, ◌^◌, [], true, List, OnOk, cond};
-ghost use Rattle.mfotl_model.specs.Tables.{has_row, part};
+ghost use Rattle.std.specs.Prelude.{◌≡◌, ◌+◌, ◌∷◌, ◌++◌, ◌≤◌, ◌<◌, ◌^◌, [], ℕ, true, List, None};
+ghost use Rattle.std.specs.Prelude.{IfOk, IsTrue, OnOk, cond, length};
+ghost use Rattle.std.specs.List.Sorted.{IsStrictlySortedBy};
+ghost use Rattle.mfotl_model.specs.Tables.{all_apart, has_row, part};
+ghost use Rattle.mfotl_model.specs.Values.{row_cmp};
 ghost use Rattle.mfotl_model.specs.declared.value.Value.{Value};
-ghost use Rattle.relations.specs.KeptRows.{kept_for, list_for};
+ghost use Rattle.relations.specs.KeptRows.{RowsAscend, kept_for, last_for, list_for};
 ghost use Rattle.eval_until.specs.ByKey.{Listed};
-ghost use Rattle.eval_until.specs.Keeping.{Keeps, Queues};
+ghost use Rattle.eval_until.specs.InOrder.{in_order};
+ghost use Rattle.eval_until.specs.Keeping.{Keeps, Queues, Sized};
+ghost use Rattle.eval_until.specs.Rules.{Ascending, NoneEmpty, StartsAbove, StartsBelow, Waiting, all_before};
 ghost use Rattle.eval_until.specs.Starts.{start_of, start_taken};
 
-use crate::by_key::{RowsByKey, list_rows};
+use crate::by_key::{RowsByKey, list_rows, rows_by_key};
 use crate::entries::Entries;
+use crate::ordered::{hashed_rows, hashed_starts};
+use crate::rebuild::queue_of;
 use crate::row_entries::add_rows;
 use crate::start_map::StartMap;
 use crate::starts::apply_left;
 use mfotl_model::Row;
 use relations::Table;
 use std::alloc::{AllocError, Global};
-use std::collections::{HashMap, VecDeque};
+use std::collections::{BTreeMap, HashMap, VecDeque};
 
 /// The rows of the tables of one position: the right operand's, and those of a negated left one, whose
 /// runs break there.
@@ -51,6 +58,56 @@ impl Contents {
             queue: VecDeque::new(alloc),
         }
     }
+
+    /// With these starts and entries of positions that were taken before. Rows are found by these columns.
+    pub fn recalled(
+        alloc: Global,
+        right: &[u32],
+        keys: &[u32],
+        negated: bool,
+        starts: BTreeMap<Row, u64>,
+        rows: BTreeMap<Row, Entries>,
+    ) -> Result<Self, AllocError>
+        requires apart { IsTrue (all_apart right.now) }
+        requires sized { Sized (length right.now) rows.entries }
+        requires some { NoneEmpty rows.entries }
+        requires ascend { Ascending rows.entries }
+        ensures starts { IfOk result (λ contents. in_order contents.starts ≡ starts.entries) }
+        ensures rows { IfOk result (λ contents. in_order contents.rows.entries ≡ rows.entries) }
+        ensures kept { IfOk result (λ contents. (pulled taken : ℕ) →
+            Waiting pulled taken rows.entries → StartsBelow taken starts.entries →
+            (negated ≡ true → StartsAbove pulled starts.entries) →
+            Keeps negated right.now pulled taken contents.starts contents.rows.entries contents.queue.items) }
+        ensures listed { IfOk result (λ contents. Listed right.now contents.by_key contents.rows.entries) }
+    {
+        let queue = queue_of(alloc, negated, &starts, &rows)?;
+        let starts = hashed_starts(alloc, starts)?;
+        let found = found_rows(alloc, right, keys, rows)?;
+        let (rows, by_key) = found;
+        Ok(Contents {
+            starts,
+            rows,
+            by_key,
+            queue,
+        })
+    }
+}
+
+// these entries, found by their rows' hashes, and the rows by their values in the columns of `keys`
+fn found_rows(
+    alloc: Global,
+    right: &[u32],
+    keys: &[u32],
+    rows: BTreeMap<Row, Entries>,
+) -> Result<(HashMap<Row, Entries>, RowsByKey), AllocError>
+    ensures found { IfOk result (λ found. (u : List Value) →
+        kept_for found.0.entries u ≡ last_for rows.entries u None) }
+    ensures ascend { IfOk result (λ _. RowsAscend rows.entries) }
+    ensures listed { IfOk result (λ found. Listed right.now found.1 found.0.entries) }
+{
+    let rows = hashed_rows(alloc, rows)?;
+    let by_key = rows_by_key(alloc, right, keys, &rows)?;
+    Ok((rows, by_key))
 }
 
 // the rows of the left operand's table that the queue needs: none where it is not negated
@@ -72,6 +129,48 @@ fn put_taken(queue: &mut VecDeque<Taken>, taken: Taken) -> Result<(), AllocError
         return Ok(());
     }
     queue.push_back(taken)?;
+    Ok(())
+}
+
+// the rows of both tables, but for the queue
+fn take_rows(
+    alloc: Global,
+    contents: &mut Contents,
+    left: &[u32],
+    right: &[u32],
+    negated: bool,
+    lefts: &[Row],
+    rights: &[Row],
+    place: u64,
+    ts: u64,
+) -> Result<(), AllocError>
+    requires sorted { IsStrictlySortedBy row_cmp rights.now }
+    requires before { (u : List Value) → IsTrue (all_before place (list_for contents.old.rows.entries u)) }
+    requires some { NoneEmpty contents.old.rows.entries }
+    requires listed { Listed right.now contents.old.by_key contents.old.rows.entries }
+    requires few { place < 2 ^ 63 }
+    ensures rows { OnOk result ((u : List Value) → list_for contents.new.rows.entries u
+        ≡ cond (has_row rights.now u) (list_for contents.old.rows.entries u ++ record {
+          place = place;
+          start = start_of negated place contents.old.starts (part right.now left.now u);
+          ts = ts;
+        } ∷ [])
+        (list_for contents.old.rows.entries u)) }
+    ensures some { OnOk result (NoneEmpty contents.new.rows.entries) }
+    ensures starts { OnOk result ((w : List Value) → kept_for contents.new.starts w
+        ≡ start_taken negated place lefts.now contents.old.starts w) }
+    ensures listed { OnOk result (Listed right.now contents.new.by_key contents.new.rows.entries) }
+    ensures queue { contents.new.queue.items ≡ contents.old.queue.items }
+{
+    let Contents {
+        starts,
+        rows,
+        by_key,
+        ..
+    } = contents;
+    list_rows(alloc, by_key, rows, right, rights)?;
+    add_rows(alloc, rows, starts, right, left, negated, rights, place, ts)?;
+    apply_left(alloc, starts, negated, lefts, place)?;
     Ok(())
 }
 
@@ -108,29 +207,21 @@ pub fn take_position(
         contents.new.starts contents.new.rows.entries contents.new.queue.items) }
     ensures listed { OnOk result (Listed right.now contents.new.by_key contents.new.rows.entries) }
 {
-    let Contents {
-        starts,
-        rows,
-        by_key,
-        queue,
-    } = contents;
-    list_rows(alloc, by_key, rows, right, rights.rows())?;
-    add_rows(
+    take_rows(
         alloc,
-        rows,
-        starts,
-        right,
+        contents,
         left,
+        right,
         negated,
+        lefts.rows(),
         rights.rows(),
         place,
         ts,
     )?;
-    apply_left(alloc, starts, negated, lefts.rows(), place)?;
     let rights = rights.into_rows();
     let breaks = breaks_of(alloc, negated, lefts);
     put_taken(
-        queue,
+        &mut contents.queue,
         Taken {
             place,
             rights,

@@ -1,5 +1,7 @@
 //! Maps that find a row by its hash, out of maps that have the rows in order, and back.
-ghost use Rattle.std.specs.Prelude.{◌≡◌, IfOk, List, None};
+ghost use Rattle.std.specs.Prelude.{◌≡◌, IfOk, List, None, OnOk, Some, cond};
+ghost use Rattle.std.specs.BTreeMap.{is_at};
+ghost use Rattle.mfotl_model.specs.Values.{row_cmp};
 ghost use Rattle.mfotl_model.specs.declared.value.Value.{Value};
 ghost use Rattle.relations.specs.KeptRows.{RowsAscend, RowsDiffer, kept_for, last_for};
 
@@ -55,6 +57,21 @@ pub fn ordered_starts(
     Ok(map)
 }
 
+fn put_copy(
+    alloc: Global,
+    map: &mut BTreeMap<Row, Entries>,
+    row: &Row,
+    entries: &Entries,
+) -> Result<(), AllocError>
+    ensures found { OnOk result ((u : List Value) → kept_for map.new.entries u
+        ≡ cond (is_at (row_cmp row.now) u) (Some entries.now) (kept_for map.old.entries u)) }
+    ensures ascend { OnOk result (RowsAscend map.new.entries) }
+{
+    let entries = entries.copy(alloc)?;
+    map.insert(row.copy(alloc)?, entries)?;
+    Ok(())
+}
+
 /// Copies of these entries, by ascending rows.
 pub fn ordered_rows(
     alloc: Global,
@@ -67,7 +84,7 @@ pub fn ordered_rows(
 {
     let mut map = BTreeMap::new(alloc);
     for (row, entries) in rows {
-        map.insert(row.copy(alloc)?, entries.copy(alloc)?)?;
+        put_copy(alloc, &mut map, row, entries)?;
     }
     Ok(map)
 }

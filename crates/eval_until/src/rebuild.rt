@@ -1,8 +1,10 @@
 //! The rows of plain data, out of maps and back, and the queue that finds what is pulled.
-ghost use Rattle.std.specs.Prelude.{◌≡◌, ◌||◌, ◌&&◌, ◌∷◌, ◌-◌, ◌<◌, [], ℕ, Bool, true, List, None};
+ghost use Rattle.std.specs.Prelude.{◌≡◌, ◌||◌, ◌&&◌, ◌∷◌, ◌-◌, ◌<◌, [], ℕ, Bool, true, List, None, Some};
 ghost use Rattle.std.specs.Prelude.{IfOk, OnOk, cond, length, map, nat_eq};
+ghost use Rattle.std.specs.BTreeMap.{is_at};
 ghost use Rattle.std.specs.List.{AllByRecursion, list_all};
 ghost use Rattle.mfotl_model.specs.Tables.{has_row};
+ghost use Rattle.mfotl_model.specs.Values.{row_cmp};
 ghost use Rattle.mfotl_model.specs.declared.value.Value.{Value};
 ghost use Rattle.relations.specs.KeptRows.{RowsAscend, kept_for, last_for};
 ghost use Rattle.eval_until.specs.Keeping.{Rising, breaks_before, names};
@@ -150,8 +152,9 @@ pub fn queue_of(
 
 /// The starts of these rows.
 pub fn starts_map(alloc: Global, starts: Vec<KeptStart>) -> Result<BTreeMap<Row, u64>, AllocError>
-    ensures { IfOk result (λ map. (w : List Value) →
+    ensures found { IfOk result (λ map. (w : List Value) →
         kept_for map.entries w ≡ last_for (starts_kept starts.items) w None) }
+    ensures ascend { IfOk result (λ map. RowsAscend map.entries) }
 {
     let mut map = BTreeMap::new(alloc);
     for kept in starts {
@@ -190,6 +193,39 @@ fn entries_of(
     Ok(entries)
 }
 
+fn entries_at(
+    alloc: Global,
+    marks: &[Mark],
+    pulled: u64,
+    times: &[u64],
+) -> Result<Entries, AllocError>
+    requires { PlacesAscend (map (entry_at pulled times.now) marks.now) }
+    ensures { IfOk result (λ entries. entries ≡ map (entry_at pulled times.now) marks.now) }
+{
+    let list = entries_of(alloc, marks, pulled, times)?;
+    let entries = Entries::from_vec(alloc, list)?;
+    Ok(entries)
+}
+
+// puts a row, with the entries of its marks
+fn put_marks(
+    alloc: Global,
+    rows: &mut BTreeMap<Row, Entries>,
+    kept: KeptMarks,
+    pulled: u64,
+    times: &[u64],
+) -> Result<(), AllocError>
+    requires { PlacesAscend (map (entry_at pulled times.now) kept.marks.items) }
+    ensures found { OnOk result ((u : List Value) → kept_for rows.new.entries u
+        ≡ cond (is_at (row_cmp kept.row) u) (Some (map (entry_at pulled times.now) kept.marks.items))
+        (kept_for rows.old.entries u)) }
+    ensures ascend { OnOk result (RowsAscend rows.new.entries) }
+{
+    let entries = entries_at(alloc, kept.marks.as_slice(), pulled, times)?;
+    rows.insert(kept.row, entries)?;
+    Ok(())
+}
+
 /// The entries of these rows, where `times` are those of the positions from `pulled` on.
 pub fn rows_map(
     alloc: Global,
@@ -198,14 +234,13 @@ pub fn rows_map(
     times: &[u64],
 ) -> Result<BTreeMap<Row, Entries>, AllocError>
     requires { AllByRecursion (λ r. PlacesAscend r.1) (entries_kept pulled times.now rows.items) }
-    ensures { IfOk result (λ map. (u : List Value) →
+    ensures found { IfOk result (λ map. (u : List Value) →
         kept_for map.entries u ≡ last_for (entries_kept pulled times.now rows.items) u None) }
+    ensures ascend { IfOk result (λ map. RowsAscend map.entries) }
 {
     let mut map = BTreeMap::new(alloc);
     for kept in rows {
-        let entries = entries_of(alloc, kept.marks.as_slice(), pulled, times)?;
-        let entries = Entries::from_vec(alloc, entries)?;
-        map.insert(kept.row, entries)?;
+        put_marks(alloc, &mut map, kept, pulled, times)?;
     }
     Ok(map)
 }
@@ -233,6 +268,23 @@ pub fn kept_starts(
     Ok(kept)
 }
 
+// a copy of a row, with the marks of its entries
+fn marks_of(
+    alloc: Global,
+    row: &Row,
+    entries: &Entries,
+    pulled: u64,
+    times: &VecDeque<u64>,
+) -> Result<KeptMarks, AllocError>
+    ensures row { IfOk result (λ kept. kept.row ≡ row.now) }
+    ensures marks { IfOk result (λ kept.
+        map (entry_at pulled times.now.items) kept.marks.items ≡ entries.now) }
+{
+    let marks = entries.marks(alloc, pulled, times)?;
+    let row = row.copy(alloc)?;
+    Ok(KeptMarks { row, marks })
+}
+
 /// The rows with their marks, in order.
 pub fn kept_marks(
     alloc: Global,
@@ -246,10 +298,7 @@ pub fn kept_marks(
 {
     let mut kept = Vec::with_capacity(alloc, rows.len())?;
     for (row, entries) in rows {
-        kept.push(KeptMarks {
-            row: row.copy(alloc)?,
-            marks: entries.marks(alloc, pulled, times)?,
-        })?;
+        kept.push(marks_of(alloc, row, entries, pulled, times)?)?;
     }
     Ok(kept)
 }

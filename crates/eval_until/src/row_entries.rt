@@ -1,5 +1,5 @@
 //! The entries of each row.
-ghost use Rattle.std.specs.Prelude.{◌≡◌, ◌||◌, ◌&&◌, ◌∷◌, ◌++◌, [], List, ℕ, IfSome, IsTrue, OnOk, cond};
+ghost use Rattle.std.specs.Prelude.{◌≡◌, ◌||◌, ◌&&◌, ◌∷◌, ◌++◌, [], List, ℕ, IfOk, IfSome, IsTrue, OnOk, cond};
 ghost use Rattle.std.specs.BTreeMap.{is_at};
 ghost use Rattle.std.specs.List.{list_any};
 ghost use Rattle.std.specs.List.Sorted.{IsStrictlySortedBy};
@@ -42,6 +42,50 @@ fn add_entry(
     Ok(())
 }
 
+// where the run begins that a row's part at the left operand's columns has
+fn part_start(
+    alloc: Global,
+    starts: &StartMap,
+    right: &[u32],
+    left: &[u32],
+    negated: bool,
+    row: &Row,
+    place: u64,
+) -> Result<u64, AllocError>
+    ensures { IfOk result (λ start.
+        start ≡ start_of negated place starts.now (part right.now left.now row.now)) }
+{
+    let key = part_of(alloc, right, left, row.values())?;
+    Ok(start_at(starts, negated, place, &key))
+}
+
+// adds one row at the position `place`, as `add_rows` does
+fn add_row(
+    alloc: Global,
+    rows: &mut HashMap<Row, Entries>,
+    starts: &StartMap,
+    right: &[u32],
+    left: &[u32],
+    negated: bool,
+    row: &Row,
+    place: u64,
+    ts: u64,
+) -> Result<(), AllocError>
+    requires { IsTrue (all_before place (list_for rows.old.entries row.now)) }
+    ensures entries { OnOk result ((u : List Value) → list_for rows.new.entries u
+        ≡ cond (is_at (row_cmp row.now) u) (list_for rows.old.entries u ++ record {
+          place = place;
+          start = start_of negated place starts.now (part right.now left.now row.now);
+          ts = ts;
+        } ∷ [])
+        (list_for rows.old.entries u)) }
+    ensures some { OnOk result (NoneEmpty rows.old.entries → NoneEmpty rows.new.entries) }
+{
+    let start = part_start(alloc, starts, right, left, negated, row, place)?;
+    add_entry(alloc, rows, row.copy(alloc)?, Entry { place, start, ts })?;
+    Ok(())
+}
+
 /// Adds the rows of the right operand's table at the position `place`, which none of the entries
 /// reaches yet.
 pub fn add_rows(
@@ -67,9 +111,7 @@ pub fn add_rows(
     ensures some { OnOk result (NoneEmpty rows.old.entries → NoneEmpty rows.new.entries) }
 {
     for row in table {
-        let key = part_of(alloc, right, left, row.values())?;
-        let start = start_at(starts, negated, place, &key);
-        add_entry(alloc, rows, row.copy(alloc)?, Entry { place, start, ts })?;
+        add_row(alloc, rows, starts, right, left, negated, row, place, ts)?;
     }
     Ok(())
 }

@@ -48,6 +48,20 @@ fn keep_alone(alloc: Global, starts: &mut StartMap, row: &Row, place: u64) -> Re
     begin_alone(alloc, starts, row, place)
 }
 
+fn keep_start(
+    alloc: Global,
+    kept: &mut StartMap,
+    starts: &StartMap,
+    row: &Row,
+    place: u64,
+) -> Result<(), AllocError>
+    ensures { OnOk result ((w : List Value) → kept_for kept.new w
+        ≡ cond (is_at (row_cmp row.now) w) (Some (start_of false place starts.now row.now)) (kept_for kept.old w)) }
+{
+    kept.insert(row.copy(alloc)?, start_at(starts, false, place, row))?;
+    Ok(())
+}
+
 // the runs that go on or begin at the position `place`
 #[inline(never)]
 fn kept_starts(
@@ -61,7 +75,7 @@ fn kept_starts(
 {
     let mut kept = StartMap::new(alloc);
     for row in table {
-        kept.insert(row.copy(alloc)?, start_at(starts, false, place, row))?;
+        keep_start(alloc, &mut kept, starts, row, place)?;
     }
     Ok(kept)
 }

@@ -1,6 +1,6 @@
 //! UNTIL over tables that are pushed position by position.
 ghost use Rattle.std.specs.Prelude.{◌≡◌, ◌↔◌, ◌+◌, ◌-◌, ◌<◌, ◌≤◌, ◌^◌, [], ℕ, Bool, true, List};
-ghost use Rattle.std.specs.Prelude.{IfOk, IsTrue, length, nat_lt, not};
+ghost use Rattle.std.specs.Prelude.{IfOk, IsTrue, OnOk, length, nat_lt, not};
 ghost use Rattle.mfotl_model.specs.Satisfaction.{Valuation};
 ghost use Rattle.mfotl_model.specs.Tables.{all_among, all_apart, has};
 ghost use Rattle.mfotl_model.specs.declared.value.Value.{Value};
@@ -11,7 +11,6 @@ ghost use Rattle.eval_until.specs.Rules.{Ascending, NoneEmpty, StartsAbove, Star
 ghost use Rattle.eval_until.specs.UntilView.{Follows, FollowsLeft, UntilOf};
 
 use crate::ahead::Ahead;
-use crate::rebuild::{rows_map, starts_map};
 use crate::recalled::UntilData;
 use mfotl_model::Interval;
 use relations::{Table, copied_tables};
@@ -127,17 +126,9 @@ impl UntilState {
         ensures follows { IfOk result (λ state.
             (t : List ℕ) (a b : List Bool) (v : Valuation) → Follows state t a b v) }
     {
-        let state = UntilState::new(alloc, interval, left, right, negated)?;
-        state.finding_by(alloc, keys)
-    }
-
-    // the same, which finds rows by their values in these columns at once
-    fn finding_by(mut self, alloc: Global, keys: &[u32]) -> Result<Self, AllocError>
-        ensures { IfOk result (λ state. state ≡ self) }
-    {
-        let keys = Vec::from_slice(alloc, keys)?;
-        self.ahead.find_by(alloc, keys)?;
-        Ok(self)
+        let mut state = UntilState::new(alloc, interval, left, right, negated)?;
+        state.ahead.find_by(alloc, keys)?;
+        Ok(state)
     }
 
     /// Whether the table is over the left operand's columns, as `push_left` asks.
@@ -212,28 +203,9 @@ impl UntilState {
             }) times.now kept) t a b v →
             Follows state t a b v) }
     {
-        let UntilData {
-            pulled,
-            taken,
-            lefts,
-            rights,
-            starts,
-            rows,
-        } = kept;
-        let starts = starts_map(alloc, starts)?;
-        let rows = rows_map(alloc, rows, pulled, times)?;
-        let times = Vec::from_slice(alloc, times)?;
-        let left = Vec::from_slice(alloc, left)?;
-        let right = Vec::from_slice(alloc, right)?;
-        let ahead = Ahead::resume(
-            alloc, *interval, left, right, negated, pulled, taken, starts, rows,
-        )?;
-        Ok(UntilState {
-            ahead,
-            times: VecDeque::from_vec(times),
-            lefts: VecDeque::from_vec(lefts),
-            rights: VecDeque::from_vec(rights),
-        })
+        let state = UntilState::new(alloc, interval, left, right, negated)?;
+        let state = state.recalled(alloc, times, kept)?;
+        Ok(state)
     }
 
     /// The state of the same operands, interval and keys of which `kept` is the data, where `times` are those
@@ -252,17 +224,42 @@ impl UntilState {
             (t : List ℕ) (a b : List Bool) (v : Valuation) →
             Follows (until_of (setting_of self) times.now kept) t a b v → Follows state t a b v) }
     {
-        let state = UntilState::resume(
-            alloc,
-            self.ahead.interval(),
-            self.ahead.left(),
-            self.ahead.right(),
-            self.ahead.negated(),
-            times,
-            kept,
-        )?;
-        let keyed = state.finding_by(alloc, self.ahead.keys())?;
-        Ok(keyed)
+        let state = self.recalled(alloc, times, kept)?;
+        Ok(state)
+    }
+
+    fn recalled(
+        mut self,
+        alloc: Global,
+        times: &[u64],
+        kept: UntilData,
+    ) -> Result<Self, AllocError>
+        requires { UntilRule (until_of (setting_of self) times.now kept) }
+        ensures { IfOk result (λ state. state ≡ until_of (setting_of self) times.now kept) }
+    {
+        self.recall(alloc, times, kept)?;
+        Ok(self)
+    }
+
+    // puts the data in place of what the state has
+    fn recall(&mut self, alloc: Global, times: &[u64], kept: UntilData) -> Result<(), AllocError>
+        requires { UntilRule (until_of (setting_of self.old) times.now kept) }
+        ensures { OnOk result (self.new ≡ until_of (setting_of self.old) times.now kept) }
+    {
+        let next = Vec::from_slice(alloc, times)?;
+        let UntilData {
+            pulled,
+            taken,
+            lefts,
+            rights,
+            starts,
+            rows,
+        } = kept;
+        self.ahead.recall(alloc, pulled, taken, times, starts, rows)?;
+        self.times = VecDeque::from_vec(next);
+        self.lefts = VecDeque::from_vec(lefts);
+        self.rights = VecDeque::from_vec(rights);
+        Ok(())
     }
 
     /// The left operand's columns, those of the rows that starts are kept for.

@@ -1,13 +1,11 @@
 use Rattle.std.proofs.Common.{◌+◌, ℕ, List, length, sym, ap, ◌∙◌}
-use Rattle.mfotl_model.specs.Tables.{all_sized, part}
+use Rattle.mfotl_model.specs.Tables.{all_sized}
 use Rattle.eval_until.specs.declared.contents.Taken.{Taken}
-use Rattle.eval_until.specs.Starts.{start_of}
-use Rattle.eval_until.proofs.ByKeyLemmas.{listed_taken}
 use Rattle.eval_until.proofs.KeepingLemmas.{all_before_taken, kept_queued, kept_taken}
 use Rattle.eval_until.proofs.contents.take_position.Goals as goal
 
-pub add_rows-requires-clause-before : goal.add_rows-requires-clause-before
-add_rows-requires-clause-before c =
+pub take_rows-requires-clause-before : goal.take_rows-requires-clause-before
+take_rows-requires-clause-before c =
     all_before_taken c.args.place c.args.contents.now.rows.entries c.requires.kept.below
 
 pub returns-clause-kept : goal.returns-clause-kept
@@ -17,11 +15,12 @@ returns-clause-kept c =
       rights = c.into_rows-rights.result;
       breaks = c.breaks_of-breaks.result;
     } in
-    kept_queued c.args.negated c.args.right.now c.args.pulled (c.args.place + 1) c.apply_left.new.starts
-    c.add_rows.new.rows.entries c.args.contents.now.queue.items c.put_taken.new.queue.items q c.in_ok-put_taken.ensures
+    kept_queued c.args.negated c.args.right.now c.args.pulled (c.args.place + 1) c.take_rows.new.contents.starts
+    c.take_rows.new.contents.rows.entries c.args.contents.now.queue.items c.put_taken.new.queue.items q
+    (rw c.in_ok-take_rows.ensures.queue at c.in_ok-put_taken.ensures)
     (kept_taken c.args.negated c.args.right.now c.args.left.now c.args.pulled c.args.ts c.args.lefts.rows q
-    c.args.contents.now.starts c.apply_left.new.starts c.args.contents.now.rows.entries
-    c.add_rows.new.rows.entries c.args.contents.now.queue.items
+    c.args.contents.now.starts c.take_rows.new.contents.starts c.args.contents.now.rows.entries
+    c.take_rows.new.contents.rows.entries c.args.contents.now.queue.items
     (record {
       ahead = c.requires.low;
       sized = ap (all_sized (length c.args.right.now)) c.into_rows-rights.ensures.rows
@@ -29,19 +28,7 @@ returns-clause-kept c =
           ∙ c.into_rows-rights.ensures.is_table.sized;
       kept = c.requires.kept;
       breaks = c.breaks_of-breaks.ensures;
-      entries = rw (c.rows-2.ensures.rows, ← c.into_rows-rights.ensures.rows) at c.in_ok-add_rows.ensures.entries;
-      some = c.in_ok-add_rows.ensures.some;
-      runs = rw c.rows-3.ensures.rows at c.in_ok-apply_left.ensures;
+      entries = rw (c.rows-2.ensures.rows, ← c.into_rows-rights.ensures.rows) at c.in_ok-take_rows.ensures.rows;
+      some = λ old. c.in_ok-take_rows.ensures.some;
+      runs = rw c.rows.ensures.rows at c.in_ok-take_rows.ensures.starts;
     }))
-
-pub returns-clause-listed : goal.returns-clause-listed
-returns-clause-listed c =
-    listed_taken c.args.right.now c.args.contents.now.by_key c.list_rows.new.by_key c.args.rights.rows
-    (λ u. record {
-      place = c.args.place;
-      start = start_of c.args.negated c.args.place c.args.contents.now.starts (part c.args.right.now c.args.left.now u);
-      ts = c.args.ts;
-    })
-    c.args.contents.now.rows.entries c.add_rows.new.rows.entries
-    (rw c.rows.ensures.rows at c.in_ok-list_rows.ensures) (rw c.rows-2.ensures.rows at c.in_ok-add_rows.ensures.entries)
-    c.requires.listed

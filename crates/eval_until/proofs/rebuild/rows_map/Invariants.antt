@@ -1,7 +1,7 @@
 use Rattle.std.proofs.Common.{◌≡◌, List, None}
 use Rattle.std.specs.List.{AllByRecursion}
 use Rattle.mfotl_model.specs.declared.value.Value.{Value}
-use Rattle.relations.specs.KeptRows.{kept_for, last_for}
+use Rattle.relations.specs.KeptRows.{RowsAscend, kept_for, last_for}
 use Rattle.eval_until.specs.Recalled.{entries_kept}
 use Rattle.eval_until.specs.Rules.{PlacesAscend}
 use Rattle.eval_until.specs.declared.entries.Entry.{Entry}
@@ -14,4 +14,5 @@ invariant-loop-kept l = record {
   put : (u : List Value) →
       last_for (entries_kept l.pulled l.times l.kept-iterator.rest.items) u (kept_for l.map.entries u)
       ≡ last_for (entries_kept l.pulled l.times l.fn.rows.items) u None;
+  sorted : RowsAscend l.map.entries;
 }
