@@ -11,6 +11,13 @@ use Rattle.mfotl_parse.specs.declared.call.Call.{Call as CallValue}
 use Rattle.mfotl_parse.specs.declared.state.Context.{Context as ContextValue}
 use Rattle.mfotl_parse.specs.declared.state.Stage.{Stage as StageValue}
 use Rattle.mfotl_parse.specs.declared.state.Stage.TheVariants as stages
+use Rattle.mfotl_parse.specs.declared.class.Quantifier.{Quantifier}
+use Rattle.mfotl_parse.specs.declared.state.BindingStage.{BindingStage}
+use Rattle.mfotl_parse.specs.declared.state.BindingStage.TheVariants as binding_stages
+use Rattle.mfotl_parse.specs.declared.state.CallStage.{CallStage}
+use Rattle.mfotl_parse.specs.declared.state.CallStage.TheVariants as call_stages
+use Rattle.mfotl_parse.specs.declared.state.IntervalStage.{IntervalStage}
+use Rattle.mfotl_parse.specs.declared.state.IntervalStage.TheVariants as interval_stages
 use Rattle.mfotl_parse.specs.declared.state.Parser.{Parser as ParserValue}
 use Rattle.mfotl_model.specs.declared.policy.Policy.{Policy}
 use Rattle.mfotl_parse.specs.Reading.{PolicyOf, ended_at}
@@ -56,6 +63,31 @@ context_of c = record { stack = stack_of c.frames.items; nodes = c.nodes; names 
 abbrev pub call_view : CallValue → Call
 call_view call = record { pred = call.pred; rest = call.rest.now; args = call.args.items; bound = call.bound }
 
+-- what may come next within an atom's parentheses
+abbrev pub call_stage_of : Call → CallStage → Stage
+call_stage_of call call_stages.FirstArgument = FirstArgument call
+call_stage_of call call_stages.NextArgument = NextArgument call
+call_stage_of call call_stages.AfterArgument = AfterArgument call
+call_stage_of call (call_stages.AfterArgumentMark mark) = AfterArgumentMark call mark
+
+-- what may come next among a quantifier's variables
+abbrev pub binding_stage_of : Quantifier → BindingStage → Stage
+binding_stage_of quantifier binding_stages.ExpectVariable = ExpectVariable quantifier
+binding_stage_of quantifier (binding_stages.AfterVariableMark mark) = AfterVariableMark quantifier mark
+binding_stage_of quantifier binding_stages.AfterVariable = AfterVariable quantifier
+
+-- what may come next in an interval
+abbrev pub interval_stage_of : IntervalStage → Stage
+interval_stage_of (interval_stages.AfterParen at) = AfterParen at
+interval_stage_of (interval_stages.AfterParenNumber at number_at value) = AfterParenNumber at number_at value
+interval_stage_of (interval_stages.ExpectLow at) = ExpectLow at
+interval_stage_of (interval_stages.AfterLowNumber at number_at number) = AfterLowNumber at number_at number
+interval_stage_of (interval_stages.AfterLow at low) = AfterLow at low
+interval_stage_of (interval_stages.ExpectHigh at low) = ExpectHigh at low
+interval_stage_of (interval_stages.AfterHighNumber at low number_at number) = AfterHighNumber at low number_at number
+interval_stage_of (interval_stages.AfterHigh at low high) = AfterHigh at low high
+interval_stage_of (interval_stages.AfterStar at low) = AfterStar at low
+
 -- what may come next
 unfoldable pub stage_of : StageValue → Stage
 stage_of stages.ExpectOperand = ExpectOperand
@@ -67,22 +99,9 @@ stage_of (stages.AfterMark mark) = AfterMark mark
 stage_of (stages.ExpectSign left) = ExpectSign left
 stage_of (stages.AfterSign left at sign) = AfterSign left at sign
 stage_of (stages.AfterSignMark left at sign mark) = AfterSignMark left at sign mark
-stage_of (stages.FirstArgument call) = FirstArgument (call_view call)
-stage_of (stages.NextArgument call) = NextArgument (call_view call)
-stage_of (stages.AfterArgument call) = AfterArgument (call_view call)
-stage_of (stages.AfterArgumentMark call mark) = AfterArgumentMark (call_view call) mark
-stage_of (stages.ExpectVariable quantifier) = ExpectVariable quantifier
-stage_of (stages.AfterVariableMark quantifier mark) = AfterVariableMark quantifier mark
-stage_of (stages.AfterVariable quantifier) = AfterVariable quantifier
-stage_of (stages.AfterParen at) = AfterParen at
-stage_of (stages.AfterParenNumber at number_at value) = AfterParenNumber at number_at value
-stage_of (stages.ExpectLow at) = ExpectLow at
-stage_of (stages.AfterLowNumber at number_at number) = AfterLowNumber at number_at number
-stage_of (stages.AfterLow at low) = AfterLow at low
-stage_of (stages.ExpectHigh at low) = ExpectHigh at low
-stage_of (stages.AfterHighNumber at low number_at number) = AfterHighNumber at low number_at number
-stage_of (stages.AfterHigh at low high) = AfterHigh at low high
-stage_of (stages.AfterStar at low) = AfterStar at low
+stage_of (stages.InCall call now) = call_stage_of (call_view call) now
+stage_of (stages.InBinding quantifier now) = binding_stage_of quantifier now
+stage_of (stages.InInterval now) = interval_stage_of now
 
 -- a fault is the one that reading gives; want of memory says nothing
 abbrev pub Fails : {T : Type 0} → PolicyFault → Result T PolicyFault → Type 0

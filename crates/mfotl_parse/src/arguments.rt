@@ -12,7 +12,7 @@ use crate::call::Call;
 use crate::class::Class;
 use crate::fault::PolicyFault;
 use crate::limits::MAX_FREE;
-use crate::state::{Context, Stage, text_value};
+use crate::state::{CallStage, Context, Stage, text_value};
 use crate::term::{Operand, term_of};
 use mfotl_lex::Token;
 use mfotl_model::{Term, Value};
@@ -41,12 +41,13 @@ impl Context {
         let Ok(bound) = u32::try_from(self.names.bound_sorts.len()) else {
             return Err(PolicyFault::Memory);
         };
-        Ok(Stage::FirstArgument(Call {
+        let call = Call {
             pred: pred.number,
             rest: pred.sorts.as_slice(),
             args: Vec::new(alloc),
             bound,
-        }))
+        };
+        Ok(Stage::InCall(call, CallStage::FirstArgument))
     }
 
     fn take_term<'a>(
@@ -61,7 +62,7 @@ impl Context {
     {
         self.names.place(&operand, at, call.due());
         let term = term_of(operand)?;
-        Ok(Stage::AfterArgument(call.with(term)?))
+        Ok(Stage::InCall(call.with(term)?, CallStage::AfterArgument))
     }
 
     fn take_variable<'a>(
@@ -92,7 +93,8 @@ impl Context {
         let Some(number) = place.checked_add(MAX_FREE) else {
             return Err(PolicyFault::Memory);
         };
-        Ok(Stage::AfterArgument(call.with(Term::Var(number))?))
+        let call = call.with(Term::Var(number))?;
+        Ok(Stage::InCall(call, CallStage::AfterArgument))
     }
 
     fn take_argument<'a>(
@@ -110,7 +112,7 @@ impl Context {
         let at = token.at as u64;
         match class {
             Class::Name => self.take_variable(alloc, call, at, token.text),
-            Class::Question => Ok(Stage::AfterArgumentMark(call, at)),
+            Class::Question => Ok(Stage::InCall(call, CallStage::AfterArgumentMark(at))),
             Class::Integer(number) => self.take_term(
                 call,
                 at,
@@ -200,7 +202,7 @@ impl Context {
             (lexeme token.now) class)) }
     {
         match class {
-            Class::Comma => Ok(Stage::NextArgument(call)),
+            Class::Comma => Ok(Stage::InCall(call, CallStage::NextArgument)),
             Class::CloseParen => self.close_call(alloc, call, token.at as u64),
             _ => Err(PolicyFault::Syntax(token.at as u64)),
         }

@@ -14,7 +14,7 @@ use crate::class::{Class, unit_of};
 use crate::fault::PolicyFault;
 use crate::limits::MAX_BOUND;
 use crate::stack;
-use crate::state::{Context, Stage};
+use crate::state::{Context, IntervalStage, Stage};
 use mfotl_lex::Token;
 use mfotl_model::Interval;
 
@@ -92,7 +92,7 @@ impl Context {
                     if number > MAX_BOUND {
                         return Err(PolicyFault::BoundRange(at));
                     }
-                    Ok(Stage::AfterLowNumber(start, at, number))
+                    Ok(Stage::InInterval(IntervalStage::AfterLowNumber(start, at, number)))
                 }
                 Err(_) => Err(PolicyFault::Syntax(at)),
             },
@@ -114,10 +114,10 @@ impl Context {
     {
         let at = token.at as u64;
         match class {
-            Class::Comma => Ok(Stage::ExpectHigh(start, number)),
+            Class::Comma => Ok(Stage::InInterval(IntervalStage::ExpectHigh(start, number))),
             Class::Name => match unit_of(token.text) {
                 Some(unit) => match bound_of(number, unit) {
-                    Some(low) => Ok(Stage::AfterLow(start, low)),
+                    Some(low) => Ok(Stage::InInterval(IntervalStage::AfterLow(start, low))),
                     None => Err(PolicyFault::BoundRange(number_at)),
                 },
                 None => Err(PolicyFault::Syntax(at)),
@@ -137,7 +137,7 @@ impl Context {
             (given token.now.at (low_done_move (context_of self.old) start low class)) }
     {
         match class {
-            Class::Comma => Ok(Stage::ExpectHigh(start, low)),
+            Class::Comma => Ok(Stage::InInterval(IntervalStage::ExpectHigh(start, low))),
             _ => Err(PolicyFault::Syntax(token.at as u64)),
         }
     }
@@ -160,11 +160,11 @@ impl Context {
                     if number > MAX_BOUND {
                         return Err(PolicyFault::BoundRange(at));
                     }
-                    Ok(Stage::AfterHighNumber(start, low, at, number))
+                    Ok(Stage::InInterval(IntervalStage::AfterHighNumber(start, low, at, number)))
                 }
                 Err(_) => Err(PolicyFault::Syntax(at)),
             },
-            Class::Star => Ok(Stage::AfterStar(start, low)),
+            Class::Star => Ok(Stage::InInterval(IntervalStage::AfterStar(start, low))),
             _ => Err(PolicyFault::Syntax(at)),
         }
     }
@@ -185,7 +185,7 @@ impl Context {
         match class {
             Class::Name => match unit_of(token.text) {
                 Some(unit) => match bound_of(number, unit) {
-                    Some(high) => Ok(Stage::AfterHigh(start, low, high)),
+                    Some(high) => Ok(Stage::InInterval(IntervalStage::AfterHigh(start, low, high))),
                     None => Err(PolicyFault::BoundRange(number_at)),
                 },
                 None => Err(PolicyFault::Syntax(token.at as u64)),

@@ -1,6 +1,7 @@
 //! Reads a policy against a signature: its formula with the free variables in order, or the first fault.
 #![tactic(auto)]
 
+mod advance;
 mod arguments;
 mod call;
 mod class;

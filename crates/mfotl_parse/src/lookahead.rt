@@ -14,7 +14,7 @@ use crate::fault::PolicyFault;
 use crate::frame::Frame;
 use crate::intervals::bound_of;
 use crate::limits::MAX_BOUND;
-use crate::state::{Context, Stage};
+use crate::state::{Context, IntervalStage, Stage};
 use crate::term::{Operand, Side};
 use mfotl_lex::Token;
 use mfotl_model::Value;
@@ -34,7 +34,11 @@ impl Context {
             (lexeme token.now) class)) }
     {
         match class {
-            Class::Integer(number) => Ok(Stage::AfterParenNumber(start, token.at as u64, number)),
+            Class::Integer(number) => Ok(Stage::InInterval(IntervalStage::AfterParenNumber(
+                start,
+                token.at as u64,
+                number,
+            ))),
             class => self.enclosed_operand(alloc, start, token, class),
         }
     }
@@ -109,7 +113,7 @@ impl Context {
                 if number > MAX_BOUND {
                     return Err(PolicyFault::BoundRange(number_at));
                 }
-                Ok(Stage::ExpectHigh(start, number + 1))
+                Ok(Stage::InInterval(IntervalStage::ExpectHigh(start, number + 1)))
             }
             Err(_) => Err(PolicyFault::Syntax(at)),
         }
@@ -130,7 +134,7 @@ impl Context {
         match u64::try_from(number) {
             Ok(number) => match unit_of(word) {
                 Some(unit) => match bound_of(number, unit) {
-                    Some(low) => Ok(Stage::AfterLow(start, low + 1)),
+                    Some(low) => Ok(Stage::InInterval(IntervalStage::AfterLow(start, low + 1))),
                     None => Err(PolicyFault::BoundRange(number_at)),
                 },
                 None => Err(PolicyFault::Syntax(at)),

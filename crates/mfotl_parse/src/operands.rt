@@ -15,7 +15,7 @@ use crate::fault::PolicyFault;
 use crate::formulas::boxed;
 use crate::frame::Frame;
 use crate::intervals::any_distance;
-use crate::state::{Context, Stage, text_value};
+use crate::state::{BindingStage, Context, IntervalStage, Stage, text_value};
 use crate::term::{Operand, Side};
 use mfotl_lex::Token;
 use mfotl_model::{Formula, Value};
@@ -39,7 +39,10 @@ impl Context {
             Class::Truth(value) => self.truth(alloc, at, value),
             Class::Not => self.negation(at),
             Class::Temporal(operator) => self.moment(at, operator),
-            Class::Quantifier(quantifier) => Ok(Stage::ExpectVariable(quantifier)),
+            Class::Quantifier(quantifier) => Ok(Stage::InBinding(
+                quantifier,
+                BindingStage::ExpectVariable,
+            )),
             Class::Name => Ok(Stage::AfterWord(at, token.text)),
             Class::Blank => Ok(Stage::AfterBlank(at)),
             Class::Integer(number) => {
@@ -65,8 +68,8 @@ impl Context {
             (lexeme token.now) class)) }
     {
         match class {
-            Class::OpenBracket => Ok(Stage::ExpectLow(token.at as u64)),
-            Class::OpenParen => Ok(Stage::AfterParen(token.at as u64)),
+            Class::OpenBracket => Ok(Stage::InInterval(IntervalStage::ExpectLow(token.at as u64))),
+            Class::OpenParen => Ok(Stage::InInterval(IntervalStage::AfterParen(token.at as u64))),
             class => self.operand(alloc, token, class),
         }
     }

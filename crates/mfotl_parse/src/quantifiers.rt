@@ -10,7 +10,7 @@ ghost use Rattle.mfotl_parse.specs.Views.{context_of, GoesOn};
 use crate::class::{Class, Quantifier};
 use crate::fault::PolicyFault;
 use crate::frame::Frame;
-use crate::state::{Context, Stage};
+use crate::state::{BindingStage, Context, Stage};
 use mfotl_lex::Token;
 use mfotl_model::Name;
 use std::alloc::Global;
@@ -36,7 +36,7 @@ impl Context {
             }
             Class::Question => {
                 self.enter(at)?;
-                Ok(Stage::AfterVariableMark(quantifier, at))
+                Ok(Stage::InBinding(quantifier, BindingStage::AfterVariableMark(at)))
             }
             _ => Err(PolicyFault::Syntax(at)),
         }
@@ -71,7 +71,7 @@ impl Context {
             (given token.now.at (quantifiers.bound_move (context_of self.old) quantifier class)) }
     {
         match class {
-            Class::Comma => Ok(Stage::ExpectVariable(quantifier)),
+            Class::Comma => Ok(Stage::InBinding(quantifier, BindingStage::ExpectVariable)),
             Class::Dot => Ok(Stage::ExpectOperand),
             _ => Err(PolicyFault::Syntax(token.at as u64)),
         }
@@ -89,6 +89,6 @@ impl Context {
         let name = Name::from_slice(alloc, name)?;
         let place = self.names.bind(None)?;
         self.push(Frame::Binding(quantifier, place, name))?;
-        Ok(Stage::AfterVariable(quantifier))
+        Ok(Stage::InBinding(quantifier, BindingStage::AfterVariable))
     }
 }

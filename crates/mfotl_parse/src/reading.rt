@@ -10,8 +10,9 @@ ghost use Rattle.mfotl_parse.specs.Reading.{step, with_token, ended_at, reading_
 ghost use Rattle.mfotl_parse.specs.States.{nothing_read};
 ghost use Rattle.mfotl_parse.specs.WellSorted.{IsWellSorted};
 ghost use Rattle.mfotl_parse.specs.Views.{context_of, stage_of, partial_of, with_next, policy_of};
-ghost use Rattle.mfotl_parse.specs.Views.{GoesOn, Gives, LeavesBehind, ReadAll};
+ghost use Rattle.mfotl_parse.specs.Views.{Gives, LeavesBehind, ReadAll};
 
+use crate::advance::advance;
 use crate::class::class_of;
 use crate::ending::close;
 use crate::fault::PolicyFault;
@@ -34,6 +35,7 @@ impl<'a> Parser<'a> {
     }
 
     /// Takes the next token.
+    #[tactic(auto, unfolding(crate::specs::Reading::step, crate::specs::Reading::transition))]
     fn step(
         &mut self,
         alloc: Global,
@@ -43,7 +45,8 @@ impl<'a> Parser<'a> {
         ensures { LeavesBehind result self.new (step signature.now (partial_of self.old) (lexeme token.now)) }
     {
         let now = mem::replace(&mut self.now, Stage::ExpectOperand);
-        match advance(alloc, &mut self.context, signature, now, token) {
+        let class = class_of(token);
+        match advance(alloc, &mut self.context, signature, now, token, class) {
             Ok(next) => {
                 self.now = next;
                 Ok(())
@@ -110,60 +113,6 @@ impl<'a> Parser<'a> {
             Stage::AfterOperand(formula) => close(alloc, &mut self.context, formula, end),
             _ => Err(PolicyFault::Syntax(end)),
         }
-    }
-}
-
-/// What may come behind the next token.
-#[tactic(auto, unfolding(crate::specs::Reading::step, crate::specs::Reading::transition, crate::specs::Views::stage_of))]
-fn advance<'a>(
-    alloc: Global,
-    context: &mut Context,
-    signature: &'a Signature,
-    now: Stage<'a>,
-    token: &Token<'a>,
-) -> Result<Stage<'a>, PolicyFault>
-    ensures { GoesOn result context.new (step signature.now
-        (record { context = context_of context.old; now = stage_of now.entry }) (lexeme token.now)) }
-{
-    let class = class_of(token);
-    match now {
-        Stage::ExpectOperand => context.operand(alloc, token, class),
-        Stage::AfterTemporal => context.fresh(alloc, token, class),
-        Stage::AfterOperand(formula) => context.have(alloc, formula, token, class),
-        Stage::AfterWord(at, name) => context.word(alloc, signature, at, name, token, class),
-        Stage::AfterBlank(at) => context.blank(alloc, signature, at, token, class),
-        Stage::AfterMark(mark) => context.marked(alloc, mark, token, class),
-        Stage::ExpectSign(left) => context.compared(left, token, class),
-        Stage::AfterSign(left, at, sign) => context.against(alloc, left, at, sign, token, class),
-        Stage::AfterSignMark(left, at, sign, mark) => {
-            context.against_marked(alloc, left, at, sign, mark, token, class)
-        }
-        Stage::FirstArgument(call) => context.first_argument(alloc, call, token, class),
-        Stage::NextArgument(call) => context.argument(alloc, call, token, class),
-        Stage::AfterArgument(call) => context.after_argument(alloc, call, token, class),
-        Stage::AfterArgumentMark(call, mark) => context.marked_argument(
-            alloc, call, mark, token, class,
-        ),
-        Stage::ExpectVariable(quantifier) => context.binder(alloc, quantifier, token, class),
-        Stage::AfterVariableMark(quantifier, _) => context.binder_marked(
-            alloc, quantifier, token, class,
-        ),
-        Stage::AfterVariable(quantifier) => context.bound(quantifier, token, class),
-        Stage::AfterParen(start) => context.maybe(alloc, start, token, class),
-        Stage::AfterParenNumber(start, at, number) => context.maybe_number(
-            start, at, number, token, class,
-        ),
-        Stage::ExpectLow(start) => context.low(start, token, class),
-        Stage::AfterLowNumber(start, at, number) => context.low_number(
-            start, at, number, token, class,
-        ),
-        Stage::AfterLow(start, low) => context.low_done(start, low, token, class),
-        Stage::ExpectHigh(start, low) => context.high(start, low, token, class),
-        Stage::AfterHighNumber(start, low, at, number) => {
-            context.high_number(start, low, at, number, token, class)
-        }
-        Stage::AfterHigh(start, low, high) => context.bracket(start, low, high, token, class),
-        Stage::AfterStar(_, low) => context.endless(low, token, class),
     }
 }
 

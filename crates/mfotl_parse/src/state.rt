@@ -40,25 +40,47 @@ pub enum Stage<'a> {
     AfterSign(Side, u64, Sign),
     /// Behind `?` there.
     AfterSignMark(Side, u64, Sign, u64),
-    /// Behind an atom's `(`.
-    FirstArgument(Call<'a>),
+    /// Within an atom's parentheses.
+    InCall(Call<'a>, CallStage),
+    /// Among a quantifier's variables.
+    InBinding(Quantifier, BindingStage),
+    /// Behind a temporal operator, where an interval begins or may begin.
+    InInterval(IntervalStage),
+}
+
+/// What may come next within an atom's parentheses.
+#[derive(Clone, Copy)]
+pub enum CallStage {
+    /// Behind the `(`.
+    FirstArgument,
     /// Behind a comma between arguments.
-    NextArgument(Call<'a>),
+    NextArgument,
     /// Behind an argument.
-    AfterArgument(Call<'a>),
-    /// Behind `?` where an argument begins.
-    AfterArgumentMark(Call<'a>, u64),
-    /// A quantified variable.
-    ExpectVariable(Quantifier),
+    AfterArgument,
+    /// Behind `?`, which stands at the offset, where an argument begins.
+    AfterArgumentMark(u64),
+}
+
+/// What may come next among a quantifier's variables.
+#[derive(Clone, Copy)]
+pub enum BindingStage {
+    /// A variable.
+    ExpectVariable,
     /// Behind its `?`.
-    AfterVariableMark(Quantifier, u64),
-    /// Behind a quantified variable.
-    AfterVariable(Quantifier),
-    /// Behind `(` behind a temporal operator.
+    AfterVariableMark(u64),
+    /// Behind a variable.
+    AfterVariable,
+}
+
+/// What may come next in an interval. Each begins with the offset of the bracket; each further number is an offset
+/// unless its variant says otherwise.
+#[derive(Clone, Copy)]
+pub enum IntervalStage {
+    /// Behind `(` behind a temporal operator: an interval or an operand.
     AfterParen(u64),
     /// An Integer behind that, with its offset and its value.
     AfterParenNumber(u64, u64, i64),
-    /// Behind the `[` of an interval. Each of the following begins with the offset of the bracket.
+    /// Behind the `[` of an interval.
     ExpectLow(u64),
     /// The lower bound's Integer, with its offset and value.
     AfterLowNumber(u64, u64, u64),
