@@ -16,11 +16,38 @@ ghost use Rattle.state_split.specs.Splits.{AreNumbered, IsNumbered, IsSplit, Pie
 use crate::both::Both;
 use crate::nodes::cut_nodes;
 use crate::shares::{copies, paired};
+use crate::sorter::Sorter;
 use monitor_state::{Monitor, Piece, State};
 use slice_strategy::Slicer;
 use std::alloc::{AllocError, Global};
 
-// The state's cut for each worker of the next strategy.
+// The state's cut for each worker.
+fn cut_state<S: Sorter>(
+    alloc: Global,
+    sorter: &S,
+    state: State,
+) -> Result<Vec<State>, AllocError>
+    requires { S.tells sorter.now }
+    ensures { IfOk result (λ cuts. OneEach (S.count sorter.now)
+        (λ k cut. NodesFit state.nodes.items → StateCut (S.region sorter.now k) state cut) cuts.items) }
+{
+    let taken = state.taken;
+    let given = state.given;
+    let times = copies(alloc, &state.times, sorter.workers())?;
+    let cuts = cut_nodes(alloc, sorter, state.nodes)?;
+    let pairs = paired(alloc, times, cuts)?;
+    pairs
+        .into_iter()
+        .map(|(times, nodes)| State {
+            taken,
+            given,
+            times,
+            nodes,
+        })
+        .collect(alloc)
+}
+
+// A piece with the state's cut for each worker of the next strategy.
 fn pieces_of<S: Slicer, S2: Slicer>(
     alloc: Global,
     state: State,
@@ -36,29 +63,20 @@ fn pieces_of<S: Slicer, S2: Slicer>(
 {
     let count = strategy.workers();
     let workers = next.workers();
-    let taken = state.taken;
-    let given = state.given;
     let both = Both {
         present: strategy,
         from,
         next,
     };
-    let cuts = cut_nodes(alloc, &both, state.nodes)?;
-    let times = copies(alloc, &state.times, workers)?;
-    let pairs = paired(alloc, times, cuts)?;
+    let states = cut_state(alloc, &both, state)?;
     (0..workers)
-        .zip(pairs)
-        .map(|(to, (times, nodes))| Piece {
+        .zip(states)
+        .map(|(to, state)| Piece {
             generation,
             from,
             to,
             count,
-            state: State {
-                taken,
-                given,
-                times,
-                nodes,
-            },
+            state,
         })
         .collect(alloc)
 }

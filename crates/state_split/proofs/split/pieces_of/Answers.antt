@@ -3,30 +3,28 @@ use Rattle.std.proofs.lemmas.Iterator.{YieldsList-from_map, YieldsList-from_rang
 use Rattle.std.proofs.lemmas.Iterator.{items_from_collect}
 use Rattle.std.proofs.lemmas.Iterator.Adapters.{YieldsList-from_vec}
 use Rattle.std.proofs.lemmas.Iterator.Consumers.{YieldsList-at}
-use Rattle.state_split.proofs.ShareLemmas.{each_copied, each_numbered, each_paired}
+use Rattle.state_split.proofs.ShareLemmas.{each_numbered}
 use Rattle.state_split.proofs.split.pieces_of.Goals as goal
 
 pub returns : goal.returns
 returns g c =
     let n = c.workers-workers.result in
-    let pairs = c.in_ok-pairs.pairs in
+    let states = c.in_ok-states.states in
     each_numbered n _ _ _ (λ e. record {
       generation = c.args.generation;
       from = c.args.from;
       to = e.0;
       count = c.workers-count.result;
-      state = record { taken = c.args.state.taken; given = c.args.state.given; times = e.1.0; nodes = e.1.1 };
-    }) pairs.items c.collect.result c.workers-workers.ensures.count
+      state = e.1;
+    }) states.items c.collect.result c.workers-workers.ensures.count
     (items_from_collect _ c.collect.ensures.ran
     (YieldsList-from_map _ _
     (YieldsList-at c.map.ensures.source
     (YieldsList-from_zip (YieldsList-from_range 0 n n c.zip.ensures.first (omega arith))
-    (YieldsList-from_vec pairs.items c.zip.ensures.second.0 (c.zip.ensures.second.1 ∙ pairs.ok.0))))
+    (YieldsList-from_vec states.items c.zip.ensures.second.0 (c.zip.ensures.second.1 ∙ states.ok.0))))
     c.map.ensures.closure (λ x y q k. search rules)))
     (λ to x is. (
       record { generation = refl; from = refl; to = refl; count = c.workers-count.ensures.count },
-      λ fit. record { taken = refl; given = refl; times = is.0 ∙ c.deref.ensures.value; nodes = is.1 fit },
+      is,
     ))
-    (each_paired _ _ _ c.in_ok-times.times.items c.in_ok-cuts.cuts.items pairs.items
-    (each_copied (λ v. v.items) c.deref.result.now n _ c.in_ok-times.times.items c.workers-workers.ensures.count
-    c.in_ok-times.ensures) c.in_ok-cuts.ensures c.in_ok-pairs.ensures)
+    c.in_ok-states.ensures

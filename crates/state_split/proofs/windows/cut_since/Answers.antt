@@ -14,9 +14,9 @@ returns g c =
     each_collected _ _ _
     (λ e. Since (record { interval = c.args.since.interval; columns = e.0; kept = e.1 }))
     c.in_ok-pairs.pairs.items _ c.collect.result
-    (each_paired _ _ _ c.in_ok-columns.columns.items c.in_ok-kept.kept.items c.in_ok-pairs.pairs.items
-    (each_copied (λ v. v.items) c.deref-2.result.now _ _ c.in_ok-columns.columns.items c.workers.ensures.count
-    c.in_ok-columns.ensures) c.in_ok-kept.ensures c.in_ok-pairs.ensures)
+    (each_paired _ _ _ c.in_ok-lists.lists.items c.in_ok-kept.kept.items c.in_ok-pairs.pairs.items
+    (each_copied (λ v. v.items) c.deref-2.result.now _ _ c.in_ok-lists.lists.items c.workers.ensures.count
+    c.in_ok-lists.ensures) c.in_ok-kept.ensures c.in_ok-pairs.ensures)
     c.collect.ensures.ran c.map.ensures.source c.into_iter.ensures.rest
     (c.into_iter.ensures.len ∙ c.in_ok-pairs.pairs.ok.0) c.map.ensures.closure (λ x y q k. search rules)
     (λ k x is fits. record {

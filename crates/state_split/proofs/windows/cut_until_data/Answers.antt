@@ -15,9 +15,7 @@ returns g c =
     })
     c.in_ok-pairs.pairs.items _ c.collect.result
     (each_paired _ _ _ c.in_ok-operands.operands.items c.in_ok-entries.entries.items c.in_ok-pairs.pairs.items
-    c.in_ok-operands.ensures
-    (each_paired _ _ _ c.in_ok-starts.starts.items c.in_ok-rows.rows.items c.in_ok-entries.entries.items
-    c.in_ok-starts.ensures c.in_ok-rows.ensures c.in_ok-entries.ensures) c.in_ok-pairs.ensures)
+    c.in_ok-operands.ensures c.in_ok-entries.ensures c.in_ok-pairs.ensures)
     c.collect.ensures.ran c.map.ensures.source c.into_iter.ensures.rest
     (c.into_iter.ensures.len ∙ c.in_ok-pairs.pairs.ok.0) c.map.ensures.closure (λ x y q k. search rules)
     (λ k x is. record {
