@@ -22,11 +22,7 @@ use slice_strategy::Slicer;
 use std::alloc::{AllocError, Global};
 
 // The state's cut for each worker.
-fn cut_state<S: Sorter>(
-    alloc: Global,
-    sorter: &S,
-    state: State,
-) -> Result<Vec<State>, AllocError>
+fn cut_state<S: Sorter>(alloc: Global, sorter: &S, state: State) -> Result<Vec<State>, AllocError>
     requires { S.tells sorter.now }
     ensures { IfOk result (λ cuts. OneEach (S.count sorter.now)
         (λ k cut. NodesFit state.nodes.items → StateCut (S.region sorter.now k) state cut) cuts.items) }
