@@ -23,7 +23,6 @@ use Rattle.monitor_state.specs.Constants.{stands_alone}
 use Rattle.monitor_state.specs.Going.{AllPremises, Going, Works}
 use Rattle.monitor_state.specs.Nodes.{children, filters, left_operand, nodes_in, nodes_of, operands, window_operands}
 use Rattle.monitor_state.specs.Nodes.{posed, without_last}
-use Rattle.monitor_state.specs.Stacks.{Pops}
 use Rattle.monitor_state.specs.Stands.{NodesStand}
 use Rattle.monitor_state.specs.Steps.{TakesPoint, News, Premises, StackNews, longer}
 use Rattle.monitor_state.specs.declared.node.Node.{Node}
@@ -577,55 +576,74 @@ turn view point given whole done todo stack rest items tables node new old (f �
     }
 
 -- one node more takes the time-point
-pub going_turns : (view : View) (point given : TimePoint) (whole : CoreForm) (nodes : List Node) (n : ℕ)
+pub going_turns : (view : View) (point given : TimePoint) (whole : CoreForm) (nodes behind : List Node) (n : ℕ)
     (stack rest items : List (List TableOf))
     (tables : List TableOf) (default new : Node) → n < length nodes
-    → Going view point given whole (take n nodes) (drop n nodes) stack
+    → Going view point given whole (take n nodes) (drop n nodes ++ behind) stack
     → TakesPoint (get_or nodes n default) given stack new rest tables → items ≡ rest ++ tables ∷ []
-    → Going view point given whole (take (n + 1) (set nodes n new)) (drop (n + 1) (set nodes n new)) items
-going_turns view point given whole nodes n stack rest items tables default new inside going advances pushed =
+    → Going view point given whole (take (n + 1) (set nodes n new)) (drop (n + 1) (set nodes n new) ++ behind) items
+going_turns view point given whole nodes behind n stack rest items tables default new inside going advances pushed =
     let node : Node = get_or nodes n default in
     let cons : drop n nodes ≡ get_or nodes n default ∷ drop (suc n) nodes = drop-cons nodes n default inside in
     let front : take n nodes ++ new ∷ [] ≡ take (n + 1) (set nodes n new) =
     sym (take-suc-set nodes n new inside) ∙ ap (λ k. take k (set nodes n new)) (sym (add-one n)) in
     let back : drop (suc n) nodes ≡ drop (n + 1) (set nodes n new) =
     ap (λ k. drop k nodes) (sym (add-one n)) ∙ sym (drop-set-lt (n + 1) nodes n new (omega arith)) in
-    subst (λ xs. Going view point given whole xs (drop (n + 1) (set nodes n new)) items) front
-    (subst (λ xs. Going view point given whole (take n nodes ++ new ∷ []) xs items) back
-    (turn view point given whole (take n nodes) (drop (suc n) nodes) stack rest items tables node new
+    subst (λ xs. Going view point given whole xs (drop (n + 1) (set nodes n new) ++ behind) items) front
+    (subst (λ xs. Going view point given whole (take n nodes ++ new ∷ []) (xs ++ behind) items) back
+    (turn view point given whole (take n nodes) (drop (suc n) nodes ++ behind) stack rest items tables node new
     going.old going.next going.pending going.all going.took
-    (subst (NodesStand view going.next) cons going.take)
+    (subst (λ xs. NodesStand view going.next (xs ++ behind)) cons going.take)
     going.works going.premises going.news advances pushed))
 
-top_only : (view : View) (point : TimePoint) (f : CoreForm) (stack rest : List (List TableOf)) (top : List TableOf)
-    → StackNews view point (f ∷ []) stack → Pops stack rest top → News view point f top
-top_only view point f [] rest top news pops = absurd news
-top_only view point f (tables ∷ []) rest top news pops =
-    subst (News view point f) (sym (pops [] tables refl).1) news.0
-top_only view point f (tables ∷ next ∷ more) rest top news pops = absurd news.1
+-- all nodes of a list took the time-point, and those behind are still to
+pub going_behind : (view : View) (point given : TimePoint) (whole : CoreForm) (nodes behind : List Node) (n : ℕ)
+    (stack : List (List TableOf)) → length nodes ≤ n
+    → Going view point given whole (take n nodes) (drop n nodes ++ behind) stack
+    → Going view point given whole nodes behind stack
+going_behind view point given whole nodes behind n stack all going =
+    subst (λ xs. Going view point given whole xs behind stack) (take_all n nodes all)
+    (subst (λ xs. Going view point given whole (take n nodes) (xs ++ behind) stack) (drop_all n nodes all) going)
 
-ended : (view : View) (point given : TimePoint) (whole : CoreForm) (done : List Node) (stack rest : List (List TableOf))
+top_only : (view : View) (point : TimePoint) (f : CoreForm) (rest : List (List TableOf)) (top : List TableOf)
+    → StackNews view point (f ∷ []) (rest ++ top ∷ []) → News view point f top
+top_only view point f [] top news = news.0
+top_only view point f (tables ∷ []) top news = absurd news.1
+top_only view point f (tables ∷ next ∷ more) top news = absurd news.1
+
+ended : (view : View) (point given : TimePoint) (whole : CoreForm) (done : List Node) (rest : List (List TableOf))
     (top : List TableOf)
     (old next pending : List CoreForm) → nodes_of whole ≡ old ++ next
     → NodesStand (longer view point) old done → NodesStand view next []
-    → Works (posed whole) pending next → StackNews view point pending stack → Pops stack rest top
+    → Works (posed whole) pending next → StackNews view point pending (rest ++ top ∷ [])
     → NodesStand (longer view point) (nodes_of whole) done × News view point whole top
-ended view point given whole done stack rest top old (f ∷ next) pending all took take works news pops = absurd take
-ended view point given whole done stack rest top old [] pending all took take works news pops = (
+ended view point given whole done rest top old (f ∷ next) pending all took take works news = absurd take
+ended view point given whole done rest top old [] pending all took take works news = (
   subst (λ fs. NodesStand (longer view point) fs done) (sym (all ∙ append-nil old)) took,
   news_posed view point whole top
-      (top_only view point (posed whole) stack rest top (subst (λ fs. StackNews view point fs stack) works news) pops),
+      (top_only view point (posed whole) rest top (subst (λ fs. StackNews view point fs (rest ++ top ∷ [])) works news)),
 )
 
--- the step ends
-pub going_ends : (view : View) (point given : TimePoint) (whole : CoreForm) (nodes : List Node) (n : ℕ)
+-- the last node takes the time-point, and the step ends
+pub going_ends : (view : View) (point given : TimePoint) (whole : CoreForm) (before : List Node) (last new : Node)
     (stack rest : List (List TableOf))
-    (top : List TableOf) → length nodes ≤ n → Going view point given whole (take n nodes) (drop n nodes) stack
-    → Pops stack rest top
-    → NodesStand (longer view point) (nodes_of whole) nodes × News view point whole top
-going_ends view point given whole nodes n stack rest top all going pops =
-    let is_whole : take n nodes ≡ nodes = take_all n nodes all in
-    let both = ended view point given whole (take n nodes) stack rest top going.old going.next going.pending going.all
-    going.took
-    (subst (NodesStand view going.next) (drop_all n nodes all) going.take) going.works going.news pops in
-    (subst (NodesStand (longer view point) (nodes_of whole)) is_whole both.0, both.1)
+    (top : List TableOf) → Going view point given whole before (last ∷ []) stack
+    → TakesPoint last given stack new rest top
+    → NodesStand (longer view point) (nodes_of whole) (before ++ new ∷ []) × News view point whole top
+going_ends view point given whole before last new stack rest top going advances =
+    let turned = turn view point given whole before [] stack rest (rest ++ top ∷ []) top last new going.old going.next
+    going.pending going.all going.took going.take going.works going.premises going.news advances refl in
+    ended view point given whole (before ++ new ∷ []) rest top turned.old turned.next turned.pending turned.all
+    turned.took turned.take turned.works turned.news
+
+idle : (view : View) (point : TimePoint) (goal : CoreForm) (next pending : List CoreForm) → NodesStand view next []
+    → Works goal pending next → StackNews view point pending []
+    → ⊥
+idle view point goal (f ∷ next) pending take works news = absurd take
+idle view point goal [] pending take works news = absurd (subst (λ fs. StackNews view point fs []) works news)
+
+-- a core has a node
+pub going_somewhere : (view : View) (point given : TimePoint) (whole : CoreForm) → Going view point given whole [] [] []
+    → ⊥
+going_somewhere view point given whole going =
+    idle view point (posed whole) going.next going.pending going.take going.works going.news

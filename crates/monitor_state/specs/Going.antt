@@ -34,6 +34,12 @@ pub record Going (view : View) (point given : TimePoint) (whole : CoreForm) (don
   pub premises : AllPremises view point given whole next
   pub news : StackNews view point pending stack
 
+-- the first nodes take a time-point, whichever ones are behind them, and their tables are left on the stack
+abbrev pub FirstAdvance : List Node → List (List TableOf) → TimePoint → List Node → List (List TableOf) → Type 0
+FirstAdvance old stack given new left =
+    (view : View) (point : TimePoint) (core : CoreForm) (behind : List Node)
+    → Going view point given core [] (old ++ behind) stack → Going view point given core new behind left
+
 -- all nodes take a time-point, and the tables of the core are given
 abbrev pub AllAdvance : List Node → TimePoint → List Node → List TableOf → Type 0
 AllAdvance old given new tables =

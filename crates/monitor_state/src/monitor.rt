@@ -3,7 +3,7 @@ ghost use Rattle.std.specs.Prelude.{◌≡◌, ◌^◌, ◌<◌, ◌≤◌, ◌+
 ghost use Rattle.mfotl_model.specs.Exact.{View};
 ghost use Rattle.monitorable.specs.Cores.{core_form};
 ghost use Rattle.monitor_state.specs.Beginnings.{Begins};
-ghost use Rattle.monitor_state.specs.Going.{AllAdvance};
+ghost use Rattle.monitor_state.specs.Going.{AllAdvance, FirstAdvance};
 ghost use Rattle.monitor_state.specs.MonitorView.{monitor_of};
 ghost use Rattle.monitor_state.specs.Resuming.{Resumes};
 ghost use Rattle.monitor_state.specs.Stands.{Stands};
@@ -16,7 +16,6 @@ use crate::kept_times::KeptTimes;
 use crate::node::Node;
 use crate::recording::nodes_data;
 use crate::resume_nodes::nodes_resumed;
-use crate::stack::popped;
 use crate::stamps::{longest, times_behind};
 use crate::state::State;
 use crate::tables::Tables;
@@ -172,8 +171,8 @@ fn keep_time(times: &mut VecDeque<u64>, past: u64, ts: u64) -> Result<(), AllocE
     Ok(())
 }
 
-// All nodes take the time-point, one after the other. The last one's tables are the core's. What lies on the stack
-// before is dropped.
+// All nodes take the time-point, one after the other. The last one's tables are the core's, and aren't put on the
+// stack. What lies there before is dropped.
 fn advanced(
     alloc: Global,
     nodes: &mut Vec<Node>,
@@ -183,9 +182,27 @@ fn advanced(
     ensures { IfOk result (AllAdvance nodes.old.items point.now nodes.new.items) }
 {
     stack.clear();
+    match nodes.split_last_mut() {
+        Some((last, before)) => {
+            advance_before(alloc, before, stack, point)?;
+            last.advance(alloc, point, stack)
+        }
+        None => Ok(Tables::new(alloc)),
+    }
+}
+
+// The nodes before the last one take the time-point, one after the other, and leave their tables on the stack.
+fn advance_before(
+    alloc: Global,
+    nodes: &mut [Node],
+    stack: &mut Vec<Tables>,
+    point: &TimePoint,
+) -> Result<(), AllocError>
+    ensures { OnOk result (FirstAdvance nodes.old stack.old.items point.now nodes.new stack.new.items) }
+{
     for node in nodes.iter_mut() {
         let tables = node.advance(alloc, point, stack)?;
         stack.push(tables)?;
     }
-    Ok(popped(alloc, stack))
+    Ok(())
 }
