@@ -1,4 +1,4 @@
-use Rattle.std.proofs.Common.{◌≡◌, sym, ap, ◌∙◌}
+use Rattle.std.proofs.Common.{sym, ap, ◌∙◌}
 use Rattle.mfotl_model.specs.FreeVariables.{among}
 use Rattle.monitorable.specs.CoreForms.{node_form}
 use Rattle.monitorable.specs.Fragment.{bound_by}

@@ -1,4 +1,4 @@
-use Rattle.std.proofs.Common.{rules, ◌<◌, ◌≤◌, ◌+◌, ◌*◌, ◌&&◌, ◌≡◌, true, subst, sym, ap, ◌∷◌, [], ◌++◌, ◌∙◌, arith}
+use Rattle.std.proofs.Common.{rules, ◌<◌, ◌≤◌, ◌+◌, ◌*◌, ◌&&◌, ◌≡◌, true, subst, sym, ap, ◌++◌, ◌∙◌, arith}
 use Rattle.std.proofs.lemmas.Result.{on_ok_weaker}
 use Rattle.monitorable.specs.CoreForms.{node_form, And, Exists, Not, Next, Or, Previous, Since, Until}
 use Rattle.monitorable.specs.NodeCount.{nodes}

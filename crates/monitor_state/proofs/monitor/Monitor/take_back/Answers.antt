@@ -1,8 +1,7 @@
-use Rattle.std.proofs.Common.{◌∙◌, ◌-◌, ap, length, slice_set}
+use Rattle.std.proofs.Common.{◌∙◌, ◌-◌, ap, slice_set}
 use Rattle.std.proofs.lemmas.List.{set-get_or}
 use Rattle.std.specs.Vec.{vec_len}
 use Rattle.monitorable.specs.Cores.{core_form}
-use Rattle.monitor_state.specs.MonitorView.{MonitorOf}
 use Rattle.monitor_state.proofs.monitor.Monitor.take_back.Goals as goal
 
 -- The last node is put back as it was.
