@@ -55,8 +55,8 @@ by_number (suc n) a b (x ∷ xs) (y ∷ ys) p q g h =
 -- eight bytes spell the number that is read from them
 spelt : (xs : List ℕ) → 8 ≤ length xs → from_be_bytes w64 (take 8 xs) ≡ big_endian 0 (take 8 xs)
 spelt (a ∷ b ∷ c ∷ d ∷ e ∷ f ∷ g ∷ h ∷ xs) le =
-    let sum : a * 72057594037927936 + b * 281474976710656 + c * 1099511627776 + d * 4294967296 + e * 16777216 + f * 65536
-    + g * 256 + h ≡ big_endian 0 (a ∷ b ∷ c ∷ d ∷ e ∷ f ∷ g ∷ h ∷ []) = omega arith in
+    let sum : a * 72057594037927936 + b * 281474976710656 + c * 1099511627776 + d * 4294967296 + e * 16777216
+    + f * 65536 + g * 256 + h ≡ big_endian 0 (a ∷ b ∷ c ∷ d ∷ e ∷ f ∷ g ∷ h ∷ []) = omega arith in
     sum
 spelt [] le = absurd (omega arith)
 spelt (a ∷ []) le = absurd (omega arith)
@@ -79,7 +79,8 @@ first_eight xs ys front rest other more a b g h r e =
     let q : 8 ≤ length ys = omega (arith, b.2) in
     by_number 8 0 0 xs ys p q g h
     ∙ sym (λ i. ordering_then (nat_cmp (spelt xs p i) (spelt ys q i)) (text_cmp (drop 8 xs) (drop 8 ys)))
-    ∙ sym (λ i. ordering_then (nat_cmp (from_be_bytes w64 (a.0 i)) (from_be_bytes w64 (b.0 i))) (text_cmp (a.1 i) (b.1 i)))
+    ∙ sym (λ i. ordering_then (nat_cmp (from_be_bytes w64 (a.0 i)) (from_be_bytes w64 (b.0 i)))
+    (text_cmp (a.1 i) (b.1 i)))
     ∙ sym (ap (λ s. ordering_then s (text_cmp rest more)) e)
 
 pub bytes_behind : (xs front rest : List ℕ) → Cut xs front rest → Bytes xs → Bytes rest
