@@ -228,14 +228,6 @@ list_next row u cur new rest step before =
     ap (λ b. b || rest) step ∙ or_assoc cur (is_at (row_cmp row) u) rest
     ∙ ap (λ b. cur || (b || rest)) (sym ((eq_by_cmp_equiv row_total).symm u row)) ∙ before
 
--- by no columns none need be listed
-pub none_listed : (right : List ℕ) (keyed : KeyedRows) (rows : List (List Value × List Entry)) → keyed.columns ≡ []
-    → Listed right keyed rows
-none_listed right keyed rows none u =
-    each_of (is_listed right keyed u) (list_for rows u)
-    (or_left (nat_eq (length keyed.columns) 0) (has_row (list_for keyed.sets (part right keyed.columns u)) u)
-    (ap (λ (columns : List ℕ). nat_eq (length columns) 0) none))
-
 -- a row that meets UNTIL is listed
 met_listed : (interval : Interval) (i x : ℕ) (b : Bool) (es : List Entry) → met_by interval i x es ≡ true
     → list_all (λ e. b) es ≡ true → b ≡ true

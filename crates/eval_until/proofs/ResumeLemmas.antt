@@ -1,27 +1,22 @@
--- What UNTIL keeps with given starts and entries, and that look-ups alone tell whether a state is right.
+-- What UNTIL keeps with given starts and entries, and that maps with the same look-ups keep alike.
 use Rattle.std.proofs.Common.{◌≡◌, ℕ, ◌+◌, ◌-◌, ◌<◌, ◌≤◌, Bool, true, false, cond, nat_eq, nat_le, nat_lt, ◌&&◌}
-use Rattle.std.proofs.Common.{◌||◌, List, [], ◌∷◌, length, map, Option, Some, None, refl, sym, subst, ap}
+use Rattle.std.proofs.Common.{◌||◌, List, [], ◌∷◌, length, Option, Some, None, refl, sym, subst, ap}
 use Rattle.std.proofs.Common.{◌∙◌, arith}
 use Rattle.std.proofs.lemmas.Bool.{and_from, and_parts, or_left, or_right}
 use Rattle.std.proofs.lemmas.Bool.Decides.{nat_tests}
 use Rattle.std.specs.BTreeMap.{is_at}
 use Rattle.std.specs.List.{AllByRecursion, list_all, list_any}
 use Rattle.std.specs.Option.{IfSome, unwrap_or}
-use Rattle.mfotl_model.specs.Satisfaction.{Valuation, time_at}
-use Rattle.mfotl_model.specs.Tables.{TableOf, all_apart, has_row}
+use Rattle.mfotl_model.specs.Tables.{all_apart, has_row}
 use Rattle.mfotl_model.specs.Values.{row_cmp}
-use Rattle.mfotl_model.specs.declared.interval.Interval.{Interval}
 use Rattle.mfotl_model.specs.declared.value.Value.{Value}
 use Rattle.relations.specs.KeptRows.{RowsAscend, kept_for, list_for}
 use Rattle.relations.proofs.KeptLemmas.{each_kept}
 use Rattle.relations.proofs.QueueLemmas.{all_own, any_with}
 use Rattle.relations.proofs.TestLemmas.{all_weaker}
-use Rattle.eval_until.specs.AheadView.{AheadOf}
-use Rattle.eval_until.specs.Entries.{met_by}
 use Rattle.eval_until.specs.Keeping.{Keeps, Rising, Sized, breaks_before, names}
 use Rattle.eval_until.specs.Recalled.{run_begins, is_recalled}
 use Rattle.eval_until.specs.Rules.{Ascending, NoneEmpty, PlacesAscend, StartsAbove, StartsBelow, Waiting}
-use Rattle.eval_until.specs.UntilView.{Follows, FollowsLeft}
 use Rattle.eval_until.specs.declared.contents.Taken.{Taken}
 use Rattle.eval_until.specs.declared.entries.Entry.{Entry}
 
@@ -174,40 +169,6 @@ pub each_some : (rows : List (List Value × List Entry)) → RowsAscend rows →
 each_some rows up some = each_kept (λ u es. 0 < length es) rows up (λ u es is.
     subst (λ (o : Option (List Entry)). IfSome o (λ fs. 0 < length fs)) is (some u))
 
--- a state whose starts are found alike is right on the left side where the other is
-pub left_alike : (k m : AheadOf) (times ts : List ℕ) (lefts rights rs : List TableOf) (a : List Bool) (v : Valuation)
-    → m ≡ record k { starts = m.starts; rows = m.rows }
-    → ((w : List Value) → kept_for m.starts w ≡ kept_for k.starts w)
-    → FollowsLeft (record { ahead = k; times = times; lefts = lefts; rights = rights }) a v
-    → FollowsLeft (record { ahead = m; times = ts; lefts = lefts; rights = rs }) a v
-left_alike k m times ts lefts rights rs a v shape same f =
-    subst (λ (n : AheadOf). FollowsLeft (record { ahead = n; times = ts; lefts = lefts; rights = rs }) a v) (sym shape)
-    (record {
-      lefts = f.lefts;
-      runs = λ i low. ap (λ o. nat_le (unwrap_or o (cond k.negated 0 k.taken)) i) (same (map v k.left)) ∙ f.runs i low;
-    })
-
--- the same for both sides
-pub follows_alike : (k m : AheadOf) (times : List ℕ) (lefts rights : List TableOf) (t : List ℕ) (a b : List Bool)
-    (v : Valuation)
-    → m ≡ record k { starts = m.starts; rows = m.rows }
-    → ((w : List Value) → kept_for m.starts w ≡ kept_for k.starts w)
-    → ((u : List Value) → kept_for m.rows u ≡ kept_for k.rows u)
-    → Follows (record { ahead = k; times = times; lefts = lefts; rights = rights }) t a b v
-    → Follows (record { ahead = m; times = times; lefts = lefts; rights = rights }) t a b v
-follows_alike k m times lefts rights t a b v shape starts rows f =
-    subst (λ (n : AheadOf). Follows (record { ahead = n; times = times; lefts = lefts; rights = rights }) t a b v)
-    (sym shape)
-    (record {
-      left = left_alike k (record k { starts = m.starts; rows = m.rows }) times times lefts rights rights a v refl
-          starts f.left;
-      long = f.long;
-      times = f.times;
-      rights = f.rights;
-      window = λ i low. ap (λ o. met_by k.interval i (time_at t i) (unwrap_or o [])) (rows (map v k.right))
-          ∙ f.window i low;
-    })
-
 -- maps with the same look-ups keep the same rules
 pub sized_as : (n : ℕ) (rows new : List (List Value × List Entry))
     → ((u : List Value) → kept_for new u ≡ kept_for rows u)
@@ -257,39 +218,3 @@ keeps_alike negated right pulled taken starts more rows new queue starts_same ro
       after = keeps.after;
       fresh = keeps.fresh;
     }
-
--- what is kept over the same columns
-pub shape_of : (m : AheadOf) (interval : Interval) (left own_left right own_right : List ℕ) (negated : Bool)
-    (pulled taken : ℕ) (starts : List (List Value × ℕ)) (rows : List (List Value × List Entry))
-    → m ≡ record {
-      interval = interval;
-      left = own_left;
-      right = own_right;
-      negated = negated;
-      pulled = pulled;
-      taken = taken;
-      starts = starts;
-      rows = rows;
-    }
-    → own_left ≡ left → own_right ≡ right
-    → m ≡ record {
-      interval = interval;
-      left = left;
-      right = right;
-      negated = negated;
-      pulled = pulled;
-      taken = taken;
-      starts = m.starts;
-      rows = m.rows;
-    }
-shape_of m interval left own_left right own_right negated pulled taken starts rows is el er =
-    is ∙ (λ i. record {
-      interval = interval;
-      left = el i;
-      right = er i;
-      negated = negated;
-      pulled = pulled;
-      taken = taken;
-      starts = (sym (ap (λ (k : AheadOf). k.starts) is)) i;
-      rows = (sym (ap (λ (k : AheadOf). k.rows) is)) i;
-    })

@@ -228,12 +228,7 @@ impl UntilState {
         Ok(state)
     }
 
-    fn recalled(
-        mut self,
-        alloc: Global,
-        times: &[u64],
-        kept: UntilData,
-    ) -> Result<Self, AllocError>
+    fn recalled(mut self, alloc: Global, times: &[u64], kept: UntilData) -> Result<Self, AllocError>
         requires { UntilRule (until_of (setting_of self) times.now kept) }
         ensures { IfOk result (λ state. state ≡ until_of (setting_of self) times.now kept) }
     {
@@ -255,7 +250,8 @@ impl UntilState {
             starts,
             rows,
         } = kept;
-        self.ahead.recall(alloc, pulled, taken, times, starts, rows)?;
+        self.ahead
+            .recall(alloc, pulled, taken, times, starts, rows)?;
         self.times = VecDeque::from_vec(next);
         self.lefts = VecDeque::from_vec(lefts);
         self.rights = VecDeque::from_vec(rights);

@@ -1,9 +1,7 @@
-use Rattle.std.proofs.Common.{◌≡◌, ℕ, ◌≤◌, ◌<◌, List, length, sym, subst, ◌∙◌}
-use Rattle.mfotl_model.specs.declared.value.Value.{Value}
+use Rattle.std.proofs.Common.{◌≡◌, length, sym, subst, ◌∙◌}
 use Rattle.eval_until.specs.Keeping.{Sized}
 use Rattle.eval_until.specs.Recalled.{entries_kept, starts_kept}
 use Rattle.eval_until.specs.Rules.{Ascending, NoneEmpty, StartsAbove, StartsBelow, Waiting}
-use Rattle.eval_until.specs.declared.entries.Entry.{Entry}
 use Rattle.eval_until.proofs.OrderLemmas.{ascending_is}
 use Rattle.eval_until.proofs.ResumeLemmas.{each_ascends, some_found}
 use Rattle.eval_until.proofs.ahead.Ahead.recall.Goals as goal
@@ -19,7 +17,7 @@ recalled-requires-clause-sized c =
     subst (Sized (length c.self.inside.right.items))
     (sym (ascending_is kept c.in_ok-rows.rows.entries c.requires.rows c.in_ok-rows.ensures.ascend
     c.in_ok-rows.ensures.found))
-    (rw c.self.view_is c.requires.sized))
+    (rw (← c.self.view_is) at c.requires.sized))
 
 pub recalled-requires-clause-some : goal.recalled-requires-clause-some
 recalled-requires-clause-some c =
@@ -38,21 +36,21 @@ recalled-requires-clause-ascend c =
     c.requires.ascend
 
 pub go_on-requires-clause-kept : goal.go_on-requires-clause-kept
-go_on-requires-clause-kept c = rw ← c.self.view_is (
+go_on-requires-clause-kept c = rw (← c.self.view_is) (
     let starts = starts_kept c.args.starts.items in
     let rows = entries_kept c.args.pulled c.args.times.now c.args.rows.items in
     let starts_are : starts ≡ c.in_ok-starts.starts.entries = sym (ascending_is starts c.in_ok-starts.starts.entries
-        c.requires.starts c.in_ok-starts.ensures.ascend c.in_ok-starts.ensures.found) in
+    c.requires.starts c.in_ok-starts.ensures.ascend c.in_ok-starts.ensures.found) in
     let rows_are : rows ≡ c.in_ok-rows.rows.entries = sym (ascending_is rows c.in_ok-rows.rows.entries
-        c.requires.rows c.in_ok-rows.ensures.ascend c.in_ok-rows.ensures.found) in
+    c.requires.rows c.in_ok-rows.ensures.ascend c.in_ok-rows.ensures.found) in
     (rw c.as_slice-right.ensures.value at c.in_ok-contents.ensures.kept) c.args.pulled c.args.taken
     (subst (Waiting c.args.pulled c.args.taken) rows_are c.requires.waiting)
     (subst (StartsBelow c.args.taken) starts_are c.requires.below)
-    (λ is. subst (StartsAbove c.args.pulled) starts_are ((rw c.self.view_is c.requires.above) is)))
+    (λ is. subst (StartsAbove c.args.pulled) starts_are ((rw (← c.self.view_is) at c.requires.above) is)))
 
 pub go_on-requires-clause-listed : goal.go_on-requires-clause-listed
 go_on-requires-clause-listed c =
-    rw ← c.self.view_is (rw c.as_slice-right.ensures.value at c.in_ok-contents.ensures.listed)
+    rw (← c.self.view_is) (rw c.as_slice-right.ensures.value at c.in_ok-contents.ensures.listed)
 
 pub returns-clause-recalled : goal.returns-clause-recalled
 returns-clause-recalled c =
