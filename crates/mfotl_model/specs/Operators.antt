@@ -33,3 +33,15 @@ binary_form binary.Implies f g = Implies f g
 binary_form binary.Equiv f g = Equiv f g
 binary_form (binary.Since i) f g = Since i f g
 binary_form (binary.Until i) f g = Until i f g
+
+-- the formula's operator has an interval
+abbrev pub IsTemporal : Form → Type 0
+IsTemporal (Previous i f) = Unit {0}
+IsTemporal (Next i f) = Unit {0}
+IsTemporal (Once i f) = Unit {0}
+IsTemporal (Historically i f) = Unit {0}
+IsTemporal (Eventually i f) = Unit {0}
+IsTemporal (Always i f) = Unit {0}
+IsTemporal (Since i f g) = Unit {0}
+IsTemporal (Until i f g) = Unit {0}
+IsTemporal f = ⊥

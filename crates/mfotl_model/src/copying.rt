@@ -1,7 +1,7 @@
 //! Copies of formulas, operator by operator.
 ghost use Rattle.std.specs.Prelude.{◌≡◌, IfOk};
 ghost use Rattle.mfotl_model.specs.Formulas.{form};
-ghost use Rattle.mfotl_model.specs.Operators.{binary_form, quantified_form, unary_form};
+ghost use Rattle.mfotl_model.specs.Operators.{IsTemporal, binary_form, quantified_form, unary_form};
 
 use crate::formula::{Bound, Formula};
 use crate::interval::Interval;
@@ -96,6 +96,17 @@ impl Formula {
             Formula::Equiv(f, g) => copied_binary(alloc, Binary::Equiv, f, g),
             Formula::Exists(x, f) => copied_quantified(alloc, Quantifier::Exists, x, f),
             Formula::Forall(x, f) => copied_quantified(alloc, Quantifier::Forall, x, f),
+            _ => self.copied_over_time(alloc),
+        }
+    }
+
+    // A copy of a formula whose operator has an interval.
+    #[cycle(copies)]
+    fn copied_over_time(&self, alloc: Global) -> Result<Self, AllocError>
+        requires { IsTemporal (form self.now) }
+        ensures { IfOk result (λ formula. form formula ≡ form self.now) }
+    {
+        match self {
             Formula::Previous(i, f) => copied_unary(alloc, Unary::Previous(*i), f),
             Formula::Next(i, f) => copied_unary(alloc, Unary::Next(*i), f),
             Formula::Once(i, f) => copied_unary(alloc, Unary::Once(*i), f),
@@ -104,6 +115,7 @@ impl Formula {
             Formula::Always(i, f) => copied_unary(alloc, Unary::Always(*i), f),
             Formula::Since(i, f, g) => copied_binary(alloc, Binary::Since(*i), f, g),
             Formula::Until(i, f, g) => copied_binary(alloc, Binary::Until(*i), f, g),
+            _ => unreachable!(),
         }
     }
 

@@ -97,6 +97,15 @@ impl Row {
         Row { held: Held::Zero }
     }
 
+    /// The row of two values. It takes no memory.
+    pub fn pair(left: Value, right: Value) -> Self
+        ensures { result ≡ left ∷ right ∷ [] }
+    {
+        Row {
+            held: Held::Two([left, right]),
+        }
+    }
+
     /// The row of these values. A row can't give the vector back: it keeps up to two values in itself.
     pub fn new(values: Vec<Value>) -> Self
         ensures { result ≡ values.items }
@@ -197,6 +206,18 @@ fn by_pair(left: &[Value; 2], right: &[Value; 2]) -> Ordering
     }
 }
 
+// The order of any two rows. Most have up to two values: then no list is walked.
+fn by_size(left: &Row, right: &Row) -> Ordering
+    ensures { result ≡ row_cmp left.now right.now }
+{
+    match (&left.held, &right.held) {
+        (Held::Zero, Held::Zero) => Ordering::Equal,
+        (Held::One([left]), Held::One([right])) => left.cmp(right),
+        (Held::Two(left), Held::Two(right)) => by_pair(left, right),
+        _ => by_values(left, right),
+    }
+}
+
 impl PartialEq for Row {
     ghost eq = { eq_by_cmp row_cmp };
 
@@ -235,20 +256,17 @@ impl Ord for Row {
 
     ghost matches_eq = { λ x y. refl };
 
-    // Most rows have up to two values, and are compared often: then no list is walked, and for integers nothing called.
+    // Rows are compared often, and most have two values: where the first ones are unequal integers, nothing is called.
     fn cmp(&self, other: &Row) -> Ordering {
-        match (&self.held, &other.held) {
-            (Held::Zero, Held::Zero) => Ordering::Equal,
-            (Held::One([Value::Int(left)]), Held::One([Value::Int(right)])) => left.cmp(right),
-            (Held::One([left]), Held::One([right])) => left.cmp(right),
-            (Held::Two([Value::Int(left), last]), Held::Two([Value::Int(right), end])) =>
-                match left.cmp(right) {
-                    Ordering::Equal => last.cmp(end),
-                    unequal => unequal,
-                },
-            (Held::Two(left), Held::Two(right)) => by_pair(left, right),
-            _ => by_values(self, other),
+        if let (Held::Two([Value::Int(left), _]), Held::Two([Value::Int(right), _])) = (
+            &self.held,
+            &other.held,
+        ) {
+            if left != right {
+                return left.cmp(right);
+            }
         }
+        by_size(self, other)
     }
 }
 
