@@ -4,6 +4,7 @@ ghost use Rattle.std.specs.List.{list_all, list_any};
 ghost use Rattle.mfotl_plain.specs.Bindings.{valuation_of};
 ghost use Rattle.mfotl_plain.specs.Operators.{between, connected, in_time};
 ghost use Rattle.mfotl_model.specs.Formulas.{form};
+ghost use Rattle.mfotl_model.specs.Operators.{IsTemporal};
 ghost use Rattle.mfotl_model.specs.Satisfaction.{compares, database_at, event_of, has_event, sat, term_value};
 ghost use Rattle.mfotl_model.specs.Satisfaction.{truths, with_value};
 ghost use Rattle.mfotl_model.specs.Violations.{valuation};
@@ -91,6 +92,19 @@ impl Interpretation<'_> {
             Formula::Equiv(f, g) => self.connects(Connective::Equiv, f, g),
             Formula::Exists(x, f) => self.holds_for_some(x.number, f),
             Formula::Forall(x, f) => self.holds_for_every(x.number, f),
+            _ => self.holds_over_time(formula),
+        }
+    }
+
+    #[cycle(satisfaction)]
+    #[tactic(auto, unfolding(mfotl_model::specs::Satisfaction::sat))]
+    fn holds_over_time(&self, formula: &Formula) -> Result<bool, AllocError>
+        requires at { self.now.at < length self.now.log.now }
+        requires temporal { IsTemporal (form formula.now) }
+        ensures { IfOk result (λ held. held ≡ sat self.now.log.now self.now.dom.now
+            (valuation_of self.now.bindings.now) self.now.at (form formula.now)) }
+    {
+        match formula {
             Formula::Previous(i, f) => self.holds_in_time(Modality::Previous, i, f),
             Formula::Next(i, f) => self.holds_in_time(Modality::Next, i, f),
             Formula::Once(i, f) => self.holds_in_time(Modality::Once, i, f),
@@ -99,6 +113,7 @@ impl Interpretation<'_> {
             Formula::Always(i, f) => self.holds_in_time(Modality::Always, i, f),
             Formula::Since(i, f, g) => self.holds_between(Span::Since, i, f, g),
             Formula::Until(i, f, g) => self.holds_between(Span::Until, i, f, g),
+            _ => unreachable!(),
         }
     }
 

@@ -1,6 +1,4 @@
 -- Operators by their operands: which have one, which have two, and the same operator over others.
-use Rattle.mfotl_model.specs.Formulas as forms
-use Rattle.mfotl_model.specs.Formulas.{Form}
 use Rattle.monitorable.specs.CoreForms.{CoreForm, Not, And, Or, Exists, Previous, Next, Since, Until}
 
 -- the core's operator has one operand
@@ -34,15 +32,3 @@ over_two (Or f g) f' g' = Or f' g'
 over_two (Since interval f g) f' g' = Since interval f' g'
 over_two (Until interval f g) f' g' = Until interval f' g'
 over_two f f' g' = f
-
--- the formula's operator has an interval
-abbrev pub IsTemporal : Form → Type 0
-IsTemporal (forms.Previous interval f) = Unit {0}
-IsTemporal (forms.Next interval f) = Unit {0}
-IsTemporal (forms.Once interval f) = Unit {0}
-IsTemporal (forms.Historically interval f) = Unit {0}
-IsTemporal (forms.Eventually interval f) = Unit {0}
-IsTemporal (forms.Always interval f) = Unit {0}
-IsTemporal (forms.Since interval f g) = Unit {0}
-IsTemporal (forms.Until interval f g) = Unit {0}
-IsTemporal f = ⊥

@@ -2,9 +2,9 @@
 //! stands within the function that goes down, and only boxes go up, so that a level takes little of the stack.
 ghost use Rattle.std.specs.Prelude.{◌≡◌, IfOk};
 ghost use Rattle.mfotl_model.specs.Formulas.{form};
+ghost use Rattle.mfotl_model.specs.Operators.{IsTemporal};
 ghost use Rattle.monitorable.specs.CoreForms.{And, Exists, Next, Not, Or, Previous, Since, True, Until, node_form};
 ghost use Rattle.monitorable.specs.NormalForm.{negative, positive};
-ghost use Rattle.monitorable.specs.Operators.{IsTemporal};
 
 use crate::boxes;
 use crate::node::Node;

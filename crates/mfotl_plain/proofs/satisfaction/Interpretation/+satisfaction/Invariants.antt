@@ -8,28 +8,31 @@ use Rattle.mfotl_model.specs.Satisfaction.{sat, truths, with_value}
 use Rattle.mfotl_plain.proofs.satisfaction.Interpretation.+satisfaction.Given as goal
 
 abbrev pub decreases-holds : goal.decreases-holds
-decreases-holds l = 3 * size-Formula l.formula.now
+decreases-holds l = 4 * size-Formula l.formula.now + 1
+
+abbrev pub decreases-holds_over_time : goal.decreases-holds_over_time
+decreases-holds_over_time l = 4 * size-Formula l.formula.now
 
 abbrev pub decreases-fails : goal.decreases-fails
-decreases-fails l = 3 * size-Formula l.formula.now + 1
+decreases-fails l = 4 * size-Formula l.formula.now + 2
 
 abbrev pub decreases-connects : goal.decreases-connects
-decreases-connects l = 3 * max (size-Formula l.left.now) (size-Formula l.right.now) + 1
+decreases-connects l = 4 * max (size-Formula l.left.now) (size-Formula l.right.now) + 2
 
 abbrev pub decreases-holds_for_some : goal.decreases-holds_for_some
-decreases-holds_for_some l = 3 * size-Formula l.formula.now + 1
+decreases-holds_for_some l = 4 * size-Formula l.formula.now + 2
 
 abbrev pub decreases-holds_for_every : goal.decreases-holds_for_every
-decreases-holds_for_every l = 3 * size-Formula l.formula.now + 1
+decreases-holds_for_every l = 4 * size-Formula l.formula.now + 2
 
 abbrev pub decreases-truths : goal.decreases-truths
-decreases-truths l = 3 * size-Formula l.formula.now + 1
+decreases-truths l = 4 * size-Formula l.formula.now + 2
 
 abbrev pub decreases-holds_in_time : goal.decreases-holds_in_time
-decreases-holds_in_time l = 3 * size-Formula l.formula.now + 2
+decreases-holds_in_time l = 4 * size-Formula l.formula.now + 3
 
 abbrev pub decreases-holds_between : goal.decreases-holds_between
-decreases-holds_between l = 3 * max (size-Formula l.left.now) (size-Formula l.right.now) + 2
+decreases-holds_between l = 4 * max (size-Formula l.left.now) (size-Formula l.right.now) + 3
 
 abbrev pub invariant-holds_for_every-loop-value : goal.invariant-holds_for_every-loop-value
 invariant-holds_for_every-loop-value l =
