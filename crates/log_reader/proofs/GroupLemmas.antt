@@ -16,8 +16,8 @@ use Rattle.log_reader.specs.declared.fault.LogFault.{LogFault}
 use Rattle.log_reader.specs.declared.stage.Stage.{Stage}
 use Rattle.log_reader.specs.declared.stage.Stage.TheVariants.{AfterName, AfterOpen, AfterValue, AfterComma, AfterClose}
 use Rattle.log_reader.specs.Cursors.{IsCounted, Leads}
-use Rattle.log_reader.specs.Groups.{may_open, TakesPlain, LeadsOn, IsOpen, MayBeginGroup, closed_with, with_group}
-use Rattle.log_reader.specs.Groups.{ReadsValues, ReadsGroup}
+use Rattle.log_reader.specs.Groups.{may_open, TakesPlain, TakesMarked, TakesOneMore, LeadsOn, IsOpen, MayBeginGroup}
+use Rattle.log_reader.specs.Groups.{closed_with, with_group, ReadsValues, ReadsGroup}
 use Rattle.log_reader.specs.Partials.{Partial}
 use Rattle.log_reader.specs.Quick.{IsInteger, is_value_due, TakesTokenInFront, TakesStamp, StepsMark}
 use Rattle.log_reader.specs.Readings.{run, behind_tokens}
@@ -38,6 +38,13 @@ pub none_left : {X : Type 0} (xs : List X) → true ≡ (length xs == 0) → xs 
 none_left [] e = refl
 none_left (x ∷ xs) e = let none : length (x ∷ xs) ≡ 0 = eqb-true (length (x ∷ xs)) 0 (sym e) in
     absurd (omega (arith, none))
+
+pub two_of : {X : Type 0} (xs : List X) (d e : X) → 2 ≤ length xs → length xs < 3
+    → get_or xs 0 d ∷ get_or xs 1 e ∷ [] ≡ xs
+two_of [] d e some few = absurd (omega arith)
+two_of (x ∷ []) d e some few = absurd (omega arith)
+two_of (x ∷ y ∷ []) d e some few = refl
+two_of (x ∷ y ∷ z ∷ xs) d e some few = absurd (omega arith)
 
 -- ---- values
 
@@ -179,110 +186,85 @@ module _ (limits : Limits) (from : ℕ) (looked : List ℕ) (ended : Bool) (at :
       (λ sig. go_on from looked ended sig limits at b c p q r (x.leads sig) (y.leads sig))
 
 module _ (from : ℕ) (looked : List ℕ) (ended : Bool) (sorts : List Sort) (start : ℕ) where
-  -- the tokens from behind the `(` on up to an offset give these values, and these sorts are due then
-  pub record Reached (args : List Value) (due : List Sort) (at : ℕ) (stage : Stage) : Type 0 where
+  -- the tokens from behind the `(` on up to an offset give these values; a value is due there, and these sorts
+  pub record Standing (args : List Value) (due : List Sort) (at : ℕ) : Type 0 where
+    pub stage : Stage
+    pub awaits : is_value_due stage ≡ true
     pub within : at ≤ length looked
     pub later : start ≤ at
     pub leads : (sig : List PredOf) (limits : Limits) (p : Partial) → IsOpen sorts p
         → Goes from looked ended sig limits start p at (record p { stage = stage; due = due; args = args })
 
-  -- the same where the next value is due
-  pub record Standing (args : List Value) (due : List Sort) (at : ℕ) : Type 0 where
-    pub stage : Stage
-    pub awaits : is_value_due stage ≡ true
-    pub there : Reached args due at stage
-
   pub begins : start ≤ length looked → Standing [] sorts start
   begins le = record {
     stage = AfterOpen;
     awaits = refl;
-    there = record {
-      within = le;
-      later = omega arith;
-      leads = λ sig limits p o. subst (Goes from looked ended sig limits start p start)
-          (ap (λ (s : Stage). record p { stage = s }) o.stage
-          ∙ ap (λ (d : List Sort). record p { stage = AfterOpen; due = d }) o.due
-          ∙ ap (λ (a : List Value). record p { stage = AfterOpen; due = sorts; args = a }) o.args)
-          (stay from looked ended sig limits start p le o.counted);
-    };
+    within = le;
+    later = omega arith;
+    leads = λ sig limits p o. subst (Goes from looked ended sig limits start p start)
+        (ap (λ (s : Stage). record p { stage = s }) o.stage
+        ∙ ap (λ (d : List Sort). record p { stage = AfterOpen; due = d }) o.due
+        ∙ ap (λ (a : List Value). record p { stage = AfterOpen; due = sorts; args = a }) o.args)
+        (stay from looked ended sig limits start p le o.counted);
   }
 
-  -- a value was taken, and behind it bytes are left
-  pub record Took (args : List Value) (due : List Sort) (at : ℕ) (row : List Value) (more : List Sort) (n : ℕ)
-      (behind : List ℕ) : Type 0 where
-    pub sort : Sort
-    pub rest : List ℕ
-    pub value : Value
-    pub found : Option (Value × ℕ)
-    pub due_is : due ≡ sort ∷ more
-    pub rest_is : rest ≡ drop at looked
-    pub found_is : found ≡ Some (value, n)
-    pub plain : IfSome found (λ x. TakesPlain sort (from + at) rest x.0 x.1)
-    pub row_is : row ≡ args ++ value ∷ []
-    pub behind_is : behind ≡ drop n rest
-    pub some : 1 ≤ length behind
+-- where a value is due, such a value and the mark behind it
+module _ {from : ℕ} {looked : List ℕ} {ended : Bool} {sorts : List Sort} {start : ℕ} {args : List Value}
+    {due more : List Sort} {at mark behind : ℕ} {sort : Sort} {value : Value}
+    (s : Standing from looked ended sorts start args due at) (due_is : due ≡ sort ∷ more)
+    (t : TakesMarked sort mark from looked at value behind) where
+  abbrev row : List Value
+  row = args ++ value ∷ []
 
-  module _ (args : List Value) (due : List Sort) (at : ℕ) (s : Standing args due at) (row : List Value)
-      (more : List Sort) (n : ℕ) (behind : List ℕ) (t : Took args due at row more n behind) where
-    abbrev here : Partial → Partial
-    here p = record p { stage = s.stage; due = due; args = args }
+  abbrev valued_with : Partial → Partial
+  valued_with p = record p { stage = AfterValue; due = more; args = row }
 
-    plain : TakesPlain t.sort (from + at) (drop at looked) t.value n
-    plain = subst (λ (r : List ℕ). TakesPlain t.sort (from + at) r t.value n) t.rest_is
-        (subst (λ (f : Option (Value × ℕ)). IfSome f (λ x. TakesPlain t.sort (from + at) t.rest x.0 x.1)) t.found_is
-        t.plain)
+  over_value : (sig : List PredOf) (limits : Limits) (p : Partial) → IsOpen sorts p
+      → Goes from looked ended sig limits start p (at + t.n) (valued_with p)
+  over_value sig limits p o =
+      let reached = s.leads sig limits p o in
+      go_on from looked ended sig limits start at (at + t.n) p _ _ reached
+      (front_leads from looked ended sig limits at (record p { stage = s.stage; due = due; args = args }) s.within
+      reached.counted t.n (valued_with p) (t.plain.takes sig limits _ more s.awaits due_is)).0
 
-    given_on : Reached row more (at + n) AfterValue
-    given_on = record {
-      within = omega (arith, plain.within, s.there.within, length-drop at looked);
-      later = omega (arith, s.there.later);
-      leads = λ sig limits p o.
-          let reached = s.there.leads sig limits p o in
-          go_on from looked ended sig limits start at (at + n) p (here p) _ reached
-          (front_leads from looked ended sig limits at (here p) s.there.within reached.counted n _
-          (subst (λ (v : List Value). TakesTokenInFront sig limits (here p) (from + at) (drop at looked) n
-          (record p { stage = AfterValue; due = more; args = v })) (sym t.row_is)
-          (plain.takes sig limits (here p) more s.awaits t.due_is))).0;
-    }
+  mark_some : 1 ≤ length (drop (at + t.n) looked)
+  mark_some = omega (arith, t.end, t.within, length-drop (at + t.n) looked)
 
-    mark_is : behind ≡ drop (at + n) looked
-    mark_is = t.behind_is ∙ ap (drop n) t.rest_is ∙ drop-drop n at looked
+  -- a `,` leads to the next value
+  pub past_comma : mark ≡ 44 → Standing from looked ended sorts start row more behind
+  past_comma is = record {
+    stage = AfterComma;
+    awaits = refl;
+    within = t.within;
+    later = omega (arith, s.later, t.end);
+    leads = λ sig limits p o.
+        let over = over_value sig limits p o in
+        rw t.end (go_on from looked ended sig limits start (at + t.n) (at + t.n + 1) p _ _ over
+        (comma_leads from looked ended sig limits (at + t.n) (valued_with p) over.within over.counted mark_some refl
+        (t.is ∙ is)));
+  }
 
-    mark_some : 1 ≤ length (drop (at + n) looked)
-    mark_some = subst (λ (b : List ℕ). 1 ≤ length b) mark_is t.some
+  -- a `)` behind the last value ends the group
+  pub past_group : more ≡ [] → mark ≡ 41 → ReadsValues from looked ended sorts start row behind
+  past_group none is = (
+    λ limits p o. lead_on limits from looked ended start p behind (closed_with p row) (omega (arith, s.later, t.end))
+        (λ sig.
+        let over = over_value sig limits p o in
+        rw t.end (go_on from looked ended sig limits start (at + t.n) (at + t.n + 1) p _ _ over
+        (closing_leads from looked ended sig limits (at + t.n) (valued_with p) over.within over.counted mark_some refl
+        none (t.is ∙ is)))),
+    omega (arith, s.later, t.end),
+  )
 
-    -- a `,` leads to the next value
-    pub past_comma : get_or behind 0 0 ≡ 44 → Standing row more (at + (n + 1))
-    past_comma is = record {
-      stage = AfterComma;
-      awaits = refl;
-      there = record {
-        within = omega (arith, mark_some, length-drop (at + n) looked);
-        later = omega (arith, s.there.later);
-        leads = λ sig limits p o.
-            let reached = given_on.leads sig limits p o in
-            subst (λ (k : ℕ). Goes from looked ended sig limits start p k
-            (record p { stage = AfterComma; due = more; args = row })) (omega arith)
-            (go_on from looked ended sig limits start (at + n) (at + n + 1) p _ _ reached
-            (comma_leads from looked ended sig limits (at + n)
-            (record p { stage = AfterValue; due = more; args = row }) given_on.within reached.counted mark_some refl
-            (ap (λ (b : List ℕ). get_or b 0 0) (sym mark_is) ∙ is)));
-      };
-    }
-
-    -- a `)` behind the last value ends the group
-    pub past_group : more ≡ [] → get_or behind 0 0 ≡ 41
-        → ReadsValues from looked ended sorts start row (at + n + 1)
-    past_group none is = (
-      λ limits p o. lead_on limits from looked ended start p (at + n + 1) (closed_with p row)
-          (omega (arith, s.there.later)) (λ sig.
-          let reached = given_on.leads sig limits p o in
-          go_on from looked ended sig limits start (at + n) (at + n + 1) p _ _ reached
-          (closing_leads from looked ended sig limits (at + n)
-          (record p { stage = AfterValue; due = more; args = row }) given_on.within reached.counted mark_some refl none
-          (ap (λ (b : List ℕ). get_or b 0 0) (sym mark_is) ∙ is))),
-      omega (arith, s.there.later),
-    )
+-- where the last value is due, it ends the group, if it was found
+pub row_ends : {E : Type 0} {from : ℕ} {looked : List ℕ} {ended : Bool} {sorts : List Sort} {start : ℕ}
+    {args : List Value} {sort : Sort} {at : ℕ} → Standing from looked ended sorts start args (sort ∷ []) at
+    → (found : Result (Option (List Value × ℕ)) E)
+    → IfOk found (λ f. IfSome f (λ x. TakesOneMore sort 41 from looked at args x.0 x.1))
+    → IfOk found (λ f. IfSome f (λ x. ReadsValues from looked ended sorts start x.0 x.1))
+row_ends s (Ok (Some x)) one = rw one.row_is (past_group s refl one.taken refl refl)
+row_ends s (Ok None) one = tt
+row_ends s (Err error) one = tt
 
 -- behind a blank or none and a `(`
 module _ (from : ℕ) (looked : List ℕ) (ended : Bool) (sorts : List Sort) (at : ℕ) (front rest : List ℕ) (blanks : ℕ)

@@ -1,5 +1,6 @@
 -- What is read of groups straight from a log's bytes, without tokens. It leads where the tokens would lead.
-use Rattle.std.specs.Prelude.{◌≡◌, ◌≤◌, ◌<◌, ◌+◌, ℕ, Bool, true, false, List, [], ◌∷◌, ◌++◌, length, Option, Some, None}
+use Rattle.std.specs.Prelude.{◌≡◌, ◌≤◌, ◌<◌, ◌+◌, ℕ, Bool, true, false, List, [], ◌∷◌, ◌++◌, length, drop, get_or}
+use Rattle.std.specs.Prelude.{Option, Some, None}
 use Rattle.std.specs.BTreeSet.{insert_key}
 use Rattle.mfotl_model.specs.Events.{event_cmp}
 use Rattle.mfotl_model.specs.declared.policy.Sort.{Sort}
@@ -25,6 +26,22 @@ pub record TakesPlain (sort : Sort) (at : ℕ) (bytes : List ℕ) (value : Value
       → p.due ≡ sort ∷ due
       → TakesTokenInFront sig limits p at bytes n
       (record p { stage = AfterValue; due = due; args = p.args ++ value ∷ [] })
+
+-- such a value stands at an offset, and this mark right behind it; then comes the second offset
+pub record TakesMarked (sort : Sort) (mark from : ℕ) (looked : List ℕ) (at : ℕ) (value : Value) (behind : ℕ)
+    : Type 0 where
+  pub n : ℕ
+  pub plain : TakesPlain sort (from + at) (drop at looked) value n
+  pub is : get_or (drop (at + n) looked) 0 0 ≡ mark
+  pub end : behind ≡ at + n + 1
+  pub within : behind ≤ length looked
+
+-- the same, and the row has this value more
+pub record TakesOneMore (sort : Sort) (mark from : ℕ) (looked : List ℕ) (at : ℕ) (args row : List Value) (behind : ℕ)
+    : Type 0 where
+  pub value : Value
+  pub row_is : row ≡ args ++ value ∷ []
+  pub taken : TakesMarked sort mark from looked at value behind
 
 -- from p on the tokens up to an offset lead to q, whatever the signature
 pub record LeadsOn (limits : Limits) (from : ℕ) (looked : List ℕ) (ended : Bool) (at : ℕ) (p : Partial) (at' : ℕ)

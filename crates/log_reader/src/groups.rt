@@ -1,8 +1,8 @@
 //! Groups that are read without cutting tokens: their values stand plainly, with no blank or comment between.
-ghost use Rattle.std.specs.Prelude.{◌≡◌, ◌≤◌, ◌<◌, ◌+◌, ◌^◌, length, IfOk, IfSome};
+ghost use Rattle.std.specs.Prelude.{◌≡◌, ◌≤◌, ◌<◌, ◌+◌, ◌^◌, ◌∷◌, [], length, IfOk, IfSome};
 ghost use Rattle.mfotl_model.specs.declared.policy.Sort.TheVariants as sorts;
 ghost use Rattle.log_reader.specs.Cursors.{IsCounted};
-ghost use Rattle.log_reader.specs.Groups.{TakesPlain, ReadsValues, ReadsGroup, TakesGroup};
+ghost use Rattle.log_reader.specs.Groups.{TakesPlain, TakesMarked, TakesOneMore, ReadsValues, ReadsGroup, TakesGroup};
 
 use crate::grammar::may_open;
 use crate::limits::{Limits, Look};
@@ -52,6 +52,105 @@ fn plain_value(
     }
 }
 
+// A value of a sort at an offset, and the offset behind the mark that has to follow it.
+fn value_before(
+    alloc: Global,
+    texts: &mut RecentTexts,
+    sort: Sort,
+    mark: u8,
+    look: Look<'_>,
+    at: usize,
+) -> Result<Option<(Value, usize)>, AllocError>
+    requires within { at ≤ length look.bytes.now }
+    requires small { look.from + length look.bytes.now < 2 ^ 63 }
+    ensures { IfOk result (λ found. IfSome found (λ x. TakesMarked sort mark look.entry.from look.entry.bytes.now at
+        x.0 x.1)) }
+{
+    let (_, rest) = look.bytes.split_at(at);
+    let Some((value, count)) = plain_value(alloc, texts, sort, look.from + at, rest)? else {
+        return Ok(None);
+    };
+    let (_, behind) = rest.split_at(count);
+    match behind {
+        [found, ..] if *found == mark => Ok(Some((value, at + count + 1))),
+        _ => Ok(None),
+    }
+}
+
+// Two values behind a `(`, and the offset behind their `)`.
+fn pair_at(
+    alloc: Global,
+    texts: &mut RecentTexts,
+    first: Sort,
+    second: Sort,
+    look: Look<'_>,
+    start: usize,
+) -> Result<Option<(Row, usize)>, AllocError>
+    requires within { start ≤ length look.bytes.now }
+    requires small { look.from + length look.bytes.now < 2 ^ 63 }
+    ensures { IfOk result (λ found. IfSome found (λ x. ReadsValues look.entry.from look.entry.bytes.now
+        look.entry.ended (first ∷ second ∷ []) start x.0 x.1)) }
+{
+    let Some((left, at)) = value_before(alloc, texts, first, b',', look, start)? else {
+        return Ok(None);
+    };
+    let Some((right, behind)) = value_before(alloc, texts, second, b')', look, at)? else {
+        return Ok(None);
+    };
+    Ok(Some((Row::pair(left, right), behind)))
+}
+
+// A row with one value more, which is read at an offset, and the offset behind the mark that has to follow it.
+fn longer_row(
+    alloc: Global,
+    texts: &mut RecentTexts,
+    args: Row,
+    sort: Sort,
+    mark: u8,
+    look: Look<'_>,
+    at: usize,
+) -> Result<Option<(Row, usize)>, AllocError>
+    requires within { at ≤ length look.bytes.now }
+    requires small { look.from + length look.bytes.now < 2 ^ 63 }
+    ensures { IfOk result (λ found. IfSome found (λ x. TakesOneMore sort mark look.entry.from look.entry.bytes.now at
+        args x.0 x.1)) }
+{
+    match value_before(alloc, texts, sort, mark, look, at)? {
+        Some((value, behind)) => Ok(Some((args.push(alloc, value)?, behind))),
+        None => Ok(None),
+    }
+}
+
+// As many values as there are sorts behind a `(`, and the offset behind their `)`.
+fn row_at(
+    alloc: Global,
+    texts: &mut RecentTexts,
+    sorts: &[Sort],
+    look: Look<'_>,
+    start: usize,
+) -> Result<Option<(Row, usize)>, AllocError>
+    requires within { start ≤ length look.bytes.now }
+    requires small { look.from + length look.bytes.now < 2 ^ 63 }
+    ensures { IfOk result (λ found. IfSome found (λ x. ReadsValues look.entry.from look.entry.bytes.now
+        look.entry.ended sorts.now start x.0 x.1)) }
+{
+    let Some((last, front)) = sorts.split_last() else {
+        return Ok(None);
+    };
+    let mut args = Row::empty();
+    let mut at = start;
+    for sort in front {
+        match longer_row(alloc, texts, args, *sort, b',', look, at)? {
+            Some((longer, behind)) => {
+                args = longer;
+                at = behind;
+            }
+            None => return Ok(None),
+        }
+    }
+    longer_row(alloc, texts, args, *last, b')', look, at)
+}
+
 // The values of a group behind its `(`, and the offset behind its `)`.
 fn values_at(
     alloc: Global,
@@ -65,29 +164,10 @@ fn values_at(
     ensures { IfOk result (λ found. IfSome found (λ x. ReadsValues look.entry.from look.entry.bytes.now
         look.entry.ended sorts.now start x.0 x.1)) }
 {
-    let mut args = Row::empty();
-    let mut due = sorts;
-    let mut at = start;
-    while let Some((sort, more)) = due.split_first() {
-        let (_, rest) = look.bytes.split_at(at);
-        let Some((value, count)) = plain_value(alloc, texts, *sort, look.from + at, rest)? else {
-            return Ok(None);
-        };
-        let (_, behind) = rest.split_at(count);
-        args = args.push(alloc, value)?;
-        match behind {
-            [mark, ..] if *mark == b',' => {
-                at += count + 1;
-                due = more;
-            }
-            [mark, ..] if *mark == b')' && more.is_empty() => return Ok(Some((
-                args,
-                at + count + 1,
-            ))),
-            _ => return Ok(None),
-        }
+    match sorts {
+        [first, second] => pair_at(alloc, texts, *first, *second, look, start),
+        _ => row_at(alloc, texts, sorts, look, start),
     }
-    Ok(None)
 }
 
 // The values of a group of these sorts, behind one blank at most, and the offset behind it. None also where only
