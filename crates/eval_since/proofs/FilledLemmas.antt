@@ -97,8 +97,3 @@ one_has first ts some = λ v. by (is_at (row_cmp v) first)
     by : (b : Bool) → IfSome (cond b (Some ts) None) (λ (times : List ℕ). 0 < length times)
     by true = some
     by false = tt
-
-pub one_had : (first : List Value) (ts : List ℕ) → HaveTimes ((first, ts) ∷ []) → 0 < length ts
-one_had first ts have =
-    subst (λ (b : Bool). IfSome (cond b (Some ts) None) (λ (times : List ℕ). 0 < length times))
-    ((eq_by_cmp_equiv row_total).refl first) (have first)

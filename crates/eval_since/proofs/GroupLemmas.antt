@@ -134,7 +134,7 @@ unwrapped {X} d b w o p e = ap (λ r. unwrap_or r d) e ∙ by b
     by false = refl
 
 -- the same, where the changed group was e
-regrouped_all : (h : List ℕ → List ℕ) (key q v : List Value) (meant : Bool)
+pub regrouped : (h : List ℕ → List ℕ) (key q v : List Value) (meant : Bool)
     (old new : List (List Value × List (List Value × List ℕ))) (g e : List (List Value × List ℕ))
     (w : Option (List (List Value × List ℕ)))
     → lookup (is_at (row_cmp q)) new ≡ cond (is_at (row_cmp key) q) w (lookup (is_at (row_cmp q)) old)
@@ -142,24 +142,11 @@ regrouped_all : (h : List ℕ → List ℕ) (key q v : List Value) (meant : Bool
     → e ≡ list_for old key
     → list_for g v ≡ cond meant (h (list_for e v)) (list_for e v)
     → times_at new q v ≡ cond (is_at (row_cmp key) q && meant) (h (times_at old q v)) (times_at old q v)
-regrouped_all h key q v meant old new g e w outer is was inner =
+regrouped h key q v meant old new g e w outer is was inner =
     grouped h key q v meant old new g
     (unwrapped [] (is_at (row_cmp key) q) w (lookup (is_at (row_cmp q)) new) (lookup (is_at (row_cmp q)) old) outer
     ∙ ap (λ r. cond (is_at (row_cmp key) q) r (list_for old q)) is)
     (inner ∙ ap (λ r. cond meant (h (list_for r v)) (list_for r v)) was)
-
--- at one row
-pub regrouped : (h : List ℕ → List ℕ) (key row q v : List Value)
-    (old new : List (List Value × List (List Value × List ℕ))) (g e : List (List Value × List ℕ))
-    (w : Option (List (List Value × List ℕ)))
-    → lookup (is_at (row_cmp q)) new ≡ cond (is_at (row_cmp key) q) w (lookup (is_at (row_cmp q)) old)
-    → unwrap_or w [] ≡ g
-    → e ≡ list_for old key
-    → list_for g v ≡ cond (is_at (row_cmp row) v) (h (list_for e v)) (list_for e v)
-    → times_at new q v ≡ cond (is_at (row_cmp key) q && is_at (row_cmp row) v) (h (times_at old q v))
-    (times_at old q v)
-regrouped h key row q v old new g e w outer is was inner =
-    regrouped_all h key q v (is_at (row_cmp row) v) old new g e w outer is was inner
 
 -- in the group of the empty row
 pub ungrouped : (h : List ℕ → List ℕ) (key q v : List Value) (meant : Bool)
@@ -174,17 +161,13 @@ pub ungrouped : (h : List ℕ → List ℕ) (key q v : List Value) (meant : Bool
 ungrouped h key q v meant old new g e w none outer is was inner =
     subst (λ (k : List Value). times_at new q v
     ≡ cond (is_at (row_cmp k) q && meant) (h (times_at old q v)) (times_at old q v)) none
-    (regrouped_all h key q v meant old new g e w outer is was inner)
+    (regrouped h key q v meant old new g e w outer is was inner)
 
 -- an empty group has no times to forget
 pub nothing_recent : (hi x : ℕ) (v : List Value) (b : Bool)
     → list_for {X = ℕ} [] v ≡ cond b (recent hi x (list_for [] v)) (list_for [] v)
 nothing_recent hi x v true = sym (recent_none hi x)
 nothing_recent hi x v false = refl
-
-pub none_recent : (hi x : ℕ) (row v : List Value) → list_for {X = ℕ} [] v
-    ≡ cond (is_at (row_cmp row) v) (recent hi x (list_for [] v)) (list_for [] v)
-none_recent hi x row v = nothing_recent hi x v (is_at (row_cmp row) v)
 
 -- rows stand in the group k alone
 abbrev pub StandsIn : List (List Value × List (List Value × List ℕ)) → List Value → List Value → Type 0

@@ -7,6 +7,7 @@ pub mod GroupRowLemmas
 pub mod OneRowLemmas
 pub mod FewLemmas
 pub mod FilledLemmas
+pub mod ForgetLemmas
 pub mod KeyLemmas
 pub mod WindowLemmas
 pub mod ExpireLemmas

@@ -110,11 +110,6 @@ pub by_themselves : {X : Type 0} (es : List (List Value × X)) → by_rows itsel
 by_themselves [] = refl
 by_themselves (e ∷ es) = ap (λ fs. e ∷ fs) (by_themselves es)
 
-then_less : (o : Ordering) → is_eq (ordering_then o Less) ≡ false
-then_less Less = refl
-then_less Equal = refl
-then_less Greater = refl
-
 then_greater : (o : Ordering) → is_eq (ordering_then o Greater) ≡ false
 then_greater Less = refl
 then_greater Equal = refl

@@ -1,5 +1,5 @@
 -- Rows with the times kept for them, in groups by their part at the columns that they are grouped by.
-use Rattle.std.specs.Prelude.{ℕ, ◌<◌, Bool, ◌&&◌, List, length}
+use Rattle.std.specs.Prelude.{ℕ, ◌<◌, Bool, cond, ◌&&◌, List, length, None}
 use Rattle.std.specs.Option.{IfSome}
 use Rattle.std.specs.Ordering.{eq_by_cmp}
 use Rattle.mfotl_model.specs.Values.{row_cmp}
@@ -19,6 +19,11 @@ HaveTimes group = (v : List Value) → IfSome (kept_for group v) (λ times. 0 < 
 -- each group has a row, and each of its rows a time
 abbrev pub NoneEmpty : List (List Value × List (List Value × List ℕ)) → Type 0
 NoneEmpty groups = (q : List Value) → IfSome (kept_for groups q) (λ group. (0 < length group) × HaveTimes group)
+
+-- the same but for the group of a key, where that is to go
+abbrev pub NoneEmptyBut : Bool → List Value → List (List Value × List (List Value × List ℕ)) → Type 0
+NoneEmptyBut goes key groups = (q : List Value) → IfSome (cond (goes && eq_by_cmp row_cmp key q) None (kept_for groups q))
+    (λ group. (0 < length group) × HaveTimes group)
 
 -- whether an entry of a group is the row's and reaches
 abbrev pub hit : Interval → ℕ → List Value → List Value × List ℕ → Bool

@@ -1,5 +1,6 @@
 //! Rows with the times kept for them, in groups by their part at the columns that they are grouped by.
-ghost use Rattle.std.specs.Prelude.{◌≡◌, ◌||◌, ◌&&◌, ◌==◌, ◌<◌, [], List, ℕ, OnOk, None, Some, cond, length, not};
+ghost use Rattle.std.specs.Prelude.{◌≡◌, ◌||◌, ◌&&◌, ◌==◌, ◌<◌, [], IfOk, IsTrue, List, ℕ, OnOk, None};
+ghost use Rattle.std.specs.Prelude.{Some, cond, length, not};
 ghost use Rattle.std.specs.BTreeMap.{is_at};
 ghost use Rattle.std.specs.List.{list_any};
 ghost use Rattle.std.specs.Map.{lookup};
@@ -9,7 +10,7 @@ ghost use Rattle.relations.specs.KeptRows.{RowsDiffer, kept_for, list_for};
 ghost use Rattle.eval_since.specs.Recalled.{first_times};
 ghost use Rattle.mfotl_model.specs.Values.{row_cmp};
 ghost use Rattle.mfotl_model.specs.declared.value.Value.{Value};
-ghost use Rattle.eval_since.specs.Groups.{NoneEmpty, times_at};
+ghost use Rattle.eval_since.specs.Groups.{NoneEmpty, NoneEmptyBut, times_at};
 ghost use Rattle.eval_since.specs.PackedRows.{packed_rows};
 ghost use Rattle.mfotl_model.specs.Tables.{has_row, part};
 ghost use Rattle.eval_since.specs.Times.{ArePast, added, reaches, recent};
@@ -22,7 +23,6 @@ use mfotl_model::{Interval, Row};
 use relations::Table;
 use std::alloc::{AllocError, Global};
 use std::collections::HashMap;
-use std::collections::hash_map::Entry;
 use std::marker::Model;
 
 #[derive(Drop)]
@@ -47,58 +47,55 @@ fn keep_group(kept: &mut HashMap<Row, Group>, key: Row, group: Group) -> Result<
     Ok(())
 }
 
-// A group that is left without rows goes.
-fn forget_row(groups: &mut HashMap<Row, Group>, key: Row, row: Row, hi: u64, now: u64)
+// Forgets in a group, and tells whether it is left without rows.
+#[tactic(auto, using(crate::proofs::ForgetLemmas::not_there))]
+fn forget_in(groups: &mut HashMap<Row, Group>, key: &Row, row: Row, hi: u64, now: u64) -> bool
     ensures times { (q v : List Value) → times_at groups.new.entries q v
-        ≡ cond (is_at (row_cmp key) q && is_at (row_cmp row) v)
+        ≡ cond (is_at (row_cmp key.now) q && is_at (row_cmp row) v)
         (recent hi now (times_at groups.old.entries q v)) (times_at groups.old.entries q v) }
-    ensures some { NoneEmpty groups.old.entries → NoneEmpty groups.new.entries }
+    ensures empty { IsTrue result → list_for groups.new.entries key.now ≡ [] }
+    ensures some { NoneEmpty groups.old.entries → NoneEmptyBut result key.now groups.new.entries }
 {
-    match groups.entry(key) {
-        Ok(slot) => match slot {
-            Entry::Occupied(mut kept) => {
-                let group = kept.get_mut();
-                group.forget(row, hi, now);
-                if group.is_empty() {
-                    kept.remove();
-                }
-            }
-            Entry::Vacant(vacant) => drop(vacant.into_key()),
-        },
-        Err(_absent) => {}
+    match groups.get_mut(key) {
+        Some(group) => {
+            group.forget(row, hi, now);
+            group.is_empty()
+        }
+        None => false,
     }
 }
 
-// The same of rows that all stand in the group of the empty row.
-fn forget_ungrouped(
+// The same of more rows of the group.
+#[tactic(auto, using(crate::proofs::ForgetLemmas::not_there))]
+fn forget_all_in(
     groups: &mut HashMap<Row, Group>,
     alloc: Global,
+    key: &Row,
     rows: PackedRows,
     hi: u64,
     now: u64,
-) -> Result<(), AllocError>
+) -> Result<bool, AllocError>
     ensures times { OnOk result ((q v : List Value) → times_at groups.new.entries q v
-        ≡ cond (is_at (row_cmp []) q && has_row (packed_rows rows) v)
+        ≡ cond (is_at (row_cmp key.now) q && has_row (packed_rows rows) v)
         (recent hi now (times_at groups.old.entries q v)) (times_at groups.old.entries q v)) }
-    ensures some { OnOk result (NoneEmpty groups.old.entries → NoneEmpty groups.new.entries) }
+    ensures empty { IfOk result (λ empty. IsTrue empty → list_for groups.new.entries key.now ≡ []) }
+    ensures some { IfOk result (λ empty.
+        NoneEmpty groups.old.entries → NoneEmptyBut empty key.now groups.new.entries) }
 {
-    match groups.entry(Row::empty()) {
-        Ok(slot) => match slot {
-            Entry::Occupied(mut found) => {
-                let group = found.get_mut();
-                let forgotten = group.forget_all(alloc, rows, hi, now);
-                if group.is_empty() {
-                    found.remove();
-                }
-                forgotten
-            }
-            Entry::Vacant(vacant) => {
-                drop(vacant.into_key());
-                Ok(())
-            }
-        },
-        Err(_absent) => Ok(()),
+    match groups.get_mut(key) {
+        Some(group) => {
+            group.forget_all(alloc, rows, hi, now)?;
+            Ok(group.is_empty())
+        }
+        None => Ok(false),
     }
+}
+
+fn drop_group(groups: &mut HashMap<Row, Group>, key: &Row)
+    ensures { (q : List Value) → kept_for groups.new.entries q
+        ≡ cond (is_at (row_cmp key.now) q) None (kept_for groups.old.entries q) }
+{
+    groups.remove(key);
 }
 
 impl Groups {
@@ -152,14 +149,16 @@ impl Groups {
         Ok(())
     }
 
-    /// Forgets the times of a row that lie further back than `hi`.
+    /// Forgets the times of a row that lie further back than `hi`. A group that is left without rows goes.
     pub fn forget(&mut self, key: Row, row: Row, hi: u64, now: u64)
         ensures times { (q v : List Value) → times_at self.new q v
             ≡ cond (is_at (row_cmp key) q && is_at (row_cmp row) v)
             (recent hi now (times_at self.old q v)) (times_at self.old q v) }
         ensures some { NoneEmpty self.old → NoneEmpty self.new }
     {
-        forget_row(&mut self.groups, key, row, hi, now);
+        if forget_in(&mut self.groups, &key, row, hi, now) {
+            drop_group(&mut self.groups, &key);
+        }
     }
 
     /// The same for each of these rows, which all stand in the group of the empty row.
@@ -175,7 +174,11 @@ impl Groups {
             (recent hi now (times_at self.old q v)) (times_at self.old q v)) }
         ensures some { OnOk result (NoneEmpty self.old → NoneEmpty self.new) }
     {
-        forget_ungrouped(&mut self.groups, alloc, rows, hi, now)
+        let key = Row::empty();
+        if forget_all_in(&mut self.groups, alloc, &key, rows, hi, now)? {
+            drop_group(&mut self.groups, &key);
+        }
+        Ok(())
     }
 
     // drops the groups of other parts where they stand

@@ -4,12 +4,12 @@ use Rattle.mfotl_model.specs.Values.{row_cmp}
 use Rattle.relations.specs.KeptRows.{list_for}
 use Rattle.eval_since.specs.HeldTimes.{held_times}
 use Rattle.eval_since.specs.Times.{recent}
-use Rattle.eval_since.proofs.GroupLemmas.{none_recent}
+use Rattle.eval_since.proofs.GroupLemmas.{nothing_recent}
 use Rattle.eval_since.proofs.held.with_recent.Goals as goal
 
 pub returns-in-Zero-clause-times : goal.returns-in-Zero-clause-times
 returns-in-Zero-clause-times c = λ v.
-    none_recent c.args.hi c.args.now c.args.row v
+    nothing_recent c.args.hi c.args.now v (is_at (row_cmp c.args.row) v)
     ∙ (λ i. cond (is_at (row_cmp c.args.row) v)
     (recent c.args.hi c.args.now (list_for (held_times (sym c.in-Zero.is i)) v))
     (list_for (held_times (sym c.in-Zero.is i)) v))

@@ -10,7 +10,7 @@ use Rattle.eval_since.proofs.groups.Groups.add.Goals as goal
 
 pub returns-clause-times : goal.returns-clause-times
 returns-clause-times c = rw (← c.self.view_is) (λ q v.
-    regrouped (λ ts. added c.args.bounded ts c.args.x) c.args.key c.args.row q v c.self.inside.groups.entries _
+    regrouped (λ ts. added c.args.bounded ts c.args.x) c.args.key q v _ c.self.inside.groups.entries _
     c.add.new.self c.or_insert-group.result.now (Some c.add.new.self)
     (grind (arith, common_steps, (c.in_ok-self-inside.ensures.update.0 c.add.new.self).0 q))
     refl

@@ -8,7 +8,7 @@ use Rattle.eval_since.proofs.groups.Groups.put.Goals as goal
 
 pub returns-clause-times : goal.returns-clause-times
 returns-clause-times c = rw (← c.self.view_is) (λ q v.
-    regrouped (λ _. c.args.times) c.args.key c.args.row q v c.self.inside.groups.entries _
+    regrouped (λ _. c.args.times) c.args.key q v _ c.self.inside.groups.entries _
     c.put.new.self c.or_insert-group.result.now (Some c.put.new.self)
     (grind (arith, common_steps, (c.in_ok-self-inside.ensures.update.0 c.put.new.self).0 q))
     refl

@@ -1,0 +1,72 @@
+-- What is left where old times of a group's rows are forgotten.
+use Rattle.std.proofs.Common.{◌≡◌, ℕ, Bool, true, false, cond, ◌&&◌, nat_eq, List, [], length, Some, None, refl, sym}
+use Rattle.std.proofs.Common.{subst, ap, ◌∙◌, Option}
+use Rattle.std.specs.BTreeMap.{is_at}
+use Rattle.std.specs.Cmp.{eq_by_cmp_equiv}
+use Rattle.std.specs.HashMap.{HashMap, WritesThrough}
+use Rattle.std.specs.Map.{lookup}
+use Rattle.std.specs.Option.{IfSome, IsSome, unwrap_or}
+use Rattle.std.specs.Ordering.{eq_by_cmp}
+use Rattle.mfotl_model.specs.Values.{row_cmp, row_total}
+use Rattle.mfotl_model.specs.declared.value.Value.{Value}
+use Rattle.relations.proofs.KeptLemmas.{empty_list, not_empty}
+use Rattle.relations.proofs.MapLemmas.{nothing_there, same_row}
+use Rattle.relations.specs.KeptRows.{kept_for, list_for}
+use Rattle.eval_since.specs.Groups.{HaveTimes, NoneEmpty, NoneEmptyBut, times_at}
+use Rattle.eval_since.specs.Times.{recent}
+use Rattle.eval_since.proofs.FilledLemmas.{IsFilled, found_filled}
+use Rattle.eval_since.proofs.GroupLemmas.{nothing_recent, regrouped}
+
+-- in a group that isn't there
+pub not_there : (hi x : ℕ) (key q v : List Value) (meant : Bool)
+    (old new : List (List Value × List (List Value × List ℕ))) → new ≡ old → None ≡ kept_for old key
+    → times_at new q v ≡ cond (is_at (row_cmp key) q && meant) (recent hi x (times_at old q v)) (times_at old q v)
+not_there hi x key q v meant old new same none =
+    regrouped (recent hi x) key q v meant old new [] [] None (nothing_there key q old new same none) refl
+    (ap (λ o. unwrap_or o []) none) (nothing_recent hi x v meant)
+
+-- in a group e, which becomes g
+module _ {S : Type 0} (key : List Value) (m n : HashMap (List Value) (List (List Value × List ℕ)) S)
+    (g e : List (List Value × List ℕ)) (is : Some e ≡ lookup (is_at (row_cmp key)) m.entries)
+    (writes : WritesThrough (eq_by_cmp row_cmp) (eq_by_cmp row_cmp key) m g n) where
+  changes : (q : List Value) → kept_for n.entries q ≡ cond (is_at (row_cmp key) q) (Some g) (kept_for m.entries q)
+  changes q =
+      let w : IsSome (lookup (is_at (row_cmp key)) m.entries) = subst IsSome is refl in
+      (writes.3 w).0 q
+
+  pub forgets : (hi x : ℕ) (q v : List Value) (meant : Bool)
+      → list_for g v ≡ cond meant (recent hi x (list_for e v)) (list_for e v)
+      → times_at n.entries q v
+      ≡ cond (is_at (row_cmp key) q && meant) (recent hi x (times_at m.entries q v)) (times_at m.entries q v)
+  forgets hi x q v meant inner = regrouped (recent hi x) key q v meant m.entries n.entries g e (Some g) (changes q) refl
+      (ap (λ o. unwrap_or o []) is) inner
+
+  pub leaves_none : nat_eq (length g) 0 ≡ true → list_for n.entries key ≡ []
+  leaves_none none = ap (λ o. unwrap_or o []) (changes key
+      ∙ ap (λ b. cond b (Some g) (kept_for m.entries key)) ((eq_by_cmp_equiv row_total).refl key))
+      ∙ sym (empty_list g none)
+
+  pub leaves_filled : (HaveTimes e → HaveTimes g) → NoneEmpty m.entries
+      → NoneEmptyBut (nat_eq (length g) 0) key n.entries
+  leaves_filled stay all q = subst
+      (λ (o : Option (List (List Value × List ℕ))).
+      IfSome (cond (nat_eq (length g) 0 && is_at (row_cmp key) q) None o) IsFilled)
+      (sym (changes q)) (by (is_at (row_cmp key) q) (nat_eq (length g) 0) refl)
+    where
+      by : (b c : Bool) → nat_eq (length g) 0 ≡ c
+          → IfSome (cond (c && b) None (cond b (Some g) (kept_for m.entries q))) IsFilled
+      by true true w = tt
+      by true false w = (not_empty g w, stay (found_filled key m.entries e is all).1)
+      by false true w = all q
+      by false false w = all q
+
+-- where a group without rows goes, each row keeps its times
+pub none_lost : (key q v : List Value) (old new : List (List Value × List (List Value × List ℕ)))
+    → list_for old key ≡ [] → kept_for new q ≡ cond (is_at (row_cmp key) q) None (kept_for old q)
+    → times_at new q v ≡ times_at old q v
+none_lost key q v old new none gone = ap (λ o. list_for (unwrap_or o []) v) gone ∙ by (is_at (row_cmp key) q) refl
+  where
+    by : (b : Bool) → is_at (row_cmp key) q ≡ b
+        → list_for (unwrap_or (cond b None (kept_for old q)) []) v ≡ times_at old q v
+    by true at = ap (λ g. list_for g v) (sym none ∙ ap (list_for old) (same_row key q at))
+    by false at = refl
