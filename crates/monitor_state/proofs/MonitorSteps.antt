@@ -621,7 +621,8 @@ ended view point given whole done rest top old (f ∷ next) pending all took tak
 ended view point given whole done rest top old [] pending all took take works news = (
   subst (λ fs. NodesStand (longer view point) fs done) (sym (all ∙ append-nil old)) took,
   news_posed view point whole top
-      (top_only view point (posed whole) rest top (subst (λ fs. StackNews view point fs (rest ++ top ∷ [])) works news)),
+      (top_only view point (posed whole) rest top
+      (subst (λ fs. StackNews view point fs (rest ++ top ∷ [])) works news)),
 )
 
 -- the last node takes the time-point, and the step ends

@@ -2,6 +2,7 @@ pub mod Stacks
 pub mod Quantified
 pub mod Ordered
 pub mod Feeding
+pub mod HeldTables
 pub mod JoinFeeding
 pub mod OrFeeding
 pub mod PreviousFeeding

@@ -140,7 +140,7 @@ pub fn add_filter(
     let order = order_of(alloc, core, left, right)?;
     let window = asked_window(alloc, order.is_some(), left, right)?;
     let state = FilterState {
-        tables: Tables::new(alloc),
+        tables: Tables::new(),
         window,
         negated: is_negated(right),
         order,

@@ -11,7 +11,7 @@ use std::alloc::{AllocError, Global};
 pub fn quantified(alloc: Global, tables: Tables, var: u32) -> Result<Tables, AllocError>
     ensures { IfOk result (λ without. Quantifies var tables without) }
 {
-    let mut without = Tables::new(alloc);
+    let mut without = Tables::new();
     push_tables(alloc, &mut without, tables, var)?;
     Ok(without)
 }
@@ -40,5 +40,5 @@ fn push_quantified(
     ensures { OnOk result ((quantified : TableOf) × IsWithout var table quantified
         × (tables.new ≡ tables.old ++ quantified ∷ [])) }
 {
-    tables.push(table.exists(alloc, var)?)
+    tables.push(alloc, table.exists(alloc, var)?)
 }

@@ -37,15 +37,15 @@ pub fn take_filter(
     ensures { IfOk result (FilterTakes state.old ts tables left right state.new) }
 {
     feed_window(&mut state.window, ts, left, right)?;
-    push_tables(&mut state.tables, tables)?;
+    push_tables(alloc, &mut state.tables, tables)?;
     pulled(alloc, state)
 }
 
-fn push_tables(kept: &mut Tables, tables: Tables) -> Result<(), AllocError>
+fn push_tables(alloc: Global, kept: &mut Tables, tables: Tables) -> Result<(), AllocError>
     ensures { OnOk result (kept.new ≡ kept.old ++ tables) }
 {
     for table in tables {
-        kept.push(table)?;
+        kept.push(alloc, table)?;
     }
     Ok(())
 }
@@ -54,9 +54,9 @@ fn pulled(alloc: Global, state: &mut FilterState) -> Result<Tables, AllocError>
     ensures { IfOk result (λ tables. (last : FilterState) × FilterPulled state.old last tables
         × FilterStops last state.new) }
 {
-    let mut tables = Tables::new(alloc);
+    let mut tables = Tables::new();
     while let Some(table) = pull(alloc, state)? {
-        tables.push(table)?;
+        tables.push(alloc, table)?;
     }
     Ok(tables)
 }

@@ -61,9 +61,9 @@ fn pulled(alloc: Global, state: &mut JoinState) -> Result<Tables, AllocError>
     ensures pulled { IfOk result (JoinPulled state.old state.new) }
     ensures ends { OnOk result (join_due state.new ≡ false) }
 {
-    let mut tables = Tables::new(alloc);
+    let mut tables = Tables::new();
     while let Some(table) = state.pull(alloc)? {
-        tables.push(table)?;
+        tables.push(alloc, table)?;
     }
     Ok(tables)
 }

@@ -187,7 +187,7 @@ fn advanced(
             advance_before(alloc, before, stack, point)?;
             last.advance(alloc, point, stack)
         }
-        None => Ok(Tables::new(alloc)),
+        None => Ok(Tables::new()),
     }
 }
 

@@ -51,9 +51,9 @@ fn pulled(alloc: Global, state: &mut NextState) -> Result<Tables, AllocError>
     ensures pulled { IfOk result (NextPulled state.old state.new) }
     ensures ends { OnOk result (next_due state.new ≡ false) }
 {
-    let mut tables = Tables::new(alloc);
+    let mut tables = Tables::new();
     while let Some(table) = state.pull(alloc)? {
-        tables.push(table)?;
+        tables.push(alloc, table)?;
     }
     Ok(tables)
 }

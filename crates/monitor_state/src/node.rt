@@ -86,7 +86,7 @@ fn advance_constant(
         (Node.Constant table.now) _stack.now.items tables) }
 {
     match table.copy(alloc) {
-        Ok(copy) => Ok(Tables::one(alloc, copy)),
+        Ok(copy) => Ok(Tables::one(copy)),
         Err(error) => Err(error),
     }
 }
@@ -101,7 +101,7 @@ fn advance_atom(
         (Node.Atom reader.new) _stack.now.items tables) }
 {
     match reader.table(alloc, point) {
-        Ok(table) => Ok(Tables::one(alloc, table)),
+        Ok(table) => Ok(Tables::one(table)),
         Err(error) => Err(error),
     }
 }
@@ -115,7 +115,7 @@ fn advance_exists(
     ensures { IfOk result (λ tables. TakesPoint (Node.Exists var) _point.now stack.old.items
         (Node.Exists var) stack.new.items tables) }
 {
-    let tables = popped(alloc, stack);
+    let tables = popped(stack);
     quantified(alloc, tables, var)
 }
 
@@ -145,9 +145,9 @@ fn advance_filter(
     ensures { IfOk result (λ tables. TakesPoint (Node.Filter state.old) point.now stack.old.items
         (Node.Filter state.new) stack.new.items tables) }
 {
-    let right = popped(alloc, stack);
-    let left = popped(alloc, stack);
-    let tables = popped(alloc, stack);
+    let right = popped(stack);
+    let left = popped(stack);
+    let tables = popped(stack);
     take_filter(alloc, state, point.ts, tables, left, right)
 }
 
@@ -160,8 +160,8 @@ fn advance_or(
     ensures { IfOk result (λ tables. TakesPoint (Node.Or state.old) _point.now stack.old.items
         (Node.Or state.new) stack.new.items tables) }
 {
-    let right = popped(alloc, stack);
-    let left = popped(alloc, stack);
+    let right = popped(stack);
+    let left = popped(stack);
     take_or(alloc, state, left, right)
 }
 
@@ -174,7 +174,7 @@ fn advance_previous(
     ensures { IfOk result (λ tables. TakesPoint (Node.Previous state.old) point.now stack.old.items
         (Node.Previous state.new) stack.new.items tables) }
 {
-    let operand = popped(alloc, stack);
+    let operand = popped(stack);
     take_previous(alloc, state, point.ts, operand)
 }
 
@@ -187,7 +187,7 @@ fn advance_next(
     ensures { IfOk result (λ tables. TakesPoint (Node.Next state.old) point.now stack.old.items
         (Node.Next state.new) stack.new.items tables) }
 {
-    let operand = popped(alloc, stack);
+    let operand = popped(stack);
     take_next(alloc, state, point.ts, operand)
 }
 
@@ -201,8 +201,8 @@ fn advance_since(
     ensures { IfOk result (λ tables. TakesPoint (Node.Since state.old order.now) point.now stack.old.items
         (Node.Since state.new order.now) stack.new.items tables) }
 {
-    let right = popped(alloc, stack);
-    let left = popped(alloc, stack);
+    let right = popped(stack);
+    let left = popped(stack);
     take_since(alloc, state, order, point.ts, left, right)
 }
 
@@ -216,8 +216,8 @@ fn advance_until(
     ensures { IfOk result (λ tables. TakesPoint (Node.Until state.old order.now) point.now stack.old.items
         (Node.Until state.new order.now) stack.new.items tables) }
 {
-    let right = popped(alloc, stack);
-    let left = popped(alloc, stack);
+    let right = popped(stack);
+    let left = popped(stack);
     take_until(alloc, state, order, point.ts, left, right)
 }
 

@@ -44,9 +44,9 @@ fn pulled(alloc: Global, state: &mut OrState) -> Result<Tables, AllocError>
     ensures pulled { IfOk result (OrPulled state.old state.new) }
     ensures ends { OnOk result (or_due state.new ≡ false) }
 {
-    let mut tables = Tables::new(alloc);
+    let mut tables = Tables::new();
     while let Some(table) = state.pull(alloc)? {
-        tables.push(table)?;
+        tables.push(alloc, table)?;
     }
     Ok(tables)
 }

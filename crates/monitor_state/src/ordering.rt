@@ -32,7 +32,7 @@ pub fn push_in_order(
 ) -> Result<(), AllocError>
     ensures { OnOk result (PushedInOrder order.now.columns table tables.old tables.new) }
 {
-    tables.push(in_order(alloc, table, order)?)
+    tables.push(alloc, in_order(alloc, table, order)?)
 }
 
 // Whether both lists have the same columns, in whatever order.

@@ -48,9 +48,9 @@ fn pulled(alloc: Global, state: &mut PrevState) -> Result<Tables, AllocError>
     ensures pulled { IfOk result (PreviousPulled state.old state.new) }
     ensures ends { OnOk result (previous_due state.new ≡ false) }
 {
-    let mut tables = Tables::new(alloc);
+    let mut tables = Tables::new();
     while let Some(table) = state.pull(alloc)? {
-        tables.push(table)?;
+        tables.push(alloc, table)?;
     }
     Ok(tables)
 }

@@ -94,7 +94,7 @@ fn pulled(alloc: Global, state: &mut SinceState, order: &Table) -> Result<Tables
     ensures pulled { IfOk result (SincePulled order.now.columns state.old state.new) }
     ensures ends { OnOk result (due state.new ≡ false) }
 {
-    let mut tables = Tables::new(alloc);
+    let mut tables = Tables::new();
     while let Some(table) = state.pull(alloc)? {
         push_in_order(alloc, &mut tables, table, order)?;
     }

@@ -6,12 +6,12 @@ use crate::tables::Tables;
 use std::alloc::{AllocError, Global};
 
 /// Takes the tables on top of the stack.
-pub fn popped(alloc: Global, stack: &mut Vec<Tables>) -> Tables
+pub fn popped(stack: &mut Vec<Tables>) -> Tables
     ensures { Pops stack.old.items stack.new.items result }
 {
     match stack.pop() {
         Some(tables) => tables,
-        None => Tables::new(alloc),
+        None => Tables::new(),
     }
 }
 

@@ -1,60 +1,75 @@
 //! Tables of positions that follow one another.
 ghost use Rattle.std.specs.Prelude.{◌≡◌, ◌++◌, ◌∷◌, [], IfNone, IfOk, OnOk, length, option_to_list};
 ghost use Rattle.std.specs.Iterator.{YieldsFirst, item_count};
+ghost use Rattle.monitor_state.specs.HeldTables.{held_tables};
 
 use relations::{Table, copied_tables};
 use std::alloc::{AllocError, Global};
 use std::collections::VecDeque;
 use std::marker::Model;
+use std::mem;
 
-/// Tables of positions that follow one another, in their order. Mostly it is one, which takes no memory of its own.
+// Mostly there is one table, which takes no memory of its own.
+#[derive(Drop)]
+enum Held {
+    None,
+    One(Table),
+    Many(VecDeque<Table>),
+}
+
+/// Tables of positions that follow one another, in their order.
 #[derive(Drop)]
 pub struct Tables {
-    first: Option<Table>,
-    more: VecDeque<Table>,
+    held: Held,
 }
 
 impl Model for Tables {
-    ghost use Rattle.std.specs.Prelude.{◌≡◌, ◌++◌, [], IfNone, List, option_to_list};
+    ghost use Rattle.std.specs.Prelude.{List};
     ghost use Rattle.mfotl_model.specs.Tables.{TableOf};
+    ghost use Rattle.monitor_state.specs.HeldTables.{held_tables};
 
     ghost Value = { List TableOf };
 
-    ghost view = { λ t. option_to_list t.first ++ t.more.items };
+    ghost view = { λ t. held_tables t.held };
+}
 
-    ghost invariant = { λ t. IfNone t.first (t.more.items ≡ []) };
+// The tables and one more. The second takes memory for both.
+fn one_more(alloc: Global, held: Held, table: Table) -> Result<Held, AllocError>
+    ensures { IfOk result (λ more. held_tables more ≡ held_tables held ++ table ∷ []) }
+{
+    match held {
+        Held::None => Ok(Held::One(table)),
+        Held::One(first) => Ok(Held::Many(VecDeque::from_vec(vec![in alloc; first, table]?))),
+        Held::Many(mut tables) => {
+            tables.push_back(table)?;
+            Ok(Held::Many(tables))
+        }
+    }
 }
 
 impl Tables {
     /// No table.
-    pub fn new(alloc: Global) -> Self
+    pub fn new() -> Self
         ensures { result ≡ [] }
     {
-        Tables {
-            first: None,
-            more: VecDeque::new(alloc),
-        }
+        Tables { held: Held::None }
     }
 
     /// One table.
-    pub fn one(alloc: Global, table: Table) -> Self
+    pub fn one(table: Table) -> Self
         ensures { result ≡ table ∷ [] }
     {
         Tables {
-            first: Some(table),
-            more: VecDeque::new(alloc),
+            held: Held::One(table),
         }
     }
 
-    /// Adds the table of the next position.
-    pub fn push(&mut self, table: Table) -> Result<(), AllocError>
+    /// Adds the table of the next position. Where memory is wanting, none is left.
+    pub fn push(&mut self, alloc: Global, table: Table) -> Result<(), AllocError>
         ensures { OnOk result (self.new ≡ self.old ++ table ∷ []) }
     {
-        if self.first.is_none() {
-            self.first = Some(table);
-            return Ok(());
-        }
-        self.more.push_back(table)?;
+        let held = mem::replace(&mut self.held, Held::None);
+        self.held = one_more(alloc, held, table)?;
         Ok(())
     }
 
@@ -62,9 +77,10 @@ impl Tables {
     pub fn len(&self) -> usize
         ensures { result ≡ length self.now }
     {
-        match &self.first {
-            Some(_) => 1 + self.more.len(),
-            None => 0,
+        match &self.held {
+            Held::None => 0,
+            Held::One(_) => 1,
+            Held::Many(tables) => tables.len(),
         }
     }
 
@@ -72,22 +88,20 @@ impl Tables {
     pub fn from_vec(tables: Vec<Table>) -> Self
         ensures { result ≡ tables.items }
     {
-        let mut more = VecDeque::from_vec(tables);
-        let first = more.pop_front();
-        Tables { first, more }
+        Tables {
+            held: Held::Many(VecDeque::from_vec(tables)),
+        }
     }
 
     /// Copies of the tables.
     pub fn copied(&self, alloc: Global) -> Result<Vec<Table>, AllocError>
         ensures { IfOk result (λ copies. copies.items ≡ self.now) }
     {
-        let mut copies = Vec::new(alloc);
-        if let Some(first) = &self.first {
-            copies.push(first.copy(alloc)?)?;
+        match &self.held {
+            Held::None => Ok(Vec::new(alloc)),
+            Held::One(table) => Ok(vec![in alloc; table.copy(alloc)?]?),
+            Held::Many(tables) => copied_tables(alloc, tables),
         }
-        let mut more = copied_tables(alloc, &self.more)?;
-        copies.append(&mut more)?;
-        Ok(copies)
     }
 
     /// Takes the first table.
@@ -95,11 +109,13 @@ impl Tables {
         ensures first { self.old ≡ option_to_list result ++ self.new }
         ensures none { IfNone result (self.old ≡ []) }
     {
-        let first = self.first.take();
-        if !self.more.is_empty() {
-            self.first = self.more.pop_front();
+        if let Held::Many(tables) = &mut self.held {
+            return tables.pop_front();
         }
-        first
+        match mem::replace(&mut self.held, Held::None) {
+            Held::One(table) => Some(table),
+            _ => None,
+        }
     }
 }
 

@@ -98,7 +98,7 @@ fn pulled(alloc: Global, state: &mut UntilState, order: &Table) -> Result<Tables
     ensures ends { OnOk result (due state.new ≡ false) }
     ensures all { OnOk result (took_all state.new ≡ true) }
 {
-    let mut tables = Tables::new(alloc);
+    let mut tables = Tables::new();
     while let Some(table) = state.pull(alloc)? {
         push_in_order(alloc, &mut tables, table, order)?;
     }

@@ -116,9 +116,11 @@ add_not-returns t c =
 pub add_nodes-add_whole_previous-requires : goal.add_nodes-add_whole_previous-requires
 add_nodes-add_whole_previous-requires t c =
     let same : node_form c.args.core.now ≡ Previous c.in-Previous.interval (node_form c.deref-in-Previous.result.now) =
-    ap node_form c.in-Previous.is ∙ ap (λ n. Previous c.in-Previous.interval (node_form n)) (sym c.deref-in-Previous.ensures) in
+    ap node_form c.in-Previous.is ∙ ap (λ n. Previous c.in-Previous.interval (node_form n))
+    (sym c.deref-in-Previous.ensures) in
     let less : nodes (node_form c.deref-in-Previous.result.now) < nodes (node_form c.args.core.now) =
-    previous_smaller (node_form c.args.core.now) c.in-Previous.interval (node_form c.deref-in-Previous.result.now) same in
+    previous_smaller (node_form c.args.core.now) c.in-Previous.interval (node_form c.deref-in-Previous.result.now) same
+    in
     let smaller : 2 * nodes (node_form c.deref-in-Previous.result.now) + 1 < 2 * nodes (node_form c.args.core.now) =
     omega arith in
     (search rules, (same, (c.args.role, c.requires)))
@@ -131,7 +133,8 @@ pub add_whole_previous-add_nodes-requires : goal.add_whole_previous-add_nodes-re
 add_whole_previous-add_nodes-requires t c =
     let smaller : 2 * nodes (node_form c.args.inner.now) < 2 * nodes (node_form c.args.inner.now) + 1 = omega arith in (
       search rules,
-      previous_under_at c.requires.accepted.0 (node_form c.args.core.now) c.args.interval.now (node_form c.args.inner.now)
+      previous_under_at c.requires.accepted.0 (node_form c.args.core.now) c.args.interval.now
+          (node_form c.args.inner.now)
           c.requires.operand c.requires.accepted.1,
     )
 
@@ -180,13 +183,16 @@ add_nodes-add_whole_since-requires t c =
     let same : node_form c.args.core.now ≡ Since c.in-Since.interval (node_form c.deref-in-Since.result.now)
     (node_form c.deref-in-Since-2.result.now) =
     ap node_form c.in-Since.is
-    ∙ ap (λ n. Since c.in-Since.interval (node_form n) (node_form c.in-Since.right.value)) (sym c.deref-in-Since.ensures)
-    ∙ ap (λ n. Since c.in-Since.interval (node_form c.deref-in-Since.result.now) (node_form n)) (sym c.deref-in-Since-2.ensures) in
+    ∙ ap (λ n. Since c.in-Since.interval (node_form n) (node_form c.in-Since.right.value))
+    (sym c.deref-in-Since.ensures)
+    ∙ ap (λ n. Since c.in-Since.interval (node_form c.deref-in-Since.result.now) (node_form n))
+    (sym c.deref-in-Since-2.ensures) in
     let less : 2 * (nodes (node_form c.deref-in-Since.result.now) + nodes (node_form c.deref-in-Since-2.result.now))
     < 2 * nodes (node_form c.args.core.now) =
     since_both_smaller (node_form c.args.core.now) c.in-Since.interval (node_form c.deref-in-Since.result.now)
     (node_form c.deref-in-Since-2.result.now) same in
-    let smaller : 2 * (nodes (node_form c.deref-in-Since.result.now) + nodes (node_form c.deref-in-Since-2.result.now)) + 1
+    let smaller : 2 * (nodes (node_form c.deref-in-Since.result.now) + nodes (node_form c.deref-in-Since-2.result.now))
+    + 1
     < 2 * nodes (node_form c.args.core.now) = omega arith in
     (search rules, (same, (c.args.role, c.requires)))
 
@@ -216,7 +222,8 @@ pub add_whole_since-returns : goal.add_whole_since-returns
 add_whole_since-returns t c =
     on_ok_weaker c.add_since.result
     (λ own role.
-    since_adds role (node_form c.args.core.now) c.args.interval.now (node_form c.args.left.now) (node_form c.args.right.now)
+    since_adds role (node_form c.args.core.now) c.args.interval.now (node_form c.args.left.now)
+    (node_form c.args.right.now)
     c.args.nodes.now.items c.add_both.new.nodes.items c.add_since.new.nodes.items c.requires.operands
     c.in_ok-add_both.ensures own)
     c.add_since.ensures
@@ -226,13 +233,16 @@ add_nodes-add_whole_until-requires t c =
     let same : node_form c.args.core.now ≡ Until c.in-Until.interval (node_form c.deref-in-Until.result.now)
     (node_form c.deref-in-Until-2.result.now) =
     ap node_form c.in-Until.is
-    ∙ ap (λ n. Until c.in-Until.interval (node_form n) (node_form c.in-Until.right.value)) (sym c.deref-in-Until.ensures)
-    ∙ ap (λ n. Until c.in-Until.interval (node_form c.deref-in-Until.result.now) (node_form n)) (sym c.deref-in-Until-2.ensures) in
+    ∙ ap (λ n. Until c.in-Until.interval (node_form n) (node_form c.in-Until.right.value))
+    (sym c.deref-in-Until.ensures)
+    ∙ ap (λ n. Until c.in-Until.interval (node_form c.deref-in-Until.result.now) (node_form n))
+    (sym c.deref-in-Until-2.ensures) in
     let less : 2 * (nodes (node_form c.deref-in-Until.result.now) + nodes (node_form c.deref-in-Until-2.result.now))
     < 2 * nodes (node_form c.args.core.now) =
     until_both_smaller (node_form c.args.core.now) c.in-Until.interval (node_form c.deref-in-Until.result.now)
     (node_form c.deref-in-Until-2.result.now) same in
-    let smaller : 2 * (nodes (node_form c.deref-in-Until.result.now) + nodes (node_form c.deref-in-Until-2.result.now)) + 1
+    let smaller : 2 * (nodes (node_form c.deref-in-Until.result.now) + nodes (node_form c.deref-in-Until-2.result.now))
+    + 1
     < 2 * nodes (node_form c.args.core.now) = omega arith in
     (search rules, (same, (c.args.role, c.requires)))
 
@@ -262,7 +272,8 @@ pub add_whole_until-returns : goal.add_whole_until-returns
 add_whole_until-returns t c =
     on_ok_weaker c.add_until.result
     (λ own role.
-    until_adds role (node_form c.args.core.now) c.args.interval.now (node_form c.args.left.now) (node_form c.args.right.now)
+    until_adds role (node_form c.args.core.now) c.args.interval.now (node_form c.args.left.now)
+    (node_form c.args.right.now)
     c.args.nodes.now.items c.add_both.new.nodes.items c.add_until.new.nodes.items c.requires.operands
     c.in_ok-add_both.ensures own)
     c.add_until.ensures

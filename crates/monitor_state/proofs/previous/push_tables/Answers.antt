@@ -10,7 +10,8 @@ loop-table-init c = pushed_none c.args.state.now
 pub loop-table-preserved : goal.loop-table-preserved
 loop-table-preserved c =
     pushed_more c.args.state.now c.loop-table.state c.push_table.new.state c.loop-table.yielded c.in-Some.table
-    c.loop-table.invariant c.in_ok-push_table.ensures.pushed (λ t a v h one. c.in_ok-push_table.ensures.follows t a v h (one, tt))
+    c.loop-table.invariant c.in_ok-push_table.ensures.pushed
+    (λ t a v h one. c.in_ok-push_table.ensures.follows t a v h (one, tt))
 
 pub returns : goal.returns
 returns c =

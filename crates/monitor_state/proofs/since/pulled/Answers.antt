@@ -7,4 +7,5 @@ loop-tables-preserved c =
     c.push_in_order.new.tables
     c.in_ok-table.field-0 c.in-Some.table c.in_ok-push_in_order.ensures.ordered c.loop-tables.invariant c.in-Some.is
     c.in_ok-table.ensures.due c.in_ok-table.ensures.state c.in_ok-table.ensures.follows c.in_ok-table.ensures.columns
-    c.in_ok-table.ensures.rows c.in_ok-push_in_order.ensures.columns c.in_ok-push_in_order.ensures.same c.in_ok-push_in_order.ensures.pushed
+    c.in_ok-table.ensures.rows c.in_ok-push_in_order.ensures.columns c.in_ok-push_in_order.ensures.same
+    c.in_ok-push_in_order.ensures.pushed

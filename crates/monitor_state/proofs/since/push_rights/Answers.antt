@@ -7,7 +7,8 @@ use Rattle.monitor_state.proofs.since.push_rights.Goals as goal
 pub loop-table-preserved : goal.loop-table-preserved
 loop-table-preserved c =
     rights_more c.args.state.now c.loop-table.state c.push_right.new.state c.loop-table.yielded c.in-Some.table
-    c.loop-table.invariant c.in_ok-push_right.ensures.pushed (λ t a b v h one. c.in_ok-push_right.ensures.follows t a b v h (one, tt))
+    c.loop-table.invariant c.in_ok-push_right.ensures.pushed
+    (λ t a b v h one. c.in_ok-push_right.ensures.follows t a b v h (one, tt))
 
 pub returns : goal.returns
 returns c =

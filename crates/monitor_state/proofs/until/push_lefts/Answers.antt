@@ -10,7 +10,8 @@ loop-table-init c = lefts_none c.args.state.now
 pub loop-table-preserved : goal.loop-table-preserved
 loop-table-preserved c =
     lefts_more c.args.state.now c.loop-table.state c.push_left.new.state c.loop-table.yielded c.in-Some.table
-    c.loop-table.invariant c.in_ok-push_left.ensures.pushed (λ a v h one. c.in_ok-push_left.ensures.left a v h (one, tt))
+    c.loop-table.invariant c.in_ok-push_left.ensures.pushed
+    (λ a v h one. c.in_ok-push_left.ensures.left a v h (one, tt))
     (λ t a b v h one. c.in_ok-push_left.ensures.follows t a b v h (one, tt))
 
 pub returns : goal.returns
