@@ -11,5 +11,6 @@ returns-in-Less-clause-step g c =
 pub returns-in-Greater-clause-step : goal.returns-in-Greater-clause-step
 returns-in-Greater-clause-step g c =
     steps_in_second g.K.Keyed.order g.K.Keyed.told (g.K.Keyed.both c.args.limit) c.take_first-in-Greater.result
-    c.args.first.now.items c.args.second.now.items c.take_first-in-Greater.new.list.items c.take_first-in-Greater.ensures.first
+    c.args.first.now.items c.args.second.now.items c.take_first-in-Greater.new.list.items
+    c.take_first-in-Greater.ensures.first
     c.take_first-in-Greater.ensures.none (sym c.order_of_firsts.ensures ∙ c.in-Greater.is)

@@ -44,7 +44,8 @@ loop-item-preserved g c =
     let takes = subst (Takes g.W.Work.stands g.W.Work.may work) steps.0 i.2 in (
       i.0 ∙ ap (λ xs. done ++ xs) steps.0 ∙ sym (append_assoc done item left),
       ok.count ∙ i.1,
-      takes_on g.W.Work.stands g.W.Work.may g.met.W.Work.may_less work item left c.work_one.new.cell.work did.0 takes did.2,
+      takes_on g.W.Work.stands g.W.Work.may g.met.W.Work.may_less work item left c.work_one.new.cell.work did.0 takes
+          did.2,
       (
         before.0 ++ did.0,
         did.1 ∙ ap (λ xs. xs ++ did.0) before.1 ∙ append_assoc c.args.cell.now.outs.items before.0 did.0,
