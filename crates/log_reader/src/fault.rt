@@ -9,7 +9,7 @@ use std::fmt;
 use thiserror::Error;
 
 /// The first fault of a log. Offsets count bytes from the start of the log.
-#[derive(Clone, Copy, Debug, Error)]
+#[derive(Clone, Copy, Error)]
 pub enum LogFault {
     /// Bytes that are no token.
     Lex(LexFault),
@@ -95,6 +95,13 @@ impl fmt::Display for LogFault {
                 write!(f, "{name} at {at}")
             }
         }
+    }
+}
+
+// As it is printed, since a derived `Debug` of so many cases is dear to prove.
+impl fmt::Debug for LogFault {
+    fn fmt<W: fmt::Write>(&self, f: &mut fmt::Formatter<W>) -> fmt::Result {
+        fmt::Display::fmt(self, f)
     }
 }
 

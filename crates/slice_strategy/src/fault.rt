@@ -28,6 +28,31 @@ pub enum StrategyFault {
     Memory,
 }
 
+impl StrategyFault {
+    ghost use Rattle.std.specs.Prelude.{◌++◌, IfSome, IsNone, codes};
+    ghost use Rattle.std.specs.Fmt.{decimal};
+    ghost use Rattle.slice_strategy.specs.FaultTexts.{fault_text};
+
+    // The name and the offset of a fault that is printed with both.
+    fn parts(&self) -> Option<(&'static str, u64)>
+        ensures some { IfSome result (λ parts.
+            fault_text self.now ≡ parts.0.now ++ codes " at " ++ decimal parts.1) }
+        ensures none { IsNone result → fault_text self.now ≡ codes "Memory" }
+    {
+        let parts = match self {
+            StrategyFault::Syntax(at) => ("Syntax", *at),
+            StrategyFault::UnknownVariable(at) => ("UnknownVariable", *at),
+            StrategyFault::RepeatedVariable(at) => ("RepeatedVariable", *at),
+            StrategyFault::BadCount(at) => ("BadCount", *at),
+            StrategyFault::CutSort(at) => ("CutSort", *at),
+            StrategyFault::CutOrder(at) => ("CutOrder", *at),
+            StrategyFault::TooManyWorkers(at) => ("TooManyWorkers", *at),
+            StrategyFault::Memory => return None,
+        };
+        Some(parts)
+    }
+}
+
 // By hand, since a derived `Display` says nothing of its bytes to a contract.
 impl fmt::Display for StrategyFault {
     ghost use Rattle.std.specs.Prelude.{Some};
@@ -36,15 +61,9 @@ impl fmt::Display for StrategyFault {
     ghost output = { λ fault. Some (fault_text fault) };
 
     fn fmt<W: fmt::Write>(&self, f: &mut fmt::Formatter<W>) -> fmt::Result {
-        match self {
-            StrategyFault::Syntax(at) => write!(f, "Syntax at {at}"),
-            StrategyFault::UnknownVariable(at) => write!(f, "UnknownVariable at {at}"),
-            StrategyFault::RepeatedVariable(at) => write!(f, "RepeatedVariable at {at}"),
-            StrategyFault::BadCount(at) => write!(f, "BadCount at {at}"),
-            StrategyFault::CutSort(at) => write!(f, "CutSort at {at}"),
-            StrategyFault::CutOrder(at) => write!(f, "CutOrder at {at}"),
-            StrategyFault::TooManyWorkers(at) => write!(f, "TooManyWorkers at {at}"),
-            StrategyFault::Memory => f.write_str("Memory"),
+        match self.parts() {
+            Some((name, at)) => write!(f, "{name} at {at}"),
+            None => f.write_str("Memory"),
         }
     }
 }
