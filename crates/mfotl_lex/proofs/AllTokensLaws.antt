@@ -1,30 +1,24 @@
 -- The reader that takes every token owes what the layer of first faults asks.
-use Rattle.std.proofs.Common.{◌≡◌, List, [], ◌∷◌, ◌++◌, Result, Ok, Err, refl, sym, ap, ◌∙◌}
+use Rattle.std.proofs.Common.{◌≡◌, List, [], ◌∷◌, ◌++◌, Ok, Err, refl}
 use Rattle.std.proofs.lemmas.List.{append-nil, append_assoc}
 use Rattle.std.specs.Prelude.{◌↔◌}
 use Rattle.mfotl_lex.specs.declared.fault.LexFault.{LexFault}
 use Rattle.mfotl_lex.specs.AllTokens.{take_token, all_taken, IsViable, IsCause, IsLast, IsValue, TokensAreTaken}
-use Rattle.mfotl_lex.specs.FirstFault.{◌>>=◌, Tail, Broken, End, More, Text, run, reading, FollowsGrammar}
+use Rattle.mfotl_lex.specs.FirstFault.{Tail, Broken, Text, run, reading, FollowsGrammar}
 use Rattle.mfotl_lex.specs.Lexemes.{Lexeme}
 use Rattle.mfotl_lex.proofs.FirstFaultLaws.{exact_faults, exact_soundness, one_answer}
 use Rattle.mfotl_lex.proofs.TextLaws.{stays_shown}
 
 all_read : (ts front : List Lexeme) → run take_token ts front ≡ Ok (front ++ ts)
 unfolding run
-all_read [] front = ap (λ us. Ok us) (sym (append-nil front))
-all_read (t ∷ ts) front = all_read ts (front ++ t ∷ []) ∙ ap (λ us. Ok us) (append_assoc front (t ∷ []) ts)
+all_read [] front = rw append-nil
+all_read (t ∷ ts) front = rw append_assoc at (all_read ts (front ++ t ∷ []))
 
 tail_shows : (tail : Tail LexFault) (ts : List Lexeme) (fault : LexFault)
     → (all_taken tail ts ≡ Err fault) ↔ (tail ≡ Broken fault)
-tail_shows (Broken other) ts fault = (λ e. told other e, λ e. broken other e)
-  where
-    told : (other : LexFault) → all_taken (Broken other) ts ≡ Err fault → Broken other ≡ Broken fault
-    told other e = let same : other ≡ fault = cc in ap (λ f. Broken f) same
-
-    broken : (other : LexFault) → Broken other ≡ Broken fault → all_taken (Broken other) ts ≡ Err fault
-    broken other e = let same : other ≡ fault = cc in ap (λ f. Err f) same
-tail_shows (End end) ts fault = (λ e. absurd cc, λ e. absurd cc)
-tail_shows More ts fault = (λ e. absurd cc, λ e. absurd cc)
+tail_shows (Broken other) ts fault =
+    (λ e. let same : other ≡ fault = cc e in rw same, λ e. let same : other ≡ fault = cc e in rw same)
+tail_shows other ts fault = (λ e. absurd cc, λ e. absurd cc)
 
 follows : FollowsGrammar take_token [] all_taken IsViable IsCause IsLast
 follows = record {
@@ -36,36 +30,26 @@ follows = record {
 taken : (tail : Tail LexFault) (ts vs : List Lexeme) → all_taken tail ts ≡ Ok vs
     → ((fault : LexFault) → tail ≡ Broken fault → ⊥) × (vs ≡ ts)
 taken (Broken other) ts vs e = absurd cc
-taken (End end) ts vs e = (λ fault f. absurd cc, cc)
-taken More ts vs e = (λ fault f. absurd cc, cc)
+taken other ts vs e = (λ fault f. absurd cc, cc)
 
 read : (x : Text Lexeme LexFault) (vs : List Lexeme) → reading take_token [] all_taken x ≡ Ok vs → IsValue x vs
 unfolding reading
 read x vs e =
-    let all =
-    taken x.tail x.list vs
-    (sym (ap (λ (r : Result (List Lexeme) LexFault). r >>= λ ts. all_taken x.tail ts) (all_read x.list [])) ∙ e) in
-    record { whole = all.0; value = all.1 }
+    let all = taken x.tail x.list vs (rw (all_read x.list []) at e) in record { whole = all.0; value = all.1 }
 
 whole_taken : (tail : Tail LexFault) (ts : List Lexeme) → ((fault : LexFault) → tail ≡ Broken fault → ⊥)
     → all_taken tail ts ≡ Ok ts
 whole_taken (Broken fault) ts whole = absurd (whole fault refl)
-whole_taken (End end) ts whole = refl
-whole_taken More ts whole = refl
+whole_taken other ts whole = refl
 
 value : (x : Text Lexeme LexFault) (vs : List Lexeme) → IsValue x vs → reading take_token [] all_taken x ≡ Ok vs
 unfolding reading
-value x vs v =
-    ap (λ (r : Result (List Lexeme) LexFault). r >>= λ ts. all_taken x.tail ts) (all_read x.list [])
-    ∙ whole_taken x.tail x.list v.whole ∙ ap (λ ts. Ok ts) (sym v.value)
-
-no_more : (s : List Lexeme) (fault : LexFault) → all_taken More s ≡ Err fault → ⊥
-no_more s fault e = cc
+value x vs v = rw (all_read x.list [], whole_taken x.tail x.list v.whole, v.value)
 
 pub tokens_are_taken : TokensAreTaken
 tokens_are_taken = record {
   exact = exact_faults take_token [] all_taken IsViable IsCause IsLast follows;
   sound = exact_soundness take_token [] all_taken IsViable IsCause IsLast follows;
   one = one_answer (reading take_token [] all_taken) IsValue read value;
-  stays = stays_shown take_token [] all_taken no_more;
+  stays = stays_shown take_token [] all_taken (λ s fault e. cc);
 }

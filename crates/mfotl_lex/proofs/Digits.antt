@@ -1,6 +1,6 @@
 -- Digits only add to a number.
-use Rattle.std.proofs.Common.{◌≡◌, ℕ, ◌+◌, ◌-◌, ◌*◌, ◌≤◌, ◌<◌, List, [], ◌∷◌, length, get_or, drop, None, refl, sym}
-use Rattle.std.proofs.Common.{◌∙◌, arith, add-one, drop-cons}
+use Rattle.std.proofs.Common.{◌≡◌, ℕ, suc, ◌+◌, ◌-◌, ◌*◌, ◌≤◌, ◌<◌, List, [], ◌∷◌, length, get_or, drop, None, refl}
+use Rattle.std.proofs.Common.{arith, drop-cons}
 use Rattle.std.proofs.lemmas.Bool.{lt-leb}
 use Rattle.mfotl_lex.specs.Numbers.{digits_value, within_limit}
 
@@ -9,20 +9,13 @@ unfolding digits_value
 grows n [] = omega arith
 grows n (b ∷ bytes) = omega (arith, grows (10 * n + (b - 48)) bytes)
 
--- one more digit
-digit_step : (n i : ℕ) (bytes : List ℕ) → i < length bytes
-    → digits_value n (drop i bytes) ≡ digits_value (10 * n + (get_or bytes i 0 - 48)) (drop (i + 1) bytes)
-unfolding digits_value
-digit_step n i bytes lt = rw (add-one, drop-cons bytes i 0) refl
-
 -- a number above the limit, and digits leave it there
 pub passes_limit : (limit n digit i : ℕ) (bytes : List ℕ) → i < length bytes
     → digit ≡ get_or bytes i 0 - 48
     → digits_value n (drop i bytes) ≡ digits_value 0 bytes → limit < 10 * n + digit
     → None ≡ within_limit limit (digits_value 0 bytes)
+unfolding digits_value
 passes_limit limit n digit i bytes lt e so_far above =
     let next = 10 * n + (get_or bytes i 0 - 48) in
-    let more : next ≤ digits_value next (drop (i + 1) bytes) = grows next (drop (i + 1) bytes) in
-    let same : digits_value next (drop (i + 1) bytes) ≡ digits_value 0 bytes =
-    sym (digit_step n i bytes lt) ∙ so_far in
-    rw (lt-leb (digits_value 0 bytes) limit (omega arith)) refl
+    let same : digits_value next (drop (suc i) bytes) ≡ digits_value 0 bytes = rw (drop-cons bytes i 0) at so_far in
+    rw (lt-leb (digits_value 0 bytes) limit (omega (arith, same, grows next (drop (suc i) bytes)))) refl

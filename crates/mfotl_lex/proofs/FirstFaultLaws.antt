@@ -1,5 +1,5 @@
 -- What follows of a reader that owes what `FollowsGrammar` says.
-use Rattle.std.proofs.Common.{◌≡◌, ◌⊎◌, inl, inr, List, [], ◌∷◌, ◌++◌, Result, Ok, Err, refl, sym, ap, subst, ◌∙◌}
+use Rattle.std.proofs.Common.{◌≡◌, ◌⊎◌, inl, inr, List, [], ◌∷◌, ◌++◌, Result, Ok, Err, refl, sym, ap, ◌∙◌}
 use Rattle.std.proofs.lemmas.List.{append-nil, append_assoc}
 use Rattle.mfotl_lex.specs.FirstFault.{◌>>=◌, Tail, Text, run, StopsAt, reading, ShowNone}
 use Rattle.mfotl_lex.specs.FirstFault.{ShownByToken, IsFirst, FollowsGrammar, ExactSoundness}
@@ -21,12 +21,6 @@ bind_same (Ok x) f g same = same x
 bind_same (Err fault) f g same = refl
 
 module _ {S T E : Type 0} (step : S → T → Result S E) where
-  abbrev outcome : S → Result S E
-  outcome s = Ok s
-
-  same_read : (p q : S) → outcome p ≡ outcome q → p ≡ q
-  same_read p q e = cc
-
   -- one token, where it shows no fault, and where it does
   pub run_token : (t : T) (ts : List T) (s q : S) → step s t ≡ Ok q → run step (t ∷ ts) s ≡ run step ts q
   unfolding run
@@ -40,18 +34,14 @@ module _ {S T E : Type 0} (step : S → T → Result S E) where
   unfolding run
   run_none s = refl
 
-  run_both : (front back : List T) (r : Result S E)
-      → ((s : S) → run step (front ++ back) s ≡ (run step front s >>= λ q. run step back q))
-      → (r >>= λ s. run step (front ++ back) s) ≡ ((r >>= λ s. run step front s) >>= λ q. run step back q)
-  run_both front back (Ok s) both = both s
-  run_both front back (Err fault) both = refl
-
   -- one list of tokens, and then another
   pub run-append : (front back : List T) (s : S)
       → run step (front ++ back) s ≡ (run step front s >>= λ q. run step back q)
   unfolding run
   run-append [] back s = refl
-  run-append (t ∷ front) back s = run_both front back (step s t) (λ q. run-append front back q)
+  run-append (t ∷ front) back s =
+      bind_same (step s t) _ _ (λ q. run-append front back q)
+      ∙ sym (bind_assoc (step s t) (λ q. run step front q) (λ q. run step back q))
 
   -- tokens behind some that show no fault
   pub run_behind : (front back : List T) (s q : S) → run step front s ≡ Ok q
@@ -75,17 +65,17 @@ module _ {S T E : Type 0} (step : S → T → Result S E) where
       → (front ts : List T) (s q : S) → Holds front s → run step ts s ≡ Ok q → Holds (front ++ ts) q
   unfolding run
   holds_behind Holds keeps front [] s q holds e =
-      subst (λ us. Holds us q) (sym (append-nil front)) (subst (Holds front) (same_read s q e) holds)
+      let same : s ≡ q = cc e in rw (append-nil, ← same) holds
   holds_behind Holds keeps front (t ∷ ts) s q holds e =
       let first = bind_ok (step s t) (λ x. run step ts x) q e in
-      subst (λ us. Holds us q) (append_assoc front (t ∷ []) ts)
+      rw append_assoc at
       (holds_behind Holds keeps (front ++ t ∷ []) ts first.0 q (keeps front s first.0 t holds first.1) first.2)
 
   -- the token that shows a fault stops the run, whatever stands behind it
   pub stops : (s : S) (ts : List T) (fault : E) → StopsAt step s ts fault → run step ts s ≡ Err fault
   stops s ts fault x =
-      ap (λ us. run step us s) x.parts ∙ run_behind x.front (x.token ∷ x.back) s x.read x.sound
-      ∙ run_fault x.token x.back x.read fault x.stop
+      rw (x.parts, run_behind x.front (x.token ∷ x.back) s x.read x.sound)
+      (run_fault x.token x.back x.read fault x.stop)
 
   stopped_by : (s : S) (t : T) (ts : List T) (fault : E) (r : Result S E) → step s t ≡ r
       → ((q : S) → run step ts q ≡ Err fault → StopsAt step q ts fault) → (r >>= λ q. run step ts q) ≡ Err fault
@@ -109,11 +99,6 @@ module _ {S T E : Type 0} (step : S → T → Result S E) where
   unfolding run
   stopped s [] fault e = absurd cc
   stopped s (t ∷ ts) fault e = stopped_by s t ts fault (step s t) refl (λ q f. stopped q ts fault f) e
-
-module _ {S T E O : Type 0} (step : S → T → Result S E) (gives : S → T → List O) where
-  -- nothing is given behind the tokens
-  abbrev pub nothing : S → List O
-  nothing s = []
 
 module _ {S T L E V : Type 0} (step : S → T → Result S E) (start : S) (at_tail : Tail L → S → Result V E)
     (IsViable : List T → Type 0) (IsCause : List T → T → E → Type 0) (IsLast : List T → Tail L → E → Type 0)
@@ -181,12 +166,10 @@ module _ {S T L E V : Type 0} (step : S → T → Result S E) (start : S) (at_ta
   shows : (x : Text T L) (fault : E) → IsFirst IsViable IsCause IsLast x fault
       → reading step start at_tail x ≡ Err fault
   unfolding reading
-  shows x fault (inl v) =
-      ap (λ (r : Result S E). r >>= λ s. at_tail x.tail s) (stops step start x.list fault (shown_stop x.list fault v))
+  shows x fault (inl v) = rw (stops step start x.list fault (shown_stop x.list fault v))
   shows x fault (inr v) =
       let sound = clear_sound x.list v.clear in
-      ap (λ (r : Result S E). r >>= λ s. at_tail x.tail s) sound.1
-      ∙ (follows.tail x.list sound.0 x.tail fault sound.1).1 v.cause
+      rw sound.1 ((follows.tail x.list sound.0 x.tail fault sound.1).1 v.cause)
 
   pub exact_faults : ExactFaults step start at_tail IsViable IsCause IsLast
   unfolding reading

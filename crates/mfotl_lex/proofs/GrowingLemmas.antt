@@ -1,9 +1,8 @@
 -- A place reads on with more bytes.
 use Rattle.std.proofs.Common.{◌≡◌, ℕ, zero, suc, ◌+◌, ◌<◌, Bool, false, List, ◌∷◌, ◌++◌, length, drop, Option, Some}
-use Rattle.std.proofs.Common.{None, Result, Ok, Err, refl, sym, ap, subst, ◌∙◌, arith, add_assoc}
+use Rattle.std.proofs.Common.{None, Result, Ok, Err, refl, sym, ap, ◌∙◌, arith, add_assoc}
 use Rattle.std.proofs.lemmas.List.{take-append-le, drop-append-le, drop-drop}
 use Rattle.mfotl_lex.specs.declared.fault.LexFault.{LexFault}
-use Rattle.mfotl_lex.specs.declared.kind.Mode.{Mode}
 use Rattle.mfotl_lex.specs.declared.scan.Scan.{Scan}
 use Rattle.mfotl_lex.specs.declared.scan.Scan.TheVariants.{Unshown, Takes, Fails}
 use Rattle.mfotl_lex.specs.Blanks.{blank_len}
@@ -14,105 +13,73 @@ use Rattle.mfotl_lex.specs.Lexemes.{tokens}
 use Rattle.mfotl_lex.specs.Growing.{grown, ReadsOn, stopped, joined_at, tokens_joined, MoreBytesChangeNothing}
 use Rattle.mfotl_lex.proofs.BlankLoop.{blanks_within}
 use Rattle.mfotl_lex.proofs.BlankLemmas.{blank_len-append, blank_len-drop}
-use Rattle.mfotl_lex.proofs.ScanLemmas.{scan_within}
 use Rattle.mfotl_lex.proofs.Growth.{IsShown, keeps_shown, scan_keeps, no_blank_before}
-use Rattle.mfotl_lex.proofs.Sequence.{scan_at, next_is, after_is, after_shorter, after_ended, nothing_after}
+use Rattle.mfotl_lex.proofs.Sequence.{scan_at, at_within, next_is, after_is, after_shorter, after_ended, nothing_after}
 use Rattle.mfotl_lex.proofs.Sequence.{tokens_step, tokens_token, tokens_none, tokens_fault, stopped_at_token}
 use Rattle.mfotl_lex.proofs.Sequence.{stopped_at_none}
 
-abbrev open_at : Mode → ℕ → List ℕ → Place
-open_at mode at bytes = record { mode = mode; at = at; rest = bytes; ended = false }
-
 shown_by_token : (q : Place) (s : Scan) (t : Lexeme) → token_at q s ≡ Ok (Some t) → IsShown s
-shown_by_token q Unshown t e = absurd cc
 shown_by_token q (Takes kind n) t e = tt
-shown_by_token q (Fails fault n) t e = absurd cc
+shown_by_token q other t e = absurd cc
 
 shown_by_fault : (q : Place) (s : Scan) (f : LexFault) → token_at q s ≡ Err f → IsShown s
-shown_by_fault q Unshown f e = absurd cc
-shown_by_fault q (Takes kind n) f e = absurd cc
 shown_by_fault q (Fails fault n) f e = tt
+shown_by_fault q other f e = absurd cc
 
 -- ---- where something is shown
 
 grown_token : (q : Place) (more : List ℕ) (ended : Bool) (s : Scan) → IsWithin q.rest s
     → token_at (grown q more ended) s ≡ token_at q s
-grown_token q more ended Unshown w = refl
 grown_token q more ended (Takes kind n) w = rw (take-append-le n q.rest more w.1) refl
-grown_token q more ended (Fails fault n) w = refl
+grown_token q more ended other w = refl
 
 grown_after : (p q : Place) (more : List ℕ) (ended : Bool) (s : Scan) (t : Lexeme) → IsWithin q.rest s
     → token_at q s ≡ Ok (Some t)
     → place_after (grown p more ended) (grown q more ended) s ≡ grown (place_after p q s) more ended
-grown_after p q more ended Unshown t w e = absurd cc
 grown_after p q more ended (Takes kind n) t w e = rw (drop-append-le n q.rest more w.1) refl
-grown_after p q more ended (Fails fault n) t w e = absurd cc
+grown_after p q more ended other t w e = absurd cc
 
-past_same : (mode : Mode) (at : ℕ) (bytes more : List ℕ) (ended : Bool)
-    → IsShown (scan_at (open_at mode at bytes))
-    → past_blanks (grown (open_at mode at bytes) more ended)
-    ≡ grown (past_blanks (open_at mode at bytes)) more ended
-past_same mode at bytes more ended shown =
-    let n = blank_len false bytes in
-    let none : blank_len ended (drop n bytes ++ more) ≡ 0 =
-    no_blank_before mode (drop n bytes) more ended (blank_len-drop false bytes) shown in
-    let count : blank_len ended (bytes ++ more) ≡ n =
-    omega (arith, blank_len-append ended bytes more, none) in
-    rw (count, drop-append-le n bytes more (blanks_within false bytes)) refl
+module _ (p : Place) (more : List ℕ) (ended : Bool) (untold : p.ended ≡ false) where
+  past_same : IsShown (scan_at p) → past_blanks (grown p more ended) ≡ grown (past_blanks p) more ended
+  past_same shown =
+      let n = blank_len false p.rest in
+      let none = no_blank_before p.mode (drop n p.rest) more ended (blank_len-drop false p.rest) (rw untold at shown) in
+      let count : blank_len ended (p.rest ++ more) ≡ n = omega (arith, blank_len-append ended p.rest more, none) in
+      rw (untold, count, drop-append-le n p.rest more (blanks_within false p.rest)) refl
 
-scan_same : (mode : Mode) (at : ℕ) (bytes more : List ℕ) (ended : Bool)
-    → IsShown (scan_at (open_at mode at bytes))
-    → scan_at (grown (open_at mode at bytes) more ended) ≡ scan_at (open_at mode at bytes)
-scan_same mode at bytes more ended shown =
-    let front = drop (blank_len false bytes) bytes in
-    ap (λ (q : Place). scan mode ended q.rest) (past_same mode at bytes more ended shown)
-    ∙ keeps_shown (scan mode false front) (scan mode ended (front ++ more))
-    (scan_keeps mode ended front more) shown
+  scan_same : IsShown (scan_at p) → scan_at (grown p more ended) ≡ scan_at p
+  scan_same shown =
+      ap (λ (q : Place). scan p.mode ended q.rest) (past_same shown)
+      ∙ keeps_shown (scan_at p) (scan p.mode ended ((past_blanks p).rest ++ more))
+      (rw untold (scan_keeps p.mode ended (drop (blank_len false p.rest) p.rest) more)) shown
 
-next_same : (mode : Mode) (at : ℕ) (bytes more : List ℕ) (ended : Bool)
-    → IsShown (scan_at (open_at mode at bytes))
-    → next_token (grown (open_at mode at bytes) more ended) ≡ next_token (open_at mode at bytes)
-next_same mode at bytes more ended shown =
-    let p = open_at mode at bytes in
-    let q = past_blanks p in
-    let within = scan_within mode false q.rest in
-    next_is (grown p more ended)
-    ∙ rw (past_same mode at bytes more ended shown, scan_same mode at bytes more ended shown)
-    (grown_token q more ended (scan_at p) within) ∙ sym (next_is p)
+  next_same : IsShown (scan_at p) → next_token (grown p more ended) ≡ next_token p
+  next_same shown =
+      rw (next_is (grown p more ended), past_same shown, scan_same shown, next_is p)
+      (grown_token (past_blanks p) more ended (scan_at p) (at_within p))
 
-after_same : (mode : Mode) (at : ℕ) (bytes more : List ℕ) (ended : Bool) (t : Lexeme)
-    → next_token (open_at mode at bytes) ≡ Ok (Some t)
-    → after (grown (open_at mode at bytes) more ended)
-    ≡ grown (after (open_at mode at bytes)) more ended
-after_same mode at bytes more ended t e =
-    let p = open_at mode at bytes in
-    let q = past_blanks p in
-    let found : token_at q (scan_at p) ≡ Ok (Some t) = sym (next_is p) ∙ e in
-    let shown = shown_by_token q (scan_at p) t found in
-    let within = scan_within mode false q.rest in
-    after_is (grown p more ended)
-    ∙ rw (past_same mode at bytes more ended shown, scan_same mode at bytes more ended shown)
-    (grown_after p q more ended (scan_at p) t within found)
-    ∙ ap (λ (r : Place). grown r more ended) (sym (after_is p))
+  after_same : (t : Lexeme) → token_at (past_blanks p) (scan_at p) ≡ Ok (Some t)
+      → after (grown p more ended) ≡ grown (after p) more ended
+  after_same t e =
+      let shown = shown_by_token (past_blanks p) (scan_at p) t e in
+      rw (after_is (grown p more ended), past_same shown, scan_same shown, after_is p)
+      (grown_after p (past_blanks p) more ended (scan_at p) t (at_within p) e)
 
--- ---- where nothing is shown
+  -- ---- where nothing is shown
+
+  past_again : past_blanks (grown p more ended) ≡ past_blanks (grown (past_blanks p) more ended)
+  past_again =
+      let n = blank_len false p.rest in
+      let m = blank_len ended (drop n p.rest ++ more) in
+      let e : drop (n + m) (p.rest ++ more) ≡ drop m (drop n p.rest ++ more) =
+      rw (← drop-append-le n p.rest more (blanks_within false p.rest)) (sym (drop-drop _ n (p.rest ++ more))) in
+      rw (untold, blank_len-append ended p.rest more, e, add_assoc p.at n m) refl
 
 any_before : (a b q : Place) (s : Scan) → followed (token_at q s)
     (tokens (place_after a q s)) ≡ followed (token_at q s) (tokens (place_after b q s))
 any_before a b q Unshown = refl
 any_before a b q (Takes kind n) = refl
 any_before a b q (Fails fault n) = refl
-
-past_again : (mode : Mode) (at : ℕ) (bytes more : List ℕ) (ended : Bool)
-    → past_blanks (grown (open_at mode at bytes) more ended)
-    ≡ past_blanks (grown (past_blanks (open_at mode at bytes)) more ended)
-past_again mode at bytes more ended =
-    let n = blank_len false bytes in
-    let m = blank_len ended (drop n bytes ++ more) in
-    let e : drop (n + m) (bytes ++ more) ≡ drop m (drop n bytes ++ more) =
-    rw (← drop-append-le n bytes more (blanks_within false bytes))
-    (sym (drop-drop _ n (bytes ++ more))) in
-    rw (blank_len-append ended bytes more, e, add_assoc at n m) refl
 
 -- places that have the same behind their blanks have the same tokens
 pub tokens_same : (p q : Place) → past_blanks p ≡ past_blanks q → tokens p ≡ tokens q
@@ -125,29 +92,19 @@ tokens_same p q e =
 
 -- ---- the law
 
-reads_on_open : (mode : Mode) (at : ℕ) (bytes more : List ℕ) (ended : Bool)
-    → ReadsOn (open_at mode at bytes) more ended
-reads_on_open mode at bytes more ended =
-    let p = open_at mode at bytes in
-    record {
-      token = λ t e. next_same mode at bytes more ended
-          (shown_by_token (past_blanks p) (scan_at p) t (sym (next_is p) ∙ e)) ∙ e;
-      behind = λ t e. after_same mode at bytes more ended t e;
-      fault = λ f e. next_same mode at bytes more ended
-          (shown_by_fault (past_blanks p) (scan_at p) f (sym (next_is p) ∙ e)) ∙ e;
-      none = λ e.
-          let here : after p ≡ past_blanks p = nothing_after p e in
-          tokens_same (grown p more ended) (grown (past_blanks p) more ended)
-          (past_again mode at bytes more ended)
-          ∙ ap (λ (r : Place). tokens (grown r more ended)) (sym here);
-    }
-
 -- a place whose end isn't told reads on
 pub reads_on : (p : Place) (more : List ℕ) (ended : Bool) → p.ended ≡ false → ReadsOn p more ended
-reads_on p more ended e =
-    subst (λ (b : Bool). ReadsOn
-    (record { mode = p.mode; at = p.at; rest = p.rest; ended = b }) more ended) (sym e)
-    (reads_on_open p.mode p.at p.rest more ended)
+reads_on p more ended untold =
+    let q = past_blanks p in
+    record {
+      token = λ t e.
+          next_same p more ended untold (shown_by_token q (scan_at p) t (sym (next_is p) ∙ e)) ∙ e;
+      behind = λ t e. after_same p more ended untold t (sym (next_is p) ∙ e);
+      fault = λ f e.
+          next_same p more ended untold (shown_by_fault q (scan_at p) f (sym (next_is p) ∙ e)) ∙ e;
+      none = λ e. rw (nothing_after p e)
+          (tokens_same (grown p more ended) (grown q more ended) (past_again p more ended untold));
+    }
 
 joined_cons : (t : Lexeme) (list : List Lexeme) (fault : Option LexFault) (more : Tokens)
     → followed (Ok (Some t)) (joined_at fault list more) ≡ joined_at fault (t ∷ list) more

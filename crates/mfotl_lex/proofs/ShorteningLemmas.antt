@@ -1,36 +1,29 @@
 -- An open comment may be kept as its `#` alone.
-use Rattle.std.proofs.Common.{◌≡◌, ℕ, suc, ◌+◌, ◌-◌, ◌<◌, Bool, List, ◌∷◌, ◌++◌, length, drop, None, Ok, refl, sym}
-use Rattle.std.proofs.Common.{ap, ◌∙◌, inl, inr, arith, add_assoc}
-use Rattle.std.proofs.lemmas.List.{drop_at, drop-drop}
+use Rattle.std.proofs.Common.{◌≡◌, ℕ, zero, suc, ◌+◌, ◌<◌, Bool, List, ◌∷◌, ◌++◌, length, drop, None, Ok, refl, sym}
+use Rattle.std.proofs.Common.{◌∙◌, inl, inr, arith, add_assoc}
+use Rattle.std.proofs.Math.Seq.{drop-append-add}
 use Rattle.mfotl_lex.specs.declared.kind.Mode.{Mode}
-use Rattle.mfotl_lex.specs.declared.scan.Scan.TheVariants.{Unshown}
 use Rattle.mfotl_lex.specs.Bytes.{hash}
 use Rattle.mfotl_lex.specs.Blanks.{blank_len}
-use Rattle.mfotl_lex.specs.Lexemes.{past_blanks, token_at, next_token}
+use Rattle.mfotl_lex.specs.Lexemes.{past_blanks, next_token}
 use Rattle.mfotl_lex.specs.Shortening.{place_at, OpenCommentsShorten}
 use Rattle.mfotl_lex.proofs.BlankLemmas.{blanks_of_open}
 use Rattle.mfotl_lex.proofs.Growth.{scan_hash}
-use Rattle.mfotl_lex.proofs.Sequence.{scan_at, next_is, tokens_none}
+use Rattle.mfotl_lex.proofs.Sequence.{next_is, tokens_none}
 use Rattle.mfotl_lex.proofs.GrowingLemmas.{tokens_same}
 
 -- an open comment shows nothing
 open_shows_none : (mode : Mode) (at : ℕ) (bytes : List ℕ) (ended : Bool)
     → blank_len ended (hash ∷ bytes) ≡ 0 → next_token (place_at mode at (hash ∷ bytes) ended) ≡ Ok None
 open_shows_none mode at bytes ended none =
-    let p = place_at mode at (hash ∷ bytes) ended in
-    let s : scan_at p ≡ Unshown = rw none (scan_hash mode ended bytes) in
-    next_is p ∙ ap (token_at (past_blanks p)) s
+    rw (next_is (place_at mode at (hash ∷ bytes) ended), none, scan_hash mode ended bytes)
 
 drop_comment : (n : ℕ) (comment more : List ℕ) → 0 < n
     → drop (length comment + n) (hash ∷ (comment ++ more)) ≡ drop n (hash ∷ more)
-drop_comment n comment more some =
-    let e : length comment + n ≡ suc (length comment + (n - 1)) = omega arith in
-    let f : n ≡ suc (n - 1) = omega arith in
-    let g : drop (length comment + (n - 1)) (comment ++ more) ≡ drop (n - 1) more =
-    sym (drop-drop (n - 1) (length comment) (comment ++ more))
-    ∙ ap (drop (n - 1)) (drop_at comment more (length comment) refl) in
-    ap (λ (k : ℕ). drop k (hash ∷ (comment ++ more))) e ∙ g
-    ∙ ap (λ (k : ℕ). drop k (hash ∷ more)) (sym f)
+drop_comment zero comment more some = absurd (omega arith)
+drop_comment (suc n) comment more some =
+    let e : length comment + suc n ≡ suc (length comment + n) = omega arith in
+    rw e (drop-append-add comment more n)
 
 pub shortening : OpenCommentsShorten
 shortening mode at comment more ended none =

@@ -17,6 +17,11 @@ module _ {E : Type 0} (IsRule : E → Type 0) where
       → Broken {A = A} rules (Err fault)
   breaks rules fault is_rule broken = record { broken = broken; fault = fault; is_rule = is_rule; shown = refl }
 
+  still_broken : {A B : Type 0} {rules others : Type 0} {r : Result A E} {r' : Result B E} → (b : Broken rules r)
+      → (others → rules) → r' ≡ Err b.fault → Broken others r'
+  still_broken b from shown =
+      record { broken = λ k. b.broken (from k); fault = b.fault; is_rule = b.is_rule; shown = shown }
+
   module _ {A : Type 0} (rules : Type 0) (r : Result A E) (x : A) where
     pub judged_ok : (y : A) → Judged rules r x → r ≡ Ok y → rules × (y ≡ x)
     judged_ok y (inl kept) e = (kept.0, cc (e, kept.1))
@@ -34,28 +39,14 @@ module _ {E : Type 0} (IsRule : E → Type 0) where
     pub then_judged : {B : Type 0} (more all : Type 0) (f : A → Result B E) (y : B) → (rules → more → all)
         → (all → rules × more)
         → Judged rules r x → (rules → Judged more (f x) y) → Judged all (r >>= f) y
-    then_judged more all f y to from (inr b) later =
-        inr (record {
-          broken = λ k. b.broken (from k).0;
-          fault = b.fault;
-          is_rule = b.is_rule;
-          shown = ap (λ r. r >>= f) b.shown;
-        })
-    then_judged more all f y to from (inl kept) later = by (later kept.0)
-      where
-        by : Judged more (f x) y → Judged all (r >>= f) y
-        by (inl last) = inl (to kept.0 last.0, ap (λ r. r >>= f) kept.1 ∙ last.1)
-        by (inr b) =
-            inr (record {
-              broken = λ k. b.broken (from k).1;
-              fault = b.fault;
-              is_rule = b.is_rule;
-              shown = ap (λ r. r >>= f) kept.1 ∙ b.shown;
-            })
+    then_judged more all f y to from (inr b) later = inr (still_broken b (λ k. (from k).0) (rw b.shown))
+    then_judged more all f y to from (inl kept) later = elim (later kept.0) [
+      | inl last ↦ inl (to kept.0 last.0, rw kept.1 last.1)
+      | inr b ↦ inr (still_broken b (λ k. (from k).1) (rw kept.1 b.shown))
+    ]
 
     -- the same verdict in other words
     pub judged_as : (others : Type 0) (y : A) → (rules → others) → (others → rules) → x ≡ y → Judged rules r x
         → Judged others r y
     judged_as others y to from same (inl kept) = inl (to kept.0, kept.1 ∙ ap (λ x. Ok x) same)
-    judged_as others y to from same (inr b) =
-        inr (record { broken = λ k. b.broken (from k); fault = b.fault; is_rule = b.is_rule; shown = b.shown })
+    judged_as others y to from same (inr b) = inr (still_broken b from b.shown)

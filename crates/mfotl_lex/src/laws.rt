@@ -18,21 +18,25 @@ pub fn tokens_are_the_bytes()
 {}
 
 /// No token changes the lexer's mode.
+#[tactic(auto, using(crate::proofs::Sequence::modes_stay))]
 pub fn modes_stay()
     ensures { ModesStay }
 {}
 
 /// Of a comment that isn't at its end a reader needs the `#` alone, in the place of its last byte.
+#[tactic(auto, using(crate::proofs::ShorteningLemmas::shortening))]
 pub fn open_comments_shorten()
     ensures { OpenCommentsShorten }
 {}
 
 /// The layer of first faults, at the reader that takes every token.
+#[tactic(auto, using(crate::proofs::AllTokensLaws::tokens_are_taken))]
 pub fn tokens_are_taken()
     ensures { TokensAreTaken }
 {}
 
 /// Texts worked out by hand, and the tokens that they are cut into.
+#[tactic(auto, using(crate::proofs::WorkedCuts::worked_texts))]
 pub fn worked_texts()
     ensures { WorkedTexts }
 {}
