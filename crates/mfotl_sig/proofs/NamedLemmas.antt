@@ -61,12 +61,8 @@ pub present : (name : List ℕ) (ws : List WrittenPredicate) → Finds name (num
 present name ws f =
     let preds = numbered 0 ws in
     let at = f.member in
-    let among : Contains (names preds) f.pred.name = (
-      at.0,
-      rw length-map at.1,
-      get_or-map (λ (p : PredOf). p.name) preds at.0 f.pred f.pred.name at.1
-          ∙ ap (λ (p : PredOf). p.name) at.2,
-    ) in
+    let is = get_or-map (λ (p : PredOf). p.name) preds at.0 f.pred f.pred.name at.1 ∙ ap (λ (p : PredOf). p.name) at.2 in
+    let among : Contains (names preds) f.pred.name = (at.0, rw length-map at.1, is) in
     subst (Contains (names_of ws)) f.same (rw (names_numbered ws 0) at among)
 
 pub absent : (name : List ℕ) (ws : List WrittenPredicate) → Lacks name (numbered 0 ws) → Contains (names_of ws) name → ⊥
@@ -88,12 +84,7 @@ lent_by : (lent : Option (Bor Pred)) (name : List ℕ) (preds : List PredOf) →
     → Finds name preds ⊎ Lacks name preds
     → IsLent lent name preds
 lent_by None name preds e (inl f) = absurd (cc (e, f.found))
-lent_by None name preds e (inr l) =
-    record {
-      none = (λ none. l.differ, λ all. refl);
-      name_is = tt;
-      member = tt;
-    }
+lent_by None name preds e (inr l) = record { none = (λ none. l.differ, λ all. refl); name_is = tt; member = tt }
 lent_by (Some p) name preds e (inl f) =
     let is : pred_of p.now ≡ f.pred = cc (e, f.found) in
     record {

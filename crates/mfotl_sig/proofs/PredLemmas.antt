@@ -23,19 +23,14 @@ pub lookup_named : (entries : List (Vec ℕ × Pred)) (name : List ℕ) → AllB
     → option_map pred_of (lookup (λ k. bytes_eq name k.items) entries) ≡ named name (preds_of entries)
 lookup_named [] name keyed = refl
 lookup_named (e ∷ entries) name keyed =
-    let same =
-    either_way (bytes_eq name e.0.items) e.1 (lookup (λ k. bytes_eq name k.items) entries)
-    (named name (preds_of entries)) (lookup_named entries name keyed.1) in
-    same ∙ ap (λ key. cond (bytes_eq name key) (Some (pred_of e.1)) (named name (preds_of entries))) keyed.0
+    rw keyed.0 (either_way (bytes_eq name e.1.name) e.1 _ _ (lookup_named entries name keyed.1))
 
 -- the first predicate of the name among the values is that one too
 pub first_named : (entries : List (Vec ℕ × Pred)) (name : List ℕ)
     → option_map pred_of (find (λ (p : Pred). bytes_eq name p.name) (map (λ e. e.1) entries))
     ≡ named name (preds_of entries)
 first_named [] name = refl
-first_named (e ∷ entries) name =
-    either_way (bytes_eq name e.1.name) e.1 (find (λ (p : Pred). bytes_eq name p.name) (map (λ e. e.1) entries))
-    (named name (preds_of entries)) (first_named entries name)
+first_named (e ∷ entries) name = either_way (bytes_eq name e.1.name) e.1 _ _ (first_named entries name)
 
 -- when two keys of the map are one
 abbrev pub same_key : Vec ℕ → Vec ℕ → Bool
@@ -48,10 +43,10 @@ pub record GoesLast (entries new : List (Vec ℕ × Pred)) (pred : Pred) : Type 
 
 behind : (b : Bool) (e : Vec ℕ × Pred) (entries others : List (Vec ℕ × Pred)) (pred : Pred) → KeyedByName e
     → cond b (Some (pred_of e.1)) (named pred.name (preds_of entries)) ≡ None
-    → (named pred.name (preds_of entries) ≡ None → GoesLast entries others pred) → (key : Vec ℕ)
+    → (named pred.name (preds_of entries) ≡ None → GoesLast entries others pred)
     → GoesLast (e ∷ entries) (cond b ((e.0, pred) ∷ entries) (e ∷ others)) pred
-behind true e entries others pred keyed absent go key = absurd cc
-behind false e entries others pred keyed absent go key =
+behind true e entries others pred keyed absent go = absurd cc
+behind false e entries others pred keyed absent go =
     let last = go absent in
     record { preds = ap (λ ps. pred_of e.1 ∷ ps) last.preds; keyed = (keyed, last.keyed) }
 
@@ -61,10 +56,5 @@ pub insert_new : (entries : List (Vec ℕ × Pred)) (key : Vec ℕ) (pred : Pred
     → named pred.name (preds_of entries) ≡ None → GoesLast entries (insert_entry same_key entries key pred) pred
 insert_new [] key pred keyed named_so absent = record { preds = refl; keyed = (named_so, tt) }
 insert_new (e ∷ entries) key pred keyed named_so absent =
-    let same : bytes_eq key.items e.0.items ≡ bytes_eq pred.name e.1.name =
-    ap (λ k. bytes_eq k e.0.items) named_so ∙ ap (bytes_eq pred.name) keyed.0 in
-    let last =
-    behind (bytes_eq pred.name e.1.name) e entries (insert_entry same_key entries key pred) pred keyed.0 absent
-    (insert_new entries key pred keyed.1 named_so) key in
-    subst (λ b. GoesLast (e ∷ entries)
-    (cond b ((e.0, pred) ∷ entries) (e ∷ insert_entry same_key entries key pred)) pred) (sym same) last
+    let same : bytes_eq key.items e.0.items ≡ bytes_eq pred.name e.1.name = rw (named_so, keyed.0) in
+    rw same (behind _ e entries _ pred keyed.0 absent (insert_new entries key pred keyed.1 named_so))
