@@ -1,7 +1,7 @@
 -- Behind each part of a change script: where a token leads, or of which fault it is the cause.
-use Rattle.std.proofs.Common.{◌≡◌, ◌∙◌, ◌⊎◌, inl, inr, ℕ, nat_le, Bool, true, false, ◌&&◌, if◌then◌else◌}
-use Rattle.std.proofs.Common.{List, [], ◌∷◌, ◌++◌, Result, Ok, Err, ap, refl, sym, subst}
-use Rattle.std.proofs.lemmas.Bool.{leb-false, and_parts}
+use Rattle.std.proofs.Common.{◌≡◌, ◌∙◌, ◌⊎◌, inl, inr, ℕ, true, false, ◌&&◌, List, [], ◌∷◌, ◌++◌, Result, Ok, Err, ap}
+use Rattle.std.proofs.Common.{refl, sym, subst}
+use Rattle.std.proofs.lemmas.Bool.{and_parts, cases_Bool}
 use Rattle.std.proofs.lemmas.List.{append-nil, append_assoc}
 use Rattle.std.specs.Prelude.{pos, int_lt}
 use Rattle.mfotl_lex.specs.declared.kind.Kind.{Kind}
@@ -17,35 +17,35 @@ use Rattle.slice_strategy.specs.declared.change.ChangeFault.{ChangeFault}
 use Rattle.slice_strategy.specs.declared.change.ChangeFault.TheVariants.{Strategy, FallingChange, TooManyChanges}
 use Rattle.slice_strategy.specs.declared.fault.StrategyFault.{StrategyFault}
 use Rattle.slice_strategy.specs.declared.fault.StrategyFault.TheVariants.{Syntax, UnknownVariable, RepeatedVariable}
-use Rattle.slice_strategy.specs.declared.fault.StrategyFault.TheVariants.{TooManyWorkers, Memory}
-use Rattle.slice_strategy.specs.declared.stage.Method.{Method}
-use Rattle.slice_strategy.specs.declared.stage.Method.TheVariants as method
+use Rattle.slice_strategy.specs.declared.fault.StrategyFault.TheVariants.{Memory}
 use Rattle.slice_strategy.specs.Causes as strategy_causes
 use Rattle.slice_strategy.specs.ChangeCauses.{InChange, IsOwn, IsCauseWithin, IsByEqual, IsCause}
 use Rattle.slice_strategy.specs.ChangeGrammar.{Script, NoChange, Change, is_before, IsBefore, IsNumber, FitsScript}
 use Rattle.slice_strategy.specs.ChangeGrammar.{spell_script, IsScript, IsViableScript}
-use Rattle.slice_strategy.specs.ChangeReading.{ScriptOf, lifted, may_begin, change_goes_on, interrupted, change_opened}
-use Rattle.slice_strategy.specs.ChangeReading.{decided, step}
+use Rattle.slice_strategy.specs.ChangeReading.{ScriptOf, lifted, may_begin, change_goes_on, interrupted, decided, step}
 use Rattle.slice_strategy.specs.ChangeReading.{nothing_read}
 use Rattle.slice_strategy.specs.ChangeRules.{point_number, changes_of}
-use Rattle.slice_strategy.specs.Grammar.{Opening, Entries, NoEntry, Then, Part, Whole, ToName, ToEqual}
-use Rattle.slice_strategy.specs.Grammar.{ToMethod, ToColon}
-use Rattle.slice_strategy.specs.Grammar.{ToComma, FitsPart, spell, spell_part, IsPart, IsViable}
+use Rattle.slice_strategy.specs.Grammar.{Entries, NoEntry, Then, Part, Whole, ToName, ToEqual, FitsPart, spell}
+use Rattle.slice_strategy.specs.Grammar.{spell_part, IsPart, IsViable}
 use Rattle.slice_strategy.specs.Limits.{max_workers}
 use Rattle.slice_strategy.specs.Reading as strategy
 use Rattle.slice_strategy.specs.Reading.{Partial, Between, ended}
-use Rattle.slice_strategy.specs.Rules.{number, strategy_of, IsNew}
+use Rattle.slice_strategy.specs.Rules.{number, strategy_of}
+use Rattle.slice_strategy.specs.Causes.{IsEndOfOver}
 use Rattle.slice_strategy.proofs.CauseLaw.{part_stands, few_closed}
 use Rattle.slice_strategy.proofs.Moves as strategies
-use Rattle.slice_strategy.proofs.Moves.{AreFew, so_far, behind, name_judged, stepped}
+use Rattle.slice_strategy.proofs.Moves.{so_far, behind, name_judged, stepped, begins_whole, itself, over_of}
+use Rattle.slice_strategy.proofs.Moves.{whole_begins}
 use Rattle.slice_strategy.proofs.PartMoves as parts
-use Rattle.slice_strategy.proofs.PartMoves.{part_viable, IsNamedBy, Leads}
+use Rattle.slice_strategy.proofs.PartMoves.{part_viable, IsNamedBy}
 use Rattle.slice_strategy.proofs.PartReads.{KeepsPart, few_of, kept_whole, known_whole, kept_reads}
-use Rattle.slice_strategy.proofs.ChangeParts.{Place, Outside, ToBefore, Inside, FitsPlace, spell_place}
-use Rattle.slice_strategy.proofs.ChangeParts.{spell_number, stopped, inside_of, at_place, KeepsPlace, IsCaused}
-use Rattle.slice_strategy.proofs.ChangeParts.{number_judged, MayCome}
-use Rattle.slice_strategy.proofs.ChangeRuns.{IsNoBefore, before_word, within_of, else_step, before_step}
-use Rattle.slice_strategy.proofs.ChangeRuns.{equal_step, name_again, whole_begins}
+use Rattle.slice_strategy.proofs.ChangeParts.{Place, Outside, ToBefore, Inside, FitsPlace, spell_place, spell_number}
+use Rattle.slice_strategy.proofs.ChangeParts.{stopped, inside_of, at_place, KeepsPlace, IsCaused, number_judged}
+use Rattle.slice_strategy.proofs.ChangeParts.{MayCome}
+use Rattle.slice_strategy.proofs.ChangeRuns.{IsNoBefore, before_word, within_of, else_step, before_step, equal_step}
+use Rattle.slice_strategy.proofs.ChangeRuns.{name_again}
+use Rattle.std.proofs.Math.Bool.{and-true}
+use Rattle.std.proofs.lemmas.Bool.Decides.{leb_tells}
 
 -- ---- the grammar goes on
 
@@ -91,6 +91,19 @@ place_viable (ToBefore s w) fits =
 place_viable (Inside s w n p) fits =
     inner_viable s w n (spell_part p) fits.0 fits.1 fits.2 (part_viable p fits.3)
 
+-- the tokens of a strategy in a change
+pub place_in : (ts : List Lexeme) (s : Script) (w n : Lexeme) (p : Part) → FitsPlace (Inside s w n p)
+    → ts ≡ spell_place (Inside s w n p) → InChange ts (spell_part p)
+place_in ts s w n p fits spelled = record {
+  whole = s;
+  word = w;
+  count = n;
+  fits = fits.0;
+  before = fits.1;
+  numbered = fits.2;
+  parts = spelled;
+}
+
 -- ---- one token more
 
 module _ (vars : List Var) where
@@ -122,9 +135,8 @@ module _ (vars : List Var) where
   judged_moves : (p q : Place) (t : Lexeme) (rules : Type 0) (r : Result ScriptOf ChangeFault) → FitsPlace q
       → spell_place q ≡ spell_place p ++ t ∷ []
       → layer.Judged (IsCaused vars (spell_place p) t) rules r (at_place vars q) → Moves p t r
-  judged_moves p q t rules r fits spelled (inl kept) =
-      subst (Moves p t) (sym kept.1) (leads_to p q t fits spelled)
-  judged_moves p q t rules r fits spelled (inr b) = subst (Moves p t) (sym b.shown) (shows p t b.fault b.is_rule)
+  judged_moves p q t rules r fits spelled (inl kept) = rw kept.1 (leads_to p q t fits spelled)
+  judged_moves p q t rules r fits spelled (inr b) = rw b.shown (shows p t b.fault b.is_rule)
 
   -- a fault of a strategy's rules, in the script
   strategy_shows : (p : Place) (t : Lexeme) (fault : StrategyFault) → strategies.IsRule fault
@@ -140,105 +152,75 @@ module _ (vars : List Var) where
   -- in front of all changes
   outside_moves : (t : Lexeme) → Moves Outside t (step vars nothing_read t)
   unfolding step
-  outside_moves t = by (is_before t.kind t.text) refl
-    where
-      by : (b : Bool) → is_before t.kind t.text ≡ b
-          → Moves Outside t (if b then Ok (stopped vars NoChange t) else Err (Strategy (Syntax t.at)))
-      by true is = leads_to Outside (ToBefore NoChange t) t (tt, is) refl
-      by false is = same_at t.at
+  outside_moves t =
+      elim (cases_Bool (is_before t.kind t.text)) [
+        | inl is ↦ rw is (leads_to Outside (ToBefore NoChange t) t (tt, is) refl)
+        | inr other ↦ rw other (same_at t.at)
+      ]
 
   -- ---- behind a `before`
-
-  negative : (s : Script) (w t : Lexeme) → t.kind ≡ Integer → int_lt (number t) (pos 0) ≡ true
-      → step vars (stopped vars s w) t ≡ Err (Strategy (Syntax t.at))
-  unfolding step
-  negative s w t kind low =
-      let c = stopped vars s w in
-      ap (decided vars c.done c.current w t) kind
-      ∙ ap (λ b. if b then Err (Strategy (Syntax t.at)) else change_opened vars c.done c.current w.at t.at
-      (point_number t)) low
 
   -- a token of this kind
   stopped_step : (s : Script) (w t : Lexeme) (k : Kind) → t.kind ≡ k
       → step vars (stopped vars s w) t ≡ decided vars (stopped vars s w).done (stopped vars s w).current w t k
   unfolding step
-  stopped_step s w t k kind = ap (decided vars (stopped vars s w).done (stopped vars s w).current w t) kind
+  stopped_step s w t k kind = rw kind
 
   number_moves : (s : Script) (w t : Lexeme) → FitsPlace (ToBefore s w) → t.kind ≡ Integer
       → Moves (ToBefore s w) t (step vars (stopped vars s w) t)
-  number_moves s w t fits kind = by (int_lt (number t) (pos 0)) refl
-    where
-      by : (low : Bool) → int_lt (number t) (pos 0) ≡ low → Moves (ToBefore s w) t (step vars (stopped vars s w) t)
-      by true low = subst (Moves (ToBefore s w) t) (sym (negative s w t kind low)) (same_at t.at)
-      by false high =
-          let q = Inside s w t (Whole NoEntry) in
-          judged_moves (ToBefore s w) q t (MayCome vars s t) _ (fits.0, fits.1, (kind, high), tt, tt)
-          (append-nil (spell_number s w t))
-          (number_judged vars s w t fits.0 fits.1 (kind, high))
+  number_moves s w t fits kind =
+      elim (cases_Bool (int_lt (number t) (pos 0))) [
+        | inl low ↦ rw (stopped_step s w t Integer kind, low) (same_at t.at)
+        | inr high ↦
+            judged_moves (ToBefore s w) (Inside s w t (Whole NoEntry)) t (MayCome vars s t) _
+            (fits.0, fits.1, (kind, high), tt, tt) (append-nil (spell_number s w t))
+            (number_judged vars s w t fits.0 fits.1 (kind, high))
+      ]
 
   -- a `before` that is a name
   renamed_moves : (s : Script) (v n : Lexeme) (es : Entries) (w t : Lexeme) → FitsPlace (ToBefore (Change s v n es) w)
       → KeepsPlace vars (ToBefore (Change s v n es) w) → t.kind ≡ Equal
       → Moves (ToBefore (Change s v n es) w) t (step vars (stopped vars (Change s v n es) w) t)
   renamed_moves s v n es w t fits kept kind =
-      subst (Moves (ToBefore (Change s v n es) w) t) (sym stepped_so)
-      (by (strategy.step vars (behind vars (Whole es)) w) refl
-      (name_judged vars es fits.0.3 (known_whole vars es (kept_whole vars es kept.3)) w word))
+      let p = behind vars (Whole es) in
+      let done = changes_of vars s in
+      let word = before_word w.kind w.text fits.1 in
+      let few = few_closed vars es fits.0.3 (few_of vars es kept.3) in
+      let equal = equal_step vars done (point_number n) (so_far vars es Between) w t kind in
+      let again =
+      name_again vars done (point_number n) es w (so_far vars es Between) fits.0.3 (λ comma. cc (word, comma)) few in
+      let named = stepped vars p w Word word in
+      elim (name_judged vars es fits.0.3 (known_whole vars es (kept_whole vars es kept.3)) w word) [
+        | inl kept ↦
+            rw (equal, ← again, named ∙ kept.1, stepped vars (behind vars (ToName es w)) t Equal kind)
+            (leads_to (ToBefore (Change s v n es) w) (Inside s v n (ToEqual es w t)) t
+            (fits.0.0, fits.0.1, fits.0.2, (fits.0.3, word, kind), tt) spelled_so)
+        | inr b ↦
+            rw (equal, ← again, named ∙ b.shown)
+            (strategy_shows (ToBefore (Change s v n es) w) t b.fault b.is_rule.0
+            (inr (record {
+              script = s;
+              first = v;
+              count = n;
+              entries = es;
+              word = w;
+              spelled = record { fits = fits.0; before = fits.1; parts = refl };
+              equal = kind;
+              cause = b.is_rule.1;
+            })))
+      ]
     where
-      word : w.kind ≡ Word
-      word = before_word w.kind w.text fits.1
-
-      stepped_so : step vars (stopped vars (Change s v n es) w) t
-          ≡ within_of vars (changes_of vars s) (point_number n)
-          (strategy.step vars (behind vars (Whole es)) w >>= λ q. strategy.step vars q t)
-      stepped_so =
-          equal_step vars (changes_of vars s) (point_number n) (so_far vars es Between) w t kind
-          ∙ ap (λ r. within_of vars (changes_of vars s) (point_number n) (r >>= λ q. strategy.step vars q t))
-          (sym (name_again vars (changes_of vars s) (point_number n) es w (so_far vars es Between) fits.0.3
-          (λ comma. cc (word, comma)) (few_closed vars es fits.0.3 (few_of vars es kept.3))))
-
       spelled_so : spell_place (Inside s v n (ToEqual es w t)) ≡ spell_place (ToBefore (Change s v n es) w) ++ t ∷ []
       spelled_so =
           sym (append_assoc (spell_number s v n) (spell [] es ++ w ∷ []) (t ∷ []))
           ∙ ap (λ ts. ts ++ t ∷ []) (sym (append_assoc (spell_number s v n) (spell [] es) (w ∷ [])))
 
-      by : (r : Result Partial StrategyFault) → strategy.step vars (behind vars (Whole es)) w ≡ r
-          → layer.Judged (strategies.IsCaused vars (spell_part (Whole es)) w) (AreFew vars es × IsNew vars es w)
-          (strategies.step_by vars (behind vars (Whole es)) w Word) (behind vars (ToName es w))
-          → Moves (ToBefore (Change s v n es) w) t
-          (within_of vars (changes_of vars s) (point_number n) (r >>= λ q. strategy.step vars q t))
-      by r is (inl kept) =
-          let same = sym is ∙ stepped vars (behind vars (Whole es)) w Word word ∙ kept.1 in
-          subst (λ r. Moves (ToBefore (Change s v n es) w) t
-          (within_of vars (changes_of vars s) (point_number n) (r >>= λ q. strategy.step vars q t))) (sym same)
-          (subst (λ r. Moves (ToBefore (Change s v n es) w) t (within_of vars (changes_of vars s) (point_number n) r))
-          (sym (stepped vars (behind vars (ToName es w)) t Equal kind))
-          (leads_to (ToBefore (Change s v n es) w) (Inside s v n (ToEqual es w t)) t
-          (fits.0.0, fits.0.1, fits.0.2, (fits.0.3, word, kind), tt) spelled_so))
-      by r is (inr b) =
-          let same = sym is ∙ stepped vars (behind vars (Whole es)) w Word word ∙ b.shown in
-          subst (λ r. Moves (ToBefore (Change s v n es) w) t
-          (within_of vars (changes_of vars s) (point_number n) (r >>= λ q. strategy.step vars q t))) (sym same)
-          (strategy_shows (ToBefore (Change s v n es) w) t b.fault b.is_rule.0
-          (inr (record {
-            script = s;
-            first = v;
-            count = n;
-            entries = es;
-            word = w;
-            spelled = record { fits = fits.0; before = fits.1; parts = refl };
-            equal = kind;
-            cause = b.is_rule.1;
-          })))
-
   stopped_moves : (s : Script) (w t : Lexeme) (k : Kind) → t.kind ≡ k → FitsPlace (ToBefore s w)
       → KeepsPlace vars (ToBefore s w) → Moves (ToBefore s w) t (step vars (stopped vars s w) t)
   stopped_moves s w t Integer kind fits kept = number_moves s w t fits kind
-  stopped_moves NoChange w t Equal kind fits kept =
-      subst (Moves (ToBefore NoChange w) t) (sym (stopped_step NoChange w t Equal kind)) (same_at t.at)
+  stopped_moves NoChange w t Equal kind fits kept = rw (stopped_step NoChange w t Equal kind) (same_at t.at)
   stopped_moves (Change s v n es) w t Equal kind fits kept = renamed_moves s v n es w t fits kept kind
-  stopped_moves s w t k kind fits kept =
-      subst (Moves (ToBefore s w) t) (sym (stopped_step s w t k kind)) (same_at t.at)
+  stopped_moves s w t k kind fits kept = rw (stopped_step s w t k kind) (same_at t.at)
 
   -- ---- in a change
 
@@ -249,17 +231,6 @@ module _ (vars : List Var) where
     abbrev done : List ChangeOf
     done = changes_of vars s
 
-    place_of : (p : Part) → FitsPlace (Here p) → InChange (spell_place (Here p)) (spell_part p)
-    place_of p fits = record {
-      whole = s;
-      word = w;
-      count = n;
-      fits = fits.0;
-      before = fits.1;
-      numbered = fits.2;
-      parts = refl;
-    }
-
     -- a `before` behind whole entries
     stop_moves : (es : Entries) (t : Lexeme) → FitsPlace (Here (Whole es)) → IsBefore t
         → Moves (Here (Whole es)) t
@@ -269,60 +240,35 @@ module _ (vars : List Var) where
         leads_to (Here (Whole NoEntry)) (ToBefore (Change s w n NoEntry) t) t
         ((fits.0, fits.1, fits.2, tt), is) refl
     stop_moves (Then es o is) t fits before =
-        by (nat_le (workers_of (strategy_of vars (Then es o is))) max_workers) refl
-      where
-        by : (few : Bool) → nat_le (workers_of (strategy_of vars (Then es o is))) max_workers ≡ few
-            → Moves (Here (Whole (Then es o is))) t
-            (lifted (if few then Ok (so_far vars (Then es o is) Between) else Err (TooManyWorkers o.name.at))
-            >>= λ q. Ok (interrupted done (point_number n) t q))
-        by true e =
-            leads_to (Here (Whole (Then es o is))) (ToBefore (Change s w n (Then es o is)) t) t
-            ((fits.0, fits.1, fits.2, fits.3), before) refl
-        by false e =
-            inl (record {
-              inner = spell_part (Whole (Then es o is));
-              place = place_of (Whole (Then es o is)) fits;
-              cause = record {
-                over = record {
-                  before = es;
-                  opening = o;
-                  integers = is;
-                  spelled = record { fits = fits.3; spelled = refl };
-                  many = leb-false (workers_of (strategy_of vars (Then es o is))) max_workers e;
-                  place = refl;
-                };
+        let ts = spell_part (Whole (Then es o is)) in
+        let here = itself (Whole (Then es o is)) fits.3 in
+        elim (leb_tells (workers_of (strategy_of vars (Then es o is))) max_workers) [
+          | inl few ↦
+              rw few.0 (leads_to (Here (Whole (Then es o is))) (ToBefore (Change s w n (Then es o is)) t) t
+              ((fits.0, fits.1, fits.2, fits.3), before) refl)
+          | inr many ↦
+              let over : IsEndOfOver vars ts t o.name.at = record {
+                over = over_of vars ts es o is here many.1;
                 behind = λ comma. cc (before_word t.kind t.text before, comma);
-              };
-              own = tt;
-            })
-
-    opened_never : (o : Opening) (es : Entries) (m : Method)
-        → may_begin (strategy.opened (strategies.head_of vars o.name) m) ≡ false
-    opened_never o es method.Hash = refl
-    opened_never o es method.Cut = refl
+              } in
+              let place = place_in (spell_place (Here (Whole (Then es o is)))) s w n (Whole (Then es o is)) fits refl in
+              rw many.0 (inl (record { inner = ts; place = place; cause = over; own = tt }))
+        ]
 
     before_moves : (p : Part) (t : Lexeme) → FitsPlace (Here p) → IsBefore t → may_begin (behind vars p).stage ≡ true
         → Moves (Here p) t
         (lifted (ended (behind vars p).entries (behind vars p).stage) >>= λ q. Ok
         (interrupted done (point_number n) t q))
-    before_moves (Whole es) t fits is begins = stop_moves es t fits is
-    before_moves (ToName es m) t fits is begins = absurd cc
-    before_moves (ToEqual es m e) t fits is begins = absurd cc
-    before_moves (ToMethod es m e v h) t fits is begins = absurd cc
-    before_moves (ToColon es o) t fits is begins = absurd (cc (begins, opened_never o es o.method))
-    before_moves (ToComma es o is c) t fits before begins = absurd cc
+    before_moves p t fits is begins =
+        let whole = begins_whole vars p begins in rw whole.1 (stop_moves whole.0 t (rw whole.1 at fits) is)
 
     -- the fault of a name is its own
     own_by : (p : Part) (t : Lexeme) (es : Entries) → FitsPart p → KeepsPart vars p → IsPart (spell_part p) (Whole es)
         → (is_before t.kind t.text && may_begin (behind vars p).stage) ≡ false → is_before t.kind t.text ≡ false
     own_by p t es fits kept is other =
         let same = (part_stands vars (spell_part p) (behind vars p) (Whole es) (kept_reads vars p fits kept) is).1 in
-        begins_false (is_before t.kind t.text) (may_begin (behind vars p).stage)
-        (ap (λ (x : Partial). may_begin x.stage) same ∙ whole_begins vars done (point_number n) es) other
-      where
-        begins_false : (a b : Bool) → b ≡ true → (a && b) ≡ false → a ≡ false
-        begins_false true b is e = absurd (cc (is, e))
-        begins_false false b is e = refl
+        let begins = ap (λ (x : Partial). may_begin x.stage) same ∙ whole_begins vars es in
+        sym (and-true (is_before t.kind t.text)) ∙ rw begins at other
 
     own_of : (p : Part) (t : Lexeme) (fault : StrategyFault) → FitsPart p → KeepsPart vars p
         → (is_before t.kind t.text && may_begin (behind vars p).stage) ≡ false
@@ -334,13 +280,7 @@ module _ (vars : List Var) where
     named_own : (p q : Part) (t : Lexeme) → IsNamedBy vars p t q
         → (is_before t.kind t.text && may_begin (behind vars p).stage) ≡ false → IsNoBefore q
     named_own p (ToName es m) t name other =
-        ap (λ (x : Lexeme). is_before x.kind x.text) name.1
-        ∙ begins_false (is_before t.kind t.text) (may_begin (behind vars p).stage)
-        (ap (λ x. may_begin (behind vars x).stage) name.0 ∙ whole_begins vars done (point_number n) es) other
-      where
-        begins_false : (a b : Bool) → b ≡ true → (a && b) ≡ false → a ≡ false
-        begins_false true b is e = absurd (cc (is, e))
-        begins_false false b is e = refl
+        rw name.1 (sym (and-true (is_before t.kind t.text)) ∙ rw (name.0, whole_begins vars es) at other)
     named_own p _ t name other = tt
 
     other_moves : (p : Part) (t : Lexeme) → FitsPlace (Here p) → KeepsPlace vars (Here p)
@@ -360,25 +300,23 @@ module _ (vars : List Var) where
         strategy_shows (Here p) t fault tt
         (inl (record {
           inner = spell_part p;
-          place = place_of p fits;
+          place = place_in _ s w n p fits refl;
           cause = cause;
           own = own_of p t fault fits.3 kept.2 other cause;
         }))
 
     inside_moves : (p : Part) (t : Lexeme) → FitsPlace (Here p) → KeepsPlace vars (Here p)
         → Moves (Here p) t (step vars (inside_of vars s n p) t)
-    inside_moves p t fits kept = by (is_before t.kind t.text && may_begin (behind vars p).stage) refl
-      where
-        by : (b : Bool) → (is_before t.kind t.text && may_begin (behind vars p).stage) ≡ b
-            → Moves (Here p) t (step vars (inside_of vars s n p) t)
-        by true both =
-            let each = and_parts (is_before t.kind t.text) (may_begin (behind vars p).stage) both in
-            subst (Moves (Here p) t) (sym (before_step vars done (point_number n) (behind vars p) t each.0 each.1))
-            (before_moves p t fits each.0 each.1)
-        by false other =
-            subst (Moves (Here p) t) (sym (else_step vars done (point_number n) (behind vars p) t other))
-            (other_moves p t fits kept other (strategy.step vars (behind vars p) t)
-            (parts.moves vars p t fits.3 kept.2))
+    inside_moves p t fits kept =
+        let q = behind vars p in
+        elim (cases_Bool (is_before t.kind t.text && may_begin q.stage)) [
+          | inl both ↦
+              let each = and_parts (is_before t.kind t.text) (may_begin q.stage) both in
+              rw (before_step vars done (point_number n) q t each.0 each.1) (before_moves p t fits each.0 each.1)
+          | inr other ↦
+              rw (else_step vars done (point_number n) q t other)
+              (other_moves p t fits kept other (strategy.step vars q t) (parts.moves vars p t fits.3 kept.2))
+        ]
 
   -- at every place
   pub moves : (p : Place) (t : Lexeme) → FitsPlace p → KeepsPlace vars p → Moves p t (step vars (at_place vars p) t)

@@ -1,36 +1,34 @@
 -- Where the reader stands behind each part of a change script, and what its tokens show.
-use Rattle.std.proofs.Common.{◌≡◌, ◌∙◌, inl, inr, ◌<◌, nat_le, nat_lt, Bool, true, false, if◌then◌else◌}
-use Rattle.std.proofs.Common.{List, [], ◌∷◌, ◌++◌, length, Some, None, Option, Result, Ok, Err, ap, refl}
-use Rattle.std.proofs.Common.{sym, subst, arith}
-use Rattle.std.proofs.lemmas.Bool.{leb-true, leb-false, ltb-true, ltb-false}
+use Rattle.std.proofs.Common.{◌≡◌, inl, inr, ◌<◌, nat_le, Bool, false, if◌then◌else◌, List, [], ◌∷◌, ◌++◌, length, Some}
+use Rattle.std.proofs.Common.{None, Option, Result, Ok, Err, refl, arith, suc}
 use Rattle.mfotl_lex.specs.declared.kind.Kind.TheVariants.{Word}
 use Rattle.mfotl_lex.specs.FirstFault.{◌>>=◌, run}
 use Rattle.mfotl_lex.specs.Lexemes.{Lexeme}
-use Rattle.mfotl_lex.proofs.FirstFaultLaws.{run-append, run_none, bind_same}
+use Rattle.mfotl_lex.proofs.FirstFaultLaws.{run-append, run_none}
 use Rattle.mfotl_lex.proofs.Verdicts as layer
-use Rattle.mfotl_lex.proofs.Verdicts.{breaks, then_judged, judged_ok, judged_rule, judged_as}
+use Rattle.mfotl_lex.proofs.Verdicts.{breaks, then_judged, judged_ok, judged_rule}
 use Rattle.mfotl_model.specs.declared.policy.Var.{Var}
 use Rattle.slice_strategy.specs.declared.change.Change.{Change as ChangeOf}
 use Rattle.slice_strategy.specs.declared.change.ChangeFault.{ChangeFault}
 use Rattle.slice_strategy.specs.declared.change.ChangeFault.TheVariants.{Strategy, FallingChange, TooManyChanges}
 use Rattle.slice_strategy.specs.declared.fault.StrategyFault.{StrategyFault}
-use Rattle.slice_strategy.specs.declared.fault.StrategyFault.TheVariants.{Syntax}
 use Rattle.slice_strategy.specs.declared.script.Current.{Current}
-use Rattle.slice_strategy.specs.ChangeCauses.{IsCause}
-use Rattle.slice_strategy.specs.ChangeGrammar.{Script, NoChange, Change, IsBefore, IsNumber, FitsScript}
-use Rattle.slice_strategy.specs.ChangeGrammar.{spell_script}
-use Rattle.slice_strategy.specs.ChangeReading.{ScriptOf, lifted, change_goes_on, interrupted, with_current, falls}
-use Rattle.slice_strategy.specs.ChangeReading.{change_opened}
-use Rattle.slice_strategy.specs.ChangeReading.{decided, step, nothing_read}
+use Rattle.slice_strategy.specs.Causes as strategy_causes
+use Rattle.slice_strategy.specs.ChangeCauses.{IsCause, IsFalling, IsOneTooMany}
+use Rattle.slice_strategy.specs.ChangeGrammar.{Script, NoChange, Change, IsBefore, IsNumber, FitsScript, spell_script}
+use Rattle.slice_strategy.specs.ChangeReading.{ScriptOf, lifted, change_goes_on, interrupted, with_current, falls, step}
+use Rattle.slice_strategy.specs.ChangeReading.{nothing_read}
 use Rattle.slice_strategy.specs.ChangeRules.{point_number, changes_of, IsNotBelow, KeepsScript}
-use Rattle.slice_strategy.specs.Grammar.{Entries, NoEntry, Part, Whole, FitsPart, spell_part}
+use Rattle.slice_strategy.specs.Grammar.{NoEntry, Part, Whole, FitsPart, spell_part}
 use Rattle.slice_strategy.specs.Limits.{max_changes}
 use Rattle.slice_strategy.specs.Reading as strategy
 use Rattle.slice_strategy.specs.Reading.{Between, ended}
 use Rattle.slice_strategy.proofs.Moves as strategies
-use Rattle.slice_strategy.proofs.Moves.{AreFew, so_far, behind, ended_judged}
-use Rattle.slice_strategy.proofs.PartReads.{KeepsPart, few_kept, kept_whole, few_of, part_read, all_of}
-use Rattle.slice_strategy.proofs.ChangeRuns.{IsNoBefore, alike, before_step, whole_begins}
+use Rattle.slice_strategy.proofs.Moves.{AreFew, so_far, behind, ended_judged, whole_begins}
+use Rattle.slice_strategy.proofs.PartReads.{KeepsPart, few_kept, kept_whole, few_of, part_read}
+use Rattle.slice_strategy.proofs.ChangeRuns.{IsNoBefore, alike, before_step}
+use Rattle.slice_strategy.proofs.TokenRuns.{then_token, told}
+use Rattle.std.proofs.lemmas.Bool.Decides.{leb_tells}
 
 -- a fault of a rule beside the grammar
 abbrev pub IsRule : ChangeFault → Type 0
@@ -103,33 +101,12 @@ module _ (vars : List Var) where
   abbrev pub IsCaused : List Lexeme → Lexeme → ChangeFault → Type 0
   IsCaused front t fault = IsRule fault × IsCause vars front t fault
 
-  pub told : (front : List Lexeme) (t : Lexeme) (rules : Type 0) (r : Result ScriptOf ChangeFault) (s : ScriptOf)
-      → layer.Judged (IsCaused front t) rules r s → Judged rules r s
-  told front t rules r s (inl kept) = inl kept
-  told front t rules r s (inr b) =
-      inr (record { broken = b.broken; fault = b.fault; is_rule = b.is_rule.0; shown = b.shown })
-
   -- what the reader of strategies shows, the reader of scripts does
   pub lifted_judged : {A : Type 0} (rules : Type 0) (r : Result A StrategyFault) (x : A) (f : A → ScriptOf)
       → layer.Judged strategies.IsRule rules r x
       → Judged rules (lifted r >>= λ q. Ok (f q)) (f x)
-  lifted_judged rules r x f (inl kept) = inl (kept.0, ap (λ r. lifted r >>= λ q. Ok (f q)) kept.1)
-  lifted_judged rules r x f (inr b) =
-      inr (record {
-        broken = b.broken;
-        fault = Strategy b.fault;
-        is_rule = b.is_rule;
-        shown = ap (λ r. lifted r >>= λ q. Ok (f q)) b.shown;
-      })
-
-  one_token : (t : Lexeme) (s : ScriptOf) → run (step vars) (t ∷ []) s ≡ step vars s t
-  unfolding run
-  one_token t s = all_of (step vars s t)
-
-  one_more : (front : List Lexeme) (t : Lexeme) → Told (front ++ t ∷ []) ≡ (Told front >>= λ s. step vars s t)
-  one_more front t =
-      run-append (step vars) front (t ∷ []) nothing_read
-      ∙ bind_same (Told front) (λ s. run (step vars) (t ∷ []) s) (λ s. step vars s t) (λ s. one_token t s)
+  lifted_judged rules r x f (inl kept) = rw kept.1 (inl (kept.0, refl))
+  lifted_judged rules r x f (inr b) = rw b.shown (inr (breaks _ rules (Strategy b.fault) b.is_rule b.broken))
 
   -- the changes that are whole, up to the end of the last entry
   abbrev pub at_whole : Script → ScriptOf
@@ -155,8 +132,7 @@ module _ (vars : List Var) where
   -- a `before` behind whole changes
   starts_so : (w : Lexeme) → IsBefore w → step vars nothing_read w ≡ Ok (stopped NoChange w)
   unfolding step
-  starts_so w is =
-      ap (λ b. if b then Ok (stopped NoChange w) else Err (Strategy (Syntax w.at))) is
+  starts_so w is = rw is
 
   before_read : (s : Script) (w : Lexeme) → FitsScript s → IsBefore w
       → Judged (FewIn s) (step vars (at_whole s) w) (stopped s w)
@@ -165,20 +141,11 @@ module _ (vars : List Var) where
       let done = changes_of vars s in
       let p = behind vars (Whole es) in
       let t : Lexeme = record { kind = Word; at = 0; text = [] } in
-      subst (λ r. Judged (AreFew vars es) r (stopped (Change s v n es) w))
-      (sym (before_step vars done (point_number n) p w is (whole_begins vars done (point_number n) es)))
+      rw (before_step vars done (point_number n) p w is (whole_begins vars es))
       (lifted_judged (AreFew vars es) (ended p.entries p.stage) (so_far vars es Between)
       (interrupted done (point_number n) w)
-      (strategies_told t es (ended_judged vars es fits.3 t (λ comma. cc))))
-    where
-      strategies_told : (t : Lexeme) (es : Entries)
-          → layer.Judged (strategies.IsCaused vars (spell_part (Whole es)) t) (AreFew vars es)
-          (ended (behind vars (Whole es)).entries (behind vars (Whole es)).stage) (so_far vars es Between)
-          → layer.Judged strategies.IsRule (AreFew vars es)
-          (ended (behind vars (Whole es)).entries (behind vars (Whole es)).stage) (so_far vars es Between)
-      strategies_told t es (inl kept) = inl kept
-      strategies_told t es (inr b) =
-          inr (record { broken = b.broken; fault = b.fault; is_rule = b.is_rule.0; shown = b.shown })
+      (told strategies.IsRule (strategy_causes.IsCause vars (spell_part (Whole es)) t) _ _ _
+      (ended_judged vars es fits.3 t (λ comma. cc))))
 
   -- a number behind a `before`
   abbrev pub due_by : Script → Lexeme → Lexeme → Bool → Bool → Result ScriptOf ChangeFault
@@ -191,102 +158,71 @@ module _ (vars : List Var) where
       → step vars (stopped s w) t
       ≡ due_by s w t (falls (current_of s) (point_number t)) (nat_le max_changes (length (changes_of vars s)))
   unfolding step
-  number_due s w t is =
-      ap (decided vars (done_of s) (current_of s) w t) is.0
-      ∙ ap (λ b. if b then Err (Strategy (Syntax t.at)) else change_opened vars (done_of s) (current_of s) w.at t.at
-      (point_number t))
-      is.1
-      ∙ ap (λ all. if falls (current_of s) (point_number t) then Err (FallingChange t.at)
-      else if nat_le max_changes (length all) then Err (TooManyChanges w.at)
-      else Ok (change_goes_on all (point_number t) (strategy.nothing_read vars))) (with_last s)
+  number_due s w t is = rw (is.0, is.1, with_last s)
 
   pub number_judged : (s : Script) (w t : Lexeme) → FitsScript s → IsBefore w → IsNumber t
       → layer.Judged (IsCaused (spell_script s ++ w ∷ []) t) (MayCome s t) (step vars (stopped s w) t)
       (inside_of s t (Whole NoEntry))
-  number_judged s w t fits before is =
-      subst (λ r. layer.Judged (IsCaused (spell_script s ++ w ∷ []) t) (MayCome s t) r (inside_of s t
-      (Whole NoEntry)))
-      (sym (number_due s w t is))
-      (by_script s fits)
+  number_judged s w t fits before is = rw (number_due s w t is) (by s fits)
     where
-      full_by : (s : Script) → FitsScript s → IsNotBelow s t → (full : Bool)
-          → nat_le max_changes (length (changes_of vars s)) ≡ full
-          → layer.Judged (IsCaused (spell_script s ++ w ∷ []) t) (MayCome s t) (due_by s w t false full)
-          (inside_of s t (Whole NoEntry))
-      full_by s fits above true e =
-          let many = leb-true max_changes (length (changes_of vars s)) e in
-          inr (breaks _ (MayCome s t) (TooManyChanges w.at) (
-            tt,
-            record {
-              script = s;
-              word = w;
-              spelled = record { fits = fits; before = before; parts = refl };
-              numbered = is;
-              kept = above;
-              many = many;
-              place = refl;
-            },
-          )
-          (λ may. omega (arith, many, may.1)))
-      full_by s fits above false e =
-          inl ((above, leb-false max_changes (length (changes_of vars s)) e), refl)
+      full_by : (s : Script) → FitsScript s → IsNotBelow s t
+          → layer.Judged (IsCaused (spell_script s ++ w ∷ []) t) (MayCome s t)
+          (due_by s w t false (nat_le max_changes (length (changes_of vars s)))) (inside_of s t (Whole NoEntry))
+      full_by s fits above =
+          elim (leb_tells max_changes (length (changes_of vars s))) [
+            | inl full ↦
+                let cause : IsOneTooMany vars (spell_script s ++ w ∷ []) t w.at = record {
+                  script = s;
+                  word = w;
+                  spelled = record { fits = fits; before = before; parts = refl };
+                  numbered = is;
+                  kept = above;
+                  many = full.1;
+                  place = refl;
+                } in
+                rw full.0
+                (inr (breaks _ _ (TooManyChanges w.at) (tt, cause) (λ may. omega (arith, full.1, may.1))))
+            | inr room ↦ rw room.0 (inl ((above, room.1), refl))
+          ]
 
-      fall_by : (s : Script) (v n : Lexeme) (es : Entries) → FitsScript (Change s v n es) → (low : Bool)
-          → nat_lt (point_number t) (point_number n) ≡ low
-          → layer.Judged (IsCaused (spell_script (Change s v n es) ++ w ∷ []) t) (MayCome (Change s v n es) t)
-          (due_by (Change s v n es) w t low (nat_le max_changes (length (changes_of vars (Change s v n es)))))
-          (inside_of (Change s v n es) t (Whole NoEntry))
-      fall_by s v n es fits true e =
-          let low = ltb-true (point_number t) (point_number n) e in
-          inr (breaks _ (MayCome (Change s v n es) t) (FallingChange t.at) (
-            tt,
-            record {
-              script = s;
-              first = v;
-              count = n;
-              entries = es;
-              word = w;
-              spelled = record { fits = fits; before = before; parts = refl };
-              numbered = is;
-              low = low;
-              place = refl;
-            },
-          )
-          (λ may. omega (arith, low, may.0)))
-      fall_by s v n es fits false e =
-          full_by (Change s v n es) fits (ltb-false (point_number t) (point_number n) e)
-          (nat_le max_changes (length (changes_of vars (Change s v n es)))) refl
-
-      by_script : (s : Script) → FitsScript s
+      by : (s : Script) → FitsScript s
           → layer.Judged (IsCaused (spell_script s ++ w ∷ []) t) (MayCome s t)
           (due_by s w t (falls (current_of s) (point_number t)) (nat_le max_changes (length (changes_of vars s))))
           (inside_of s t (Whole NoEntry))
-      by_script NoChange fits = full_by NoChange fits tt (nat_le max_changes 0) refl
-      by_script (Change s v n es) fits = fall_by s v n es fits (nat_lt (point_number t) (point_number n)) refl
-
-  then_token : (front : List Lexeme) (t : Lexeme) (rules more all : Type 0) (p q : ScriptOf)
-      → (rules → more → all) → (all → rules × more) → Judged rules (Told front) p
-      → (rules → Judged more (step vars p t) q) → Judged all (Told (front ++ t ∷ [])) q
-  then_token front t rules more all p q to from before next =
-      subst (λ r. Judged all r q) (sym (one_more front t))
-      (then_judged IsRule rules (Told front) p more all (λ s. step vars s t) q to from before next)
+      by NoChange fits = full_by NoChange fits tt
+      by (Change s v n es) fits =
+          elim (leb_tells (suc (point_number t)) (point_number n)) [
+            | inl low ↦
+                let cause : IsFalling (spell_script (Change s v n es) ++ w ∷ []) t t.at = record {
+                  script = s;
+                  first = v;
+                  count = n;
+                  entries = es;
+                  word = w;
+                  spelled = record { fits = fits; before = before; parts = refl };
+                  numbered = is;
+                  low = omega (arith, low.1);
+                  place = refl;
+                } in
+                rw low.0 (inr (breaks _ _ (FallingChange t.at) (tt, cause) (λ may. omega (arith, low.1, may.0))))
+            | inr up ↦ rw up.0 (full_by (Change s v n es) fits (omega (arith, up.1)))
+          ]
 
   stop_read : (s : Script) (w : Lexeme) → FitsScript s → IsBefore w → Judged (KeepsWhole s) (Told
       (spell_script s)) (at_whole s)
       → Judged (KeepsScript vars s) (Told (spell_script s ++ w ∷ [])) (stopped s w)
   stop_read s w fits is before =
-      then_token (spell_script s) w (KeepsWhole s) (FewIn s) (KeepsScript vars s) (at_whole s) (stopped s w)
-      (kept_of s) (whole_of s) before (λ k. before_read s w fits is)
+      then_token (step vars) nothing_read IsRule (spell_script s) w (KeepsWhole s) (FewIn s) (KeepsScript vars s)
+      (at_whole s) (stopped s w) (kept_of s) (whole_of s) before (λ k. before_read s w fits is)
 
   number_read : (s : Script) (w n : Lexeme) → FitsScript s → IsBefore w → IsNumber n
       → Judged (KeepsScript vars s) (Told (spell_script s ++ w ∷ [])) (stopped s w)
       → Judged (KeepsScript vars s × MayCome s n) (Told (spell_number s w n)) (inside_of s n (Whole NoEntry))
   number_read s w n fits is count before =
-      then_token (spell_script s ++ w ∷ []) n (KeepsScript vars s) (MayCome s n) (KeepsScript vars s × MayCome s n)
-      (stopped s w) (inside_of s n (Whole NoEntry)) (λ a b. (a, b)) (λ k. (k.0, k.1)) before
-      (λ k. told (spell_script s ++ w ∷ []) n (MayCome s n) (step vars (stopped s w) n) (inside_of s n
-      (Whole NoEntry))
-      (number_judged s w n fits is count))
+      then_token (step vars) nothing_read IsRule (spell_script s ++ w ∷ []) n (KeepsScript vars s) (MayCome s n)
+      (KeepsScript vars s × MayCome s n) (stopped s w) (inside_of s n (Whole NoEntry)) (λ a b. (a, b)) (λ k. (k.0, k.1))
+      before
+      (λ k. told IsRule (IsCause vars (spell_script s ++ w ∷ []) n) _ _ _ (number_judged s w n fits is count))
 
   inside_read : (s : Script) (w n : Lexeme) (p : Part) → FitsPlace (Inside s w n p)
       → Judged (KeepsWhole s) (Told (spell_script s)) (at_whole s)
@@ -295,23 +231,18 @@ module _ (vars : List Var) where
       let number = number_read s w n fits.0 fits.1 fits.2 (stop_read s w fits.0 fits.1 before) in
       let done = changes_of vars s in
       let start = inside_of s n (Whole NoEntry) in
-      subst (λ r. Judged (KeepsPlace (Inside s w n p)) r (inside_of s n p))
-      (sym (run-append (step vars) (spell_number s w n) (spell_part p) nothing_read))
+      rw (run-append (step vars) (spell_number s w n) (spell_part p) nothing_read)
       (then_judged IsRule (KeepsScript vars s × MayCome s n) (Told (spell_number s w n)) start (KeepsPart vars p)
       (KeepsPlace (Inside s w n p)) (λ q. run (step vars) (spell_part p) q) (inside_of s n p)
       (λ a b. (a.0, a.1, b)) (λ k. ((k.0, k.1), k.2)) number
-      (λ a. subst (λ r. Judged (KeepsPart vars p) r (inside_of s n p)) (sym (alike vars done
-      (point_number n) p fits.3 fits.4))
+      (λ a. rw (alike vars done (point_number n) p fits.3 fits.4)
       (lifted_judged (KeepsPart vars p) (run (strategy.step vars) (spell_part p) (strategy.nothing_read vars))
       (behind vars p) (change_goes_on done (point_number n)) (part_read vars p fits.3))))
 
   pub script_read : (s : Script) → FitsScript s → Judged (KeepsWhole s) (Told (spell_script s)) (at_whole s)
   script_read NoChange fits = inl (tt, run_none (step vars) nothing_read)
   script_read (Change s w n es) fits =
-      judged_as IsRule (KeepsPlace (Inside s w n (Whole es))) (Told (spell_script (Change s w n es)))
-      (inside_of s n (Whole es)) (KeepsWhole (Change s w n es)) (inside_of s n (Whole es))
-      (λ k. k) (λ k. k) refl
-      (inside_read s w n (Whole es) (fits.0, fits.1, fits.2, fits.3, tt) (script_read s fits.0))
+      inside_read s w n (Whole es) (fits.0, fits.1, fits.2, fits.3, tt) (script_read s fits.0)
 
   -- every place
   pub place_read : (p : Place) → FitsPlace p → Judged (KeepsPlace p) (Told (spell_place p)) (at_place p)

@@ -1,29 +1,29 @@
 -- In a change the reader of scripts does what the reader of strategies does, but that a `before` waits for a `=`.
-use Rattle.std.proofs.Common.{◌≡◌, ◌≢◌, ◌∙◌, ℕ, Bool, true, false, ◌&&◌, List, [], ◌∷◌, ◌++◌, Some}
-use Rattle.std.proofs.Common.{Result, Ok, Err, ap, refl, sym, if◌then◌else◌}
+use Rattle.std.proofs.Common.{◌≡◌, ◌≢◌, ◌∙◌, ℕ, Bool, true, false, ◌&&◌, List, [], ◌∷◌, ◌++◌, Result, Ok, Err, ap, refl}
+use Rattle.std.proofs.Common.{sym, inl, inr}
 use Rattle.std.proofs.Math.Bool.{and-false}
 use Rattle.mfotl_lex.specs.declared.kind.Kind.{Kind}
 use Rattle.mfotl_lex.specs.declared.kind.Kind.TheVariants.{Word, Integer, Comma, Equal}
 use Rattle.mfotl_lex.specs.FirstFault.{◌>>=◌, run}
 use Rattle.mfotl_lex.specs.Lexemes.{Lexeme}
-use Rattle.mfotl_lex.proofs.FirstFaultLaws.{run-append, run_none, bind_same}
+use Rattle.mfotl_lex.proofs.FirstFaultLaws.{run_none}
 use Rattle.mfotl_model.specs.declared.policy.Var.{Var}
 use Rattle.slice_strategy.specs.declared.change.Change.{Change}
 use Rattle.slice_strategy.specs.declared.change.ChangeFault.{ChangeFault}
 use Rattle.slice_strategy.specs.declared.fault.StrategyFault.{StrategyFault}
 use Rattle.slice_strategy.specs.declared.stage.Method.{Method}
-use Rattle.slice_strategy.specs.declared.stage.Method.TheVariants as method
 use Rattle.slice_strategy.specs.ChangeGrammar.{is_before, IsBefore}
 use Rattle.slice_strategy.specs.ChangeReading as script
 use Rattle.slice_strategy.specs.ChangeReading.{ScriptOf, lifted, may_begin, change_goes_on, interrupted}
 use Rattle.slice_strategy.specs.Grammar.{Integers, First, Next, Opening, Entries, NoEntry, Then, Part, Whole, ToName}
-use Rattle.slice_strategy.specs.Grammar.{ToEqual, ToMethod, ToColon, ToComma, FitsPart, Fits, FitsOpening}
-use Rattle.slice_strategy.specs.Grammar.{FitsIntegers}
+use Rattle.slice_strategy.specs.Grammar.{ToEqual, ToMethod, ToColon, ToComma, FitsPart, Fits, FitsOpening, FitsIntegers}
 use Rattle.slice_strategy.specs.Grammar.{spell_part}
 use Rattle.slice_strategy.specs.Reading.{Partial, Between, ended, with_stage, stage_step, step, nothing_read}
 use Rattle.slice_strategy.proofs.CauseLaw.{closed_few}
-use Rattle.slice_strategy.proofs.Moves.{behind, settled_other}
-use Rattle.slice_strategy.proofs.PartReads.{stands_behind, all_of, one_more}
+use Rattle.slice_strategy.proofs.Moves.{behind, settled_other, whole_begins}
+use Rattle.slice_strategy.proofs.PartReads.{stands_behind, more_fits}
+use Rattle.slice_strategy.proofs.TokenRuns.{one_more}
+use Rattle.std.proofs.lemmas.Bool.{cases_Bool}
 
 pub before_word : (k : Kind) (text : List ℕ) → is_before k text ≡ true → k ≡ Word
 before_word Word text e = refl
@@ -50,28 +50,20 @@ module _ (vars : List Var) (done : List Change) (number : ℕ) where
   pub else_step : (p : Partial) (t : Lexeme) → (is_before t.kind t.text && may_begin p.stage) ≡ false
       → script.step vars (change_goes_on done number p) t ≡ within_of (step vars p t)
   unfolding script.step
-  else_step p t other =
-      ap (λ b. if b then (lifted (ended p.entries p.stage) >>= λ q. Ok (interrupted done number t q))
-      else (within_of (step vars p t))) other
+  else_step p t other = rw other
 
   -- a `before` where an entry may begin
   pub before_step : (p : Partial) (t : Lexeme) → IsBefore t → may_begin p.stage ≡ true
       → script.step vars (change_goes_on done number p) t
       ≡ (lifted (ended p.entries p.stage) >>= λ q. Ok (interrupted done number t q))
   unfolding script.step
-  before_step p t is begins =
-      ap (λ b. if b && may_begin p.stage then (lifted (ended p.entries p.stage) >>= λ q. Ok
-      (interrupted done number t q))
-      else (within_of (step vars p t))) is
-      ∙ ap (λ b. if b then (lifted (ended p.entries p.stage) >>= λ q. Ok (interrupted done number t q))
-      else (within_of (step vars p t))) begins
+  before_step p t is begins = rw (is, begins)
 
   -- and its `=`
   pub equal_step : (p : Partial) (word t : Lexeme) → t.kind ≡ Equal
       → script.step vars (interrupted done number word p) t ≡ within_of (step vars p word >>= λ q. step vars q t)
   unfolding script.step
-  equal_step p word t kind =
-      ap (script.decided vars done (Some (record { number = number; reader = p })) word t) kind
+  equal_step p word t kind = rw kind
 
   abbrev Ran : List Lexeme → Result Partial StrategyFault
   Ran ts = run (step vars) ts (nothing_read vars)
@@ -79,14 +71,11 @@ module _ (vars : List Var) (done : List Change) (number : ℕ) where
   abbrev Told : List Lexeme → Result ScriptOf ChangeFault
   Told ts = run (script.step vars) ts fresh
 
-  one_told : (t : Lexeme) (s : ScriptOf) → run (script.step vars) (t ∷ []) s ≡ script.step vars s t
-  unfolding run
-  one_told t s = all_of (script.step vars s t)
-
   more_told : (front : List Lexeme) (t : Lexeme) → Told (front ++ t ∷ []) ≡ (Told front >>= λ s. script.step vars s t)
-  more_told front t =
-      run-append (script.step vars) front (t ∷ []) fresh
-      ∙ bind_same (Told front) (λ s. run (script.step vars) (t ∷ []) s) (λ s. script.step vars s t) (λ s. one_told t s)
+  more_told front t = one_more (script.step vars) fresh front t
+
+  more_ran : (front : List Lexeme) (t : Lexeme) → Ran (front ++ t ∷ []) ≡ (Ran front >>= λ p. step vars p t)
+  more_ran front t = one_more (step vars) (nothing_read vars) front t
 
   -- the tokens are read alike
   abbrev pub Alike : List Lexeme → Type 0
@@ -102,9 +91,7 @@ module _ (vars : List Var) (done : List Change) (number : ℕ) where
       → ((p : Partial) → Ran front ≡ Ok p
       → script.step vars (change_goes_on done number p) t ≡ within_of (step vars p t))
       → Alike (front ++ t ∷ [])
-  then_alike front t alike same =
-      more_told front t ∙ ap (λ r. r >>= λ s. script.step vars s t) alike ∙ then_by t (Ran front) same
-      ∙ ap within_of (sym (one_more vars front t))
+  then_alike front t alike same = rw (more_told front t, more_ran front t, alike) (then_by t (Ran front) same)
 
   -- behind a part, a token that is no `before` or not at an entry's place
   part_alike : (p : Part) (t : Lexeme) → FitsPart p → Alike (spell_part p)
@@ -114,26 +101,17 @@ module _ (vars : List Var) (done : List Change) (number : ℕ) where
       let at = (stands_behind vars p s fits ran).1 in
       else_step s t (ap (λ (x : Partial). is_before t.kind t.text && may_begin x.stage) at ∙ other))
 
-  pub whole_begins : (es : Entries) → may_begin (behind vars (Whole es)).stage ≡ true
-  whole_begins NoEntry = refl
-  whole_begins (Then es o is) = refl
-
   -- a name and its `=`, where the name is a `before`
   between_step : (q : Partial) (n : Lexeme) → q.stage ≡ Between → n.kind ≢ Comma
       → step vars q n ≡ with_stage q.entries (stage_step vars q.entries q.stage n n.kind)
   unfolding step
-  between_step q n between other =
-      ap (λ r. r >>= λ x. with_stage x.entries (stage_step vars x.entries x.stage n n.kind))
-      (settled_other vars q n.kind other
-      ∙ ap (ended q.entries) between ∙ ap (λ stage. Ok (record { entries = q.entries; stage = stage })) (sym between))
+  between_step q n between other = rw (settled_other vars q n.kind other, between)
 
   ended_step : (p : Partial) (n : Lexeme) → n.kind ≢ Comma
       → step vars p n ≡ (ended p.entries p.stage >>= λ q. with_stage q.entries
       (stage_step vars q.entries q.stage n n.kind))
   unfolding step
-  ended_step p n other =
-      ap (λ r. r >>= λ x. with_stage x.entries (stage_step vars x.entries x.stage n n.kind))
-      (settled_other vars p n.kind other)
+  ended_step p n other = rw (settled_other vars p n.kind other)
 
   -- a name is read behind the end of the last entry as behind the entry
   pub name_again : (es : Entries) (n : Lexeme) (q : Partial) → Fits es → n.kind ≢ Comma
@@ -141,9 +119,8 @@ module _ (vars : List Var) (done : List Change) (number : ℕ) where
       → step vars (behind vars (Whole es)) n ≡ step vars q n
   name_again es n q fits other closed =
       let at = (closed_few vars es fits q closed).1 in
-      ended_step (behind vars (Whole es)) n other
-      ∙ ap (λ r. r >>= λ x. with_stage x.entries (stage_step vars x.entries x.stage n n.kind)) closed
-      ∙ sym (between_step q n (ap (λ (x : Partial). x.stage) at) other)
+      rw (ended_step (behind vars (Whole es)) n other, closed)
+      (sym (between_step q n (ap (λ (x : Partial). x.stage) at) other))
 
   unit_by : (es : Entries) (n e : Lexeme) → Fits es → n.kind ≢ Comma → e.kind ≡ Equal
       → (r : Result Partial StrategyFault)
@@ -151,11 +128,9 @@ module _ (vars : List Var) (done : List Change) (number : ℕ) where
       → ((lifted r >>= λ q. Ok (interrupted done number n q)) >>= λ s. script.step vars s e)
       ≡ within_of (step vars (behind vars (Whole es)) n >>= λ q. step vars q e)
   unit_by es n e fits other kind (Ok q) closed =
-      equal_step q n e kind
-      ∙ ap (λ r. within_of (r >>= λ x. step vars x e)) (sym (name_again es n q fits other closed))
+      rw (name_again es n q fits other closed) (equal_step q n e kind)
   unit_by es n e fits other kind (Err fault) closed =
-      sym (ap (λ r. within_of (r >>= λ x. step vars x e)) (ended_step (behind vars (Whole es)) n other
-      ∙ ap (λ r. r >>= λ x. with_stage x.entries (stage_step vars x.entries x.stage n n.kind)) closed))
+      rw (ended_step (behind vars (Whole es)) n other, closed) refl
 
   two_by : (es : Entries) (n e : Lexeme) → Fits es → IsBefore n → e.kind ≡ Equal
       → (r : Result Partial StrategyFault) → (Ran (spell_part (Whole es)) ≡ r)
@@ -166,28 +141,21 @@ module _ (vars : List Var) (done : List Change) (number : ℕ) where
       let at = (stands_behind vars (Whole es) s fits ran).1 in
       let p = behind vars (Whole es) in
       let word = before_word n.kind n.text before in
-      ap (λ x. script.step vars (change_goes_on done number x) n >>= λ s. script.step vars s e) at
-      ∙ ap (λ r. r >>= λ s. script.step vars s e) (before_step p n before (whole_begins es))
-      ∙ unit_by es n e fits (λ comma. cc (word, comma)) kind (ended p.entries p.stage) refl
-      ∙ sym (ap (λ x. within_of (step vars x n >>= λ q. step vars q e)) at)
+      rw (at, before_step p n before (whole_begins vars es))
+      (unit_by es n e fits (λ comma. cc (word, comma)) kind (ended p.entries p.stage) refl)
 
   equal_alike : (es : Entries) (n e : Lexeme) → FitsPart (ToEqual es n e) → Alike (spell_part (Whole es))
       → Alike (spell_part (ToEqual es n e))
-  equal_alike es n e fits alike = by (is_before n.kind n.text) refl
-    where
-      by : (b : Bool) → is_before n.kind n.text ≡ b → Alike (spell_part (ToEqual es n e))
-      by false no_before =
-          let name = part_alike (Whole es) n fits.0 alike
-          (ap (λ b. b && may_begin (behind vars (Whole es)).stage) no_before) in
-          part_alike (ToName es n) e (fits.0, fits.1) name (and-false (is_before e.kind e.text))
-      by true before =
-          let front = spell_part (Whole es) in
-          more_told (front ++ n ∷ []) e
-          ∙ ap (λ r. r >>= λ s. script.step vars s e)
-          (more_told front n ∙ ap (λ r. r >>= λ s. script.step vars s n) alike)
-          ∙ two_by es n e fits.0 before fits.2 (Ran front) refl
-          ∙ ap (λ r. within_of (r >>= λ p. step vars p e)) (sym (one_more vars front n))
-          ∙ ap within_of (sym (one_more vars (front ++ n ∷ []) e))
+  equal_alike es n e fits alike =
+      let front = spell_part (Whole es) in
+      elim (cases_Bool (is_before n.kind n.text)) [
+        | inl before ↦
+            rw (more_told (front ++ n ∷ []) e, more_told front n, alike, more_ran (front ++ n ∷ []) e, more_ran front n)
+            (two_by es n e fits.0 before fits.2 (Ran front) refl)
+        | inr no_before ↦
+            part_alike (ToName es n) e (fits.0, fits.1) (part_alike (Whole es) n fits.0 alike (rw no_before))
+            (and-false (is_before e.kind e.text))
+      ]
 
   method_alike : (es : Entries) (n e w : Lexeme) (m : Method) → FitsPart (ToMethod es n e w m)
       → Alike (spell_part (Whole es)) → Alike (spell_part (ToMethod es n e w m))
@@ -216,21 +184,13 @@ module _ (vars : List Var) (done : List Change) (number : ℕ) where
       → Alike (spell_part (Whole es)) → Alike (spell_part (Whole (Then es o is)))
   integers_alike es o (First t) fits opening integers alike =
       part_alike (ToColon es o) t (fits, opening) (colon_alike es o (fits, opening) alike)
-      (of_kind t Integer _ (first o.method integers) (λ e. cc))
-    where
-      first : (m : Method) → FitsIntegers m (First t) → t.kind ≡ Integer
-      first m f = f
+      (of_kind t Integer _ integers (λ e. cc))
   integers_alike es o (Next is c t) fits opening integers alike =
-      let more = next o.method integers in
+      let more = more_fits o.method is c t integers in
       let fit : FitsPart (ToComma es o is c) = (fits, opening, more.0, more.1, more.2) in
       part_alike (ToComma es o is c) t fit
       (comma_alike es o is c fit (integers_alike es o is fits opening more.1 alike))
       (of_kind t Integer _ more.3 (λ e. cc))
-    where
-      next : (m : Method) → FitsIntegers m (Next is c t)
-          → (m ≡ method.Cut) × FitsIntegers m is × (c.kind ≡ Comma) × (t.kind ≡ Integer)
-      next method.Hash f = absurd f
-      next method.Cut f = (refl, f.0, f.1, f.2)
 
   whole_alike : (es : Entries) → Fits es → Alike (spell_part (Whole es))
   whole_alike NoEntry fits =
@@ -241,8 +201,7 @@ module _ (vars : List Var) (done : List Change) (number : ℕ) where
   pub alike : (p : Part) → FitsPart p → IsNoBefore p → Alike (spell_part p)
   alike (Whole es) fits own = whole_alike es fits
   alike (ToName es n) fits own =
-      part_alike (Whole es) n fits.0 (whole_alike es fits.0)
-      (ap (λ b. b && may_begin (behind vars (Whole es)).stage) own)
+      part_alike (Whole es) n fits.0 (whole_alike es fits.0) (rw own)
   alike (ToEqual es n e) fits own = equal_alike es n e fits (whole_alike es fits.0)
   alike (ToMethod es n e w m) fits own = method_alike es n e w m fits (whole_alike es fits.0)
   alike (ToColon es o) fits own = colon_alike es o fits (whole_alike es fits.0)

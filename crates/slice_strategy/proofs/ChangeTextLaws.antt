@@ -1,12 +1,11 @@
 -- The laws of the reader of change scripts: what it reads is what a text spells, and each fault is the first
 -- that is shown.
-use Rattle.std.proofs.Common.{◌≡◌, ◌≢◌, ◌∙◌, ℕ, true, List, [], ◌∷◌, ◌++◌, length, Some, None, Option}
-use Rattle.std.proofs.Common.{Result, Ok, Err}
+use Rattle.std.proofs.Common.{◌≡◌, ◌≢◌, ◌∙◌, ℕ, true, List, [], ◌∷◌, ◌++◌, length, Some, None, Option, Result, Ok, Err}
 use Rattle.std.proofs.Common.{IfOk, IfErr, refl, ap, sym}
 use Rattle.mfotl_lex.specs.declared.fault.LexFault.{LexFault}
 use Rattle.mfotl_lex.specs.declared.kind.Mode.TheVariants.{Plain}
 use Rattle.mfotl_lex.specs.FirstFault as layer
-use Rattle.mfotl_lex.specs.FirstFault.{◌>>=◌, Broken, End, run}
+use Rattle.mfotl_lex.specs.FirstFault.{Broken, End, run}
 use Rattle.mfotl_lex.specs.Lexemes.{tokens}
 use Rattle.mfotl_lex.specs.Places.{beginning}
 use Rattle.mfotl_lex.specs.Texts.{tail_of}
@@ -35,32 +34,20 @@ use Rattle.slice_strategy.proofs.CauseLaw.{closed_few, ends_accepted, few_closed
 use Rattle.slice_strategy.proofs.Moves.{behind}
 use Rattle.slice_strategy.proofs.PartReads.{few_kept, few_of}
 use Rattle.slice_strategy.proofs.ChangeCauseLaw.{follows, stands, place_stands, inner_ran, IsPlace}
-use Rattle.slice_strategy.proofs.ChangeParts.{IsRule, Place, Outside, ToBefore, Inside, spell_number}
-use Rattle.slice_strategy.proofs.ChangeParts.{at_place, at_whole}
-use Rattle.slice_strategy.proofs.ChangeParts.{KeepsWhole, whole_of, script_read}
+use Rattle.slice_strategy.proofs.ChangeParts.{IsRule, Place, Outside, ToBefore, Inside, spell_number, at_place}
+use Rattle.slice_strategy.proofs.ChangeParts.{at_whole, KeepsWhole, whole_of, script_read}
+use Rattle.slice_strategy.proofs.TokenRuns.{never_ok}
 
 module _ (vars : List Var) (bytes : List ℕ) where
   abbrev end : ℕ
   end = length bytes
-
-  abbrev given : List ChangeOf → Result (List ChangeOf) ChangeFault
-  given changes = Ok changes
-
-  same_given : (a b : List ChangeOf) → given a ≡ given b → a ≡ b
-  same_given a b e = cc
-
-  abbrev told : StrategyOf → Result StrategyOf StrategyFault
-  told s = Ok s
-
-  same_told : (a b : StrategyOf) → told a ≡ told b → a ≡ b
-  same_told a b e = cc
 
   -- ---- what is read is spelled
 
   last_is : (done : List ChangeOf) (n : ℕ) (r : Result StrategyOf StrategyFault) (changes : List ChangeOf)
       → last_change done n r ≡ Ok changes
       → (s : StrategyOf) × (r ≡ Ok s) × (done ++ record { before = n; strategy = s } ∷ [] ≡ changes)
-  last_is done n (Ok s) changes e = (s, refl, same_given _ changes e)
+  last_is done n (Ok s) changes e = (s, refl, cc)
   last_is done n (Err fault) changes e = absurd cc
 
   place_value : (s : ScriptOf) → run (step vars) (text_of bytes).list nothing_read ≡ Ok s
@@ -72,7 +59,7 @@ module _ (vars : List Var) (bytes : List ℕ) where
         whole = whole;
         spelled = record { fits = tt; spelled = is.spelled };
         rules = tt;
-        value = sym (same_given [] changes e);
+        value = cc;
       }
   place_value s ran whole (ToBefore r w) is changes e = absurd cc
   place_value s ran whole (Inside r w n p) is changes e =
@@ -88,9 +75,7 @@ module _ (vars : List Var) (bytes : List ℕ) where
       let few =
       closed_few vars es accepted.1.fits q.0 (ap (λ (x : Partial). ended x.entries x.stage) (sym at.1) ∙ q.1) in
       let kept = (place_stands vars (text_of bytes).list s (Inside r w n p) ran is).0 in
-      let value =
-      same_told last.0 (strategy_of vars es)
-      (sym q.2 ∙ ap (λ (x : Partial). complete end x.entries x.stage) few.1) in
+      let value : last.0 ≡ strategy_of vars es = cc (rw few.1 at q.2) in
       record {
         written = Change r w n es;
         whole = whole;
@@ -108,11 +93,7 @@ module _ (vars : List Var) (bytes : List ℕ) where
   broken_never x (ToBefore r w) changes e = cc
   broken_never x (Inside r w n p) changes e =
       let last = last_is (changes_of vars r) (point_number n) (strategy.broken_at (behind vars p) x.at) changes e in
-      let q = bind_ok (ended (behind vars p).entries (behind vars p).stage) (λ q. syntax x.at) last.0 last.1 in
-      cc (q.2)
-    where
-      syntax : ℕ → Result StrategyOf StrategyFault
-      syntax at = Err (Syntax at)
+      never_ok (ended (behind vars p).entries (behind vars p).stage) (Syntax x.at) last.0 last.1
 
   tail_by : (fault : Option LexFault) (p : Place) (changes : List ChangeOf)
       → at_tail (tail_of true end fault) (at_place vars p) ≡ Ok changes
@@ -137,21 +118,16 @@ module _ (vars : List Var) (bytes : List ℕ) where
       → at_tail (End end) (at_whole vars s) ≡ Ok (changes_of vars s)
   whole_given NoChange fits kept = refl
   whole_given (Change s w n es) fits kept =
-      ap (λ r. last_change (changes_of vars s) (point_number n) (r >>= λ (q : Partial). complete end q.entries q.stage))
-      (few_closed vars es fits.3 (few_of vars es kept.3))
+      rw (few_closed vars es fits.3 (few_of vars es kept.3))
 
   pub spelled_is_read : (changes : List ChangeOf) → IsValue vars bytes changes → reading vars bytes ≡ Ok changes
   unfolding reading layer.reading
   spelled_is_read changes v =
-      let x = text_of bytes in
       let s = v.written in
-      ap (λ ts. run (step vars) ts nothing_read >>= λ p. at_tail x.tail p) v.spelled.spelled
-      ∙ ap (λ r. r >>= λ p. at_tail x.tail p)
-      (kept_ok IsRule (KeepsWhole vars s) (run (step vars) (spell_script s) nothing_read) (at_whole vars s)
-      (script_read vars s v.spelled.fits) (whole_of vars s v.rules).0)
-      ∙ ap (λ tail. at_tail tail (at_whole vars s)) v.whole
-      ∙ whole_given s v.spelled.fits v.rules
-      ∙ ap given (sym v.value)
+      let kept =
+      kept_ok IsRule (KeepsWhole vars s) (run (step vars) (spell_script s) nothing_read) (at_whole vars s)
+      (script_read vars s v.spelled.fits) (whole_of vars s v.rules).0 in
+      rw (v.spelled.spelled, kept, v.whole, whole_given s v.spelled.fits v.rules, v.value)
 
 pub one_answer : OneAnswer
 one_answer vars =

@@ -43,16 +43,11 @@ counts_next items workers i e counts low is =
     record {
       few = min-le_right (workers * parts) cap;
       counted =
-          capped cap (workers * parts) others
-          ∙ ap (λ x. min x cap) (mul_assoc workers parts others)
-          ∙ sym (ap (λ es. min (workers * workers_of es) cap) (entry_next items i e low is))
-          ∙ counts.counted;
+          rw (capped cap (workers * parts) others, mul_assoc workers parts others)
+          (rw (entry_next items i e low is) at counts.counted);
     }
 
 pub counts_done : (items : List Entry) (workers i : ℕ) → Counts items workers i → length items ≤ i
     → workers ≡ min (workers_of (entries_of items)) cap
 counts_done items workers i counts past =
-    sym (min-eq_left counts.few)
-    ∙ sym (ap (λ x. min x cap) (mul-one workers))
-    ∙ sym (ap (λ es. min (workers * workers_of es) cap) (none_behind items i past))
-    ∙ counts.counted
+    sym (min-eq_left counts.few) ∙ rw (none_behind items i past, mul-one workers) at counts.counted

@@ -1,6 +1,6 @@
 -- Which variables have an entry, as the strategy shows it; and the last of the integers.
 use Rattle.std.proofs.Common.{◌≡◌, ◌∙◌, ◌⊎◌, inl, inr, ℕ, zero, suc, ◌-◌, ◌<◌, ◌≤◌, List, [], ◌∷◌, ◌++◌, length}
-use Rattle.std.proofs.Common.{replicate, Option, Some, Err, slice_get, slice_set, ap, refl, sym, arith}
+use Rattle.std.proofs.Common.{replicate, Option, Some, None, Err, slice_get, slice_set, ap, refl, sym, arith}
 use Rattle.std.proofs.lemmas.List.{length-set, length-replicate, length-append}
 use Rattle.std.proofs.lemmas.List.Quantifiers.{position-Some}
 use Rattle.std.specs.Prelude.{ℤ}
@@ -21,6 +21,10 @@ use Rattle.slice_strategy.specs.Rules.{HasEntry, IsNew, KeepsRules}
 use Rattle.slice_strategy.proofs.SoundLemmas.{uncut_one}
 
 -- ---- lists
+
+pub cases_Option : {A : Type 0} (o : Option A) → (o ≡ None) ⊎ ((x : A) × (o ≡ Some x))
+cases_Option None = inl refl
+cases_Option (Some x) = inr (x, refl)
 
 got_set : (xs : List Entry) (k : ℕ) (x : Entry) → k < length xs → slice_get (slice_set xs k x) k ≡ Some x
 got_set [] k x low = absurd (omega (arith, low))
@@ -104,39 +108,28 @@ module _ (vars : List Var) where
       inr (record { first = λ h. h; uncut = got_uncut (length vars) x low })
   had_or_free (Then es o is) x known low =
       let e = entry_by o.method is in
-      let y = known.1.variable in
-      let at = number_named o.name y known.1.free in
-      let here : (number_of vars o.name ≡ x) → IsHad (Then es o is) x =
-      λ same. record {
-        had = inr (known.1.free ∙ ap (λ n. Some n) (sym at ∙ same));
-        repeats = λ t. ap (λ o. fresh o x t)
-            (ap (λ n. slice_get (slice_set (strategy_of vars es) n e) x) same
-            ∙ got_set (strategy_of vars es) x e (omega (arith, strategy_size es, low)))
-            ∙ had_by o.method is x t;
-      } in
-      let there : (slice_get (strategy_of vars (Then es o is)) x ≡ slice_get (strategy_of vars es) x)
-      → IsHad (Then es o is) x ⊎ IsFree (Then es o is) x =
-      λ other. elim (had_or_free es x known.0 low) [
-        | inl h ↦ inl (record { had = inl h.had; repeats = λ t. ap (λ o. fresh o x t) other ∙ h.repeats t })
-        | inr f ↦ inr (record {
-          first = λ h. elim h [
-            | inl before ↦ f.first before
-            | inr now ↦ cut_uncut o.method is
-                (sym (ap (λ n. slice_get (slice_set (strategy_of vars es) n e) x) (ap or_zero now)
-                ∙ got_set (strategy_of vars es) x e (omega (arith, strategy_size es, low)))
-                ∙ other ∙ f.uncut)
-          ];
-          uncut = other ∙ f.uncut;
-        })
-      ] in
+      let low_in : x < length (strategy_of vars es) = omega (arith, strategy_size es, low) in
+      let set = got_set (strategy_of vars es) x e low_in in
       elim (set_shows (strategy_of vars es) (number_of vars o.name) x e) [
-        | inl same ↦ inl (here same)
-        | inr other ↦ there other
+        | inl same ↦
+            let at = number_named o.name known.1.variable known.1.free in
+            inl (record {
+              had = inr (known.1.free ∙ ap (λ n. Some n) (sym at ∙ same));
+              repeats = λ t. rw (same, set) (had_by o.method is x t);
+            })
+        | inr other ↦
+            elim (had_or_free es x known.0 low) [
+              | inl h ↦ inl (record { had = inl h.had; repeats = λ t. rw other (h.repeats t) })
+              | inr f ↦ inr (record {
+                first = λ h. elim h [
+                  | inl before ↦ f.first before
+                  | inr now ↦ cut_uncut o.method is (sym set ∙ rw (ap or_zero now) at other ∙ f.uncut)
+                ];
+                uncut = other ∙ f.uncut;
+              })
+            ]
       ]
     where
-      some_entry : Entry → Option Entry
-      some_entry e = Some e
-
       cut_uncut : (m : Method) (is : Integers) → Some (entry_by m is) ≡ Some Uncut → ⊥
       cut_uncut method.Hash is e = cc
       cut_uncut method.Cut is e = cc

@@ -1,10 +1,9 @@
 -- Entries one by one, as the loops over them go.
 use Rattle.std.proofs.Common.{◌≡◌, ◌∙◌, ℕ, zero, suc, ◌+◌, ◌*◌, ◌/◌, ◌%◌, ◌<◌, ◌≤◌, Bool, true, false, not, nat_eq}
-use Rattle.std.proofs.Common.{◌&&◌, ◌||◌, List, [], ◌∷◌, length, drop, get_or, Some, option_map}
-use Rattle.std.proofs.Common.{slice_get, add-zero, ap, refl, sym, subst, arith}
-use Rattle.std.proofs.lemmas.List.{drop_more, drop_all}
-use Rattle.std.proofs.lemmas.Nat.{mul-le, mod_below, div-mul-add}
-use Rattle.std.proofs.Math.Nat.{mul_comm, mul_assoc, add-mul, mul-one}
+use Rattle.std.proofs.Common.{◌&&◌, ◌||◌, List, [], ◌∷◌, length, drop, get_or, Some, slice_get, ap, sym, subst, arith}
+use Rattle.std.proofs.lemmas.List.{drop_more, drop_all, length-map}
+use Rattle.std.proofs.lemmas.Nat.{mul-le, mod_below}
+use Rattle.std.proofs.Math.Nat.{mul_comm, mul_assoc, add-mul, mul-one, mul-div_cancel_left}
 use Rattle.std.proofs.lemmas.Option.{slice_get-map, slice_get-get_or}
 use Rattle.mfotl_model.specs.FreeVariables.{among}
 use Rattle.mfotl_model.specs.Regions.{near_from, near_of}
@@ -29,12 +28,6 @@ entry_next items i e low is =
 
 pub none_behind : (items : List Entry) (i : ℕ) → length items ≤ i → behind items i ≡ []
 none_behind items i past = ap entries_of (drop_all i items past)
-
-pub quotient : (p w : ℕ) → 0 < p → p * w / p ≡ w
-quotient p w some = ap (λ n. n / p) (mul_comm p w) ∙ by
-  where
-    by : w * p / p ≡ w
-    by = ap (λ n. n / p) (sym (add-zero (w * p))) ∙ div-mul-add w p 0 some
 
 pub up_to : (n w : ℕ) → 0 < w → n ≤ n * w
 up_to n w some = let one : n * 1 ≤ n * w = mul-le n 1 n w (omega arith) (omega arith) in
@@ -66,12 +59,10 @@ has_parts es i e has found = let r = by es i found has.some in (r.0, omega (arit
 pub found_entry : (items : List Entry) (i : ℕ) (e : Entry) → i < length items → e ≡ get_or items i e
     → slice_get (entries_of items) i ≡ Some (entry_of e)
 found_entry items i e low is =
-    slice_get-map entry_of items i
-    ∙ ap (option_map entry_of) (slice_get-get_or items i e low ∙ ap (λ x. Some x) (sym is))
+    rw (slice_get-map entry_of items i, slice_get-get_or items i e low, ← is)
 
 pub entries_size : (items : List Entry) → length (entries_of items) ≡ length items
-entries_size [] = refl
-entries_size (e ∷ items) = ap suc (entries_size items)
+entries_size items = length-map items entry_of
 
 -- the same of a strategy that has these entries
 pub read_entry : (items : List Entry) (strategy : Strategy) (i : ℕ) (e : Entry) → entries_of items ≡ strategy
@@ -108,11 +99,8 @@ module _ (items : List Entry) (row : List Value) (number i : ℕ) (owes : Owes i
       record {
         within = owes.within;
         owner =
-            horner number (parts_of (entry_of e)) w a (owner_from (i + 1) (behind items (i + 1)) (full_row row))
-            ∙ ap (λ n. number * (parts_of (entry_of e) * w)
-            + (n * w + owner_from (i + 1) (behind items (i + 1)) (full_row row))) part
-            ∙ sym (ap (λ es. number * workers_of es + owner_from i es (full_row row)) (entry_next items i e low is))
-            ∙ owes.owner;
+            rw (← owes.owner, entry_next items i e low is, ← part)
+            (horner number (parts_of (entry_of e)) w a (owner_from (i + 1) (behind items (i + 1)) (full_row row)));
       }
 
 pub owes_bound : (items : List Entry) (row : List Value) (number i : ℕ) → Owes items row number i → number < max_workers
@@ -157,7 +145,7 @@ module _ (items : List Entry) (vs : List ℕ) (v : Valuation) (k digits place i 
   positive = both_some (parts_of (entry_of e)) others (omega (arith, product, nears.low))
 
   pub divides : place / parts_of (entry_of e) ≡ others
-  divides = ap (λ n. n / parts_of (entry_of e)) product ∙ quotient (parts_of (entry_of e)) others positive.0
+  divides = ap (λ n. n / parts_of (entry_of e)) product ∙ mul-div_cancel_left others positive.0
 
   pub some_others : 0 < place / parts_of (entry_of e)
   some_others = subst (λ n. 0 < n) (sym divides) positive.1
@@ -167,7 +155,7 @@ module _ (items : List Entry) (vs : List ℕ) (v : Valuation) (k digits place i 
 
   both : (lies others && near_from (i + 1) (behind items (i + 1)) (digits % others) vs v)
       ≡ near_of (entries_of items) k vs v
-  both = sym (ap (λ es. near_from i es digits vs v) (entry_next items i e low is)) ∙ nears.near
+  both = rw (entry_next items i e low is) at nears.near
 
   pub nears_next : lies (place / parts_of (entry_of e)) ≡ true
       → Nears items vs v k (digits % (place / parts_of (entry_of e))) (place / parts_of (entry_of e)) (i + 1)
@@ -175,15 +163,8 @@ module _ (items : List Entry) (vs : List ℕ) (v : Valuation) (k digits place i 
       record {
         places = divides;
         low = mod_below digits (place / parts_of (entry_of e)) some_others;
-        near =
-            ap (λ n. near_from (i + 1) (behind items (i + 1)) (digits % n) vs v) divides
-            ∙ sym (ap (λ b. b && near_from (i + 1) (behind items (i + 1)) (digits % others) vs v)
-            (sym (ap lies divides) ∙ here))
-            ∙ both;
+        near = rw divides (rw (rw divides at here) at both);
       }
 
   pub nears_not : lies (place / parts_of (entry_of e)) ≡ false → false ≡ near_of (entries_of items) k vs v
-  nears_not other =
-      sym (ap (λ b. b && near_from (i + 1) (behind items (i + 1)) (digits % others) vs v)
-      (sym (ap lies divides) ∙ other))
-      ∙ both
+  nears_not other = rw (rw divides at other) at both

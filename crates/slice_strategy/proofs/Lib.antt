@@ -5,9 +5,9 @@ pub mod CountLemmas
 pub mod NearestLemmas
 pub mod SoundLemmas
 pub mod ReadingLemmas
-pub mod SizeLemmas
 pub mod EntryLaws
 pub mod Moves
+pub mod TokenRuns
 pub mod PartReads
 pub mod PartMoves
 pub mod CauseLaw

@@ -4,13 +4,14 @@ use Rattle.std.proofs.Common.{◌&&◌, ◌||◌, not, nat_eq, List, length, get
 use Rattle.std.proofs.lemmas.Bool.{and_from, cases_eq, cases_lt}
 use Rattle.std.proofs.lemmas.Nat.{div-mul-add, mod-mul-add, mod_below, mul-le, div-add-mod'}
 use Rattle.std.proofs.Math.Bool.{and-false}
+use Rattle.std.proofs.Math.Nat.{mul-div_cancel_left}
 use Rattle.std.specs.Option.{unwrap_or}
 use Rattle.mfotl_model.proofs.LogicLemmas.{funext}
 use Rattle.mfotl_model.specs.FreeVariables.{among}
 use Rattle.mfotl_model.specs.Regions.{near_from}
 use Rattle.mfotl_model.specs.Satisfaction.{Valuation}
 use Rattle.mfotl_model.specs.Strategies.{parts_of, strategy_part, workers_of}
-use Rattle.slice_strategy.proofs.EntryLemmas.{behind, entry_next, quotient}
+use Rattle.slice_strategy.proofs.EntryLemmas.{behind, entry_next}
 use Rattle.slice_strategy.specs.declared.entry.Entry.{Entry}
 use Rattle.slice_strategy.specs.Entries.{entries_of, entry_of}
 use Rattle.slice_strategy.specs.Nearest.{IsNearest, may_be, next_number, raised}
@@ -23,11 +24,11 @@ lower a b place r s low small = let h = below_product a b place r low small in o
 
 -- of two numbers in order, the digits are in order
 digits_up : (a b place r s : ℕ) → r < place → s < place → a * place + r ≤ b * place + s → a ≤ b
-digits_up a b place r s rs ss h = by (cases_lt b a)
-  where
-    by : (b < a) ⊎ (a ≤ b) → a ≤ b
-    by (inl above) = let e = lower b a place s r above ss in absurd (omega (arith, h, e))
-    by (inr up) = up
+digits_up a b place r s rs ss h =
+    elim (cases_lt b a) [
+      | inl above ↦ let e = lower b a place s r above ss in absurd (omega (arith, h, e))
+      | inr up ↦ up
+    ]
 
 module _ (high low : ℕ → Bool) (parts place digit rest : ℕ) (some : 0 < place) (inside : rest < place)
     (within : digit < parts) where
@@ -54,15 +55,12 @@ module _ (high low : ℕ → Bool) (parts place digit rest : ℕ) (some : 0 < pl
         let is = div-add-mod' k place in
         let small = mod_below k place some in
         let at_most = digits_up (k / place) d place (k % place) least small below.low (omega (arith, is, low_k)) in
-        apart k (by at_most (cases_eq (k / place) d))
-      where
-        by : k / place ≤ d → (k / place ≡ d) ⊎ ((k / place ≡ d) → ⊥)
-            → (high (k / place) ≡ false) ⊎ (low (k % place) ≡ false)
-        by at_most (inl same) =
-            let is = div-add-mod' k place in
-            let e = ap (λ n. n * place + k % place) same in
-            inr (below.least_first (k % place) (omega arith) (omega (arith, is, e, low_k)))
-        by at_most (inr other) = inl (none (k / place) up (omega (arith, at_most, other)))
+        elim (cases_eq (k / place) d) [
+          | inl same ↦
+              let e = ap (λ n. n * place + k % place) same in
+              apart k (inr (below.least_first (k % place) (omega arith) (omega (arith, is, e, low_k))))
+          | inr other ↦ apart k (inl (none (k / place) up (omega (arith, at_most, other))))
+        ]
 
     -- none of those with this digit that aren't below the rest
     abbrev StaysFalse : Type 0
@@ -115,10 +113,7 @@ module _ (high low : ℕ → Bool) (parts place digit rest : ℕ) (some : 0 < pl
 
     stay_none : next ≡ None → StaysFalse
     stay_none is k same up =
-        apart k (inr (below.next_first (k % place) up (by is)))
-      where
-        by : next ≡ None → k % place < end_of place next
-        by e = let small = mod_below k place some in rw e small
+        let small = mod_below k place some in apart k (inr (below.next_first (k % place) up (rw is small)))
 
     pub next_numbers : (stays : Bool) → stays ≡ high digit
         → IsNearest both (digit * place + rest) (parts * place) (first * place + least)
@@ -190,20 +185,18 @@ module _ (items : List Entry) (e : Entry) (vs : List ℕ) (v : Valuation) (y pla
   positive = both_some parts others (omega (arith, product, inside))
 
   divides : place / parts ≡ others
-  divides = ap (λ n. n / parts) product ∙ quotient parts others positive.0
+  divides = ap (λ n. n / parts) product ∙ mul-div_cancel_left others positive.0
 
   pub digit_inside : from / (place / parts) < parts
   digit_inside =
       let all = div-add-mod' from others in
       let is = ap (λ n. from / n) divides in
-      by is (cases_lt (from / others) parts) all
-    where
-      by : from / (place / parts) ≡ from / others → ((from / others) < parts) ⊎ (parts ≤ from / others)
-          → from / others * others + from % others ≡ from → from / (place / parts) < parts
-      by is (inl low) all = omega (arith, is, low)
-      by is (inr past) all =
-          let m = mul-le parts others (from / others) others past (omega arith) in
-          absurd (omega (arith, m, all, product, inside))
+      elim (cases_lt (from / others) parts) [
+        | inl low ↦ omega (arith, is, low)
+        | inr past ↦
+            let m = mul-le parts others (from / others) others past (omega arith) in
+            absurd (omega (arith, m, all, product, inside))
+      ]
 
   pub nearest_next : IsNearest (λ k. near_from (y + 1) (behind items 1) k vs v) (from % (place / parts)) (place / parts)
       least next
@@ -229,9 +222,7 @@ module _ (items : List Entry) (e : Entry) (vs : List ℕ) (v : Valuation) (y pla
       ≡ (λ k. near_from y (entries_of items) k vs v) =
       funext (both (may_be held) rest parts w (from / w) (from % w) some (mod_below from w some) digit_inside)
       (λ k. near_from y (entries_of items) k vs v)
-      (λ k. ap (λ b. b && rest (k % w)) (digits (k / w))
-      ∙ ap (λ n. (not (among y vs) || nat_eq (strategy_part (entry_of e) (v y)) (k / n)) && rest (k % n)) divides
-      ∙ sym (ap (λ es. near_from y es k vs v) (entry_next items 0 e any is))) in
+      (λ k. rw (digits (k / w), divides, entry_next items 0 e any is)) in
       let count : parts * w ≡ place = ap (λ n. parts * n) divides ∙ sym product in
       subst (λ t. IsNearest t from place number answer) same
       (subst (λ n. IsNearest (both (may_be held) rest parts w (from / w) (from % w) some (mod_below from w some)

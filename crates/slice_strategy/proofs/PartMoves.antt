@@ -1,8 +1,6 @@
 -- Behind each part of a strategy: to which part a token leads, or of which fault it is the cause.
-use Rattle.std.proofs.Common.{◌≡◌, ◌≢◌, ◌∙◌, inl, inr, ℕ, Bool, true, false, if◌then◌else◌, List, [], ◌∷◌, ◌++◌}
-use Rattle.std.proofs.Common.{Option, Some, None, Result, Ok, Err, slice_get, ap, refl, sym, subst}
+use Rattle.std.proofs.Common.{◌≡◌, ◌≢◌, inl, inr, ℕ, List, [], ◌∷◌, ◌++◌, Result, Ok, Err, refl, sym, subst}
 use Rattle.std.specs.Prelude.{codes}
-use Rattle.std.specs.Str.{bytes_eq}
 use Rattle.std.proofs.lemmas.List.{append-nil, append_assoc}
 use Rattle.mfotl_lex.specs.declared.kind.Kind.{Kind}
 use Rattle.mfotl_lex.specs.declared.kind.Kind.TheVariants.{Word, Integer, Comma, Colon, Equal}
@@ -11,20 +9,18 @@ use Rattle.mfotl_lex.specs.Lexemes.{Lexeme}
 use Rattle.mfotl_lex.proofs.Verdicts as layer
 use Rattle.mfotl_model.specs.declared.policy.Var.{Var}
 use Rattle.slice_strategy.specs.declared.fault.StrategyFault.{StrategyFault}
-use Rattle.slice_strategy.specs.declared.fault.StrategyFault.TheVariants.{Syntax, CutSort}
+use Rattle.slice_strategy.specs.declared.fault.StrategyFault.TheVariants.{Syntax}
 use Rattle.slice_strategy.specs.declared.stage.Method.{Method}
 use Rattle.slice_strategy.specs.declared.stage.Method.TheVariants as method
 use Rattle.slice_strategy.specs.Causes.{IsCause}
 use Rattle.slice_strategy.specs.Grammar.{Integers, First, Next, Opening, Entries, NoEntry, Then, Part, Whole, ToName}
-use Rattle.slice_strategy.specs.Grammar.{ToEqual, ToMethod, ToColon, ToComma, FitsPart, Fits, FitsIntegers}
-use Rattle.slice_strategy.specs.Grammar.{spell_part, method_of, IsAccepted, IsViable}
-use Rattle.slice_strategy.specs.Reading.{Between, Behind, Divided, Partial, opened, ended, with_stage, stage_step}
-use Rattle.slice_strategy.specs.Reading.{step, syntax_at}
-use Rattle.slice_strategy.specs.Rules.{holds_text, number_of, entry_by, strategy_of}
-use Rattle.slice_strategy.proofs.Moves.{IsCaused, head_of, so_far, behind, step_by, stepped}
-use Rattle.slice_strategy.proofs.Moves.{ended_judged, name_judged, method_judged, first_judged, next_judged}
-use Rattle.slice_strategy.proofs.Moves.{comma_step}
+use Rattle.slice_strategy.specs.Grammar.{ToEqual, ToMethod, ToColon, ToComma, FitsPart, Fits, FitsIntegers, spell_part}
+use Rattle.slice_strategy.specs.Grammar.{method_of, IsAccepted, IsViable}
+use Rattle.slice_strategy.specs.Reading.{Between, Partial, opened, ended, with_stage, stage_step, step}
+use Rattle.slice_strategy.proofs.Moves.{IsCaused, head_of, so_far, behind, step_by, stepped, ended_judged, name_judged}
+use Rattle.slice_strategy.proofs.Moves.{method_judged, first_judged, next_judged, comma_step, chosen_by}
 use Rattle.slice_strategy.proofs.PartReads.{KeepsPart, known_whole}
+use Rattle.slice_strategy.proofs.EntryLaws.{cases_Option}
 
 -- ---- the grammar goes on
 
@@ -44,10 +40,7 @@ unfolding of_kind
 colon_viable es o fits =
     let t = of_kind Integer [] in
     viable_front (spell_part (ToColon es o)) t
-    (whole_viable (Then es o (First t)) (fits.0, fits.1, first o.method))
-  where
-    first : (m : Method) → FitsIntegers m (First (of_kind Integer []))
-    first m = refl
+    (whole_viable (Then es o (First t)) (fits.0, fits.1, refl))
 
 method_viable : (es : Entries) (n e w : Lexeme) (m : Method) → FitsPart (ToMethod es n e w m)
     → IsViable (spell_part (ToMethod es n e w m))
@@ -113,22 +106,20 @@ module _ (vars : List Var) where
   Moves p t (Ok s) = Leads p t s
   Moves p t (Err fault) = Shows p t fault
 
-  shows : (p : Part) (t : Lexeme) (fault : StrategyFault) → IsCaused vars (spell_part p) t fault → Shows p t fault
-  shows p t (Syntax at) c = absurd c.0
-  shows p t _ c = c.1
-
   leads : (p q : Part) (t : Lexeme) → FitsPart q → spell_part q ≡ spell_part p ++ t ∷ [] → IsNamedBy p t q
       → Moves p t (Ok (behind vars q))
   leads p q t fits spelled name =
       record { part = q; fits = fits; spelled = spelled; stands = refl; name = name }
 
+  shows : (p : Part) (t : Lexeme) (fault : StrategyFault) → IsCaused vars (spell_part p) t fault → Shows p t fault
+  shows p t (Syntax at) c = absurd c.0
+  shows p t _ c = c.1
+
   judged_moves : (p q : Part) (t : Lexeme) (rules : Type 0) (r : Result Partial StrategyFault) → FitsPart q
       → spell_part q ≡ spell_part p ++ t ∷ [] → IsNamedBy p t q
       → layer.Judged (IsCaused vars (spell_part p) t) rules r (behind vars q) → Moves p t r
-  judged_moves p q t rules r fits spelled name (inl kept) =
-      subst (Moves p t) (sym kept.1) (leads p q t fits spelled name)
-  judged_moves p q t rules r fits spelled name (inr b) =
-      subst (Moves p t) (sym b.shown) (shows p t b.fault b.is_rule)
+  judged_moves p q t rules r fits spelled name (inl kept) = rw kept.1 (leads p q t fits spelled name)
+  judged_moves p q t rules r fits spelled name (inr b) = rw b.shown (shows p t b.fault b.is_rule)
 
   -- no entry may begin with the token
   ends_moves : (es : Entries) (t : Lexeme) → Fits es → t.kind ≢ Comma
@@ -136,111 +127,64 @@ module _ (vars : List Var) where
       → Moves (Whole es) t (ended (behind vars (Whole es)).entries (behind vars (Whole es)).stage >>= next)
   ends_moves es t fits other next syntax =
       elim (ended_judged vars es fits t other) [
-        | inl kept ↦
-            subst (Moves (Whole es) t) (sym (ap (λ r. r >>= next) kept.1 ∙ syntax)) (same_place t.at)
-        | inr b ↦ subst (Moves (Whole es) t) (sym (ap (λ r. r >>= next) b.shown))
-            (shows (Whole es) t b.fault b.is_rule)
+        | inl kept ↦ rw (kept.1, syntax) (same_place t.at)
+        | inr b ↦ rw b.shown (shows (Whole es) t b.fault b.is_rule)
       ]
     where
       same_place : (n : ℕ) → n ≡ n
       same_place n = refl
 
-  comma_moves : (es : Entries) (t : Lexeme) → Fits es → t.kind ≡ Comma
-      → Moves (Whole es) t (step_by vars (behind vars (Whole es)) t Comma)
-  comma_moves NoEntry t fits kind = refl
-  comma_moves (Then es o is) t fits kind = by o.method refl
-    where
-      by : (m : Method) → o.method ≡ m
-          → Moves (Whole (Then es o is)) t
-          (step_by vars (so_far vars es (Behind (head_of vars o.name) (entry_by o.method is))) t Comma)
-      by method.Hash hash =
-          subst (λ m. Moves (Whole (Then es o is)) t
-          (step_by vars (so_far vars es (Behind (head_of vars o.name) (entry_by m is))) t Comma)) (sym hash) refl
-      by method.Cut cut =
-          subst (Moves (Whole (Then es o is)) t) (sym (comma_step vars es o is t cut))
-          (leads (Whole (Then es o is)) (ToComma es o is t) t (fits.0, fits.1, cut, fits.2, kind) refl tt)
+  -- a comma behind integers
+  comma_moves : (es : Entries) (o : Opening) (is : Integers) (t : Lexeme) → Fits (Then es o is) → t.kind ≡ Comma
+      → (m : Method) → o.method ≡ m
+      → Moves (Whole (Then es o is)) t (step_by vars (behind vars (Whole (Then es o is))) t Comma)
+  comma_moves es o is t fits kind method.Hash hash = rw hash refl
+  comma_moves es o is t fits kind method.Cut cut =
+      rw (comma_step vars es o is t cut)
+      (leads (Whole (Then es o is)) (ToComma es o is t) t (fits.0, fits.1, cut, fits.2, kind) refl tt)
 
-  whole_moves : (es : Entries) (t : Lexeme) (k : Kind) → t.kind ≡ k → Fits es → KeepsPart vars (Whole es)
-      → Moves (Whole es) t (step_by vars (behind vars (Whole es)) t k)
-  whole_moves es t Word kind fits kept =
-      judged_moves (Whole es) (ToName es t) t _ _ (fits, kind) refl (refl, refl)
-      (name_judged vars es fits (known_whole vars es kept) t kind)
-  whole_moves es t Comma kind fits kept = comma_moves es t fits kind
-  whole_moves es t k kind fits kept =
-      ends_moves es t fits (λ comma. cc (kind, comma))
-      (λ q. with_stage q.entries (stage_step vars q.entries q.stage t k)) refl
-
-  name_moves : (es : Entries) (n t : Lexeme) (k : Kind) → t.kind ≡ k → FitsPart (ToName es n)
-      → Moves (ToName es n) t (step_by vars (behind vars (ToName es n)) t k)
-  name_moves es n t Equal kind fits = leads (ToName es n) (ToEqual es n t) t (fits.0, fits.1, kind) refl tt
-  name_moves es n t _ kind fits = refl
-
-  equal_moves : (es : Entries) (n e t : Lexeme) (k : Kind) → t.kind ≡ k → FitsPart (ToEqual es n e)
-      → Moves (ToEqual es n e) t (step_by vars (behind vars (ToEqual es n e)) t k)
-  equal_moves es n e t Word kind fits = by (method_of t.text) refl
-    where
-      none : (hash cut string : Bool)
-          → (if hash then Some method.Hash else if cut then Some method.Cut else None) ≡ None
-          → Moves (ToEqual es n e) t
-          (with_stage (strategy_of vars es)
-          (if hash then Ok (Divided (head_of vars n) method.Hash) else if cut then
-          (if string then Err (CutSort t.at) else Ok (Divided (head_of vars n) method.Cut)) else syntax_at t))
-      none true cut string is = absurd cc
-      none false true string is = absurd cc
-      none false false string is = refl
-
-      by : (o : Option Method) → method_of t.text ≡ o
-          → Moves (ToEqual es n e) t (step_by vars (behind vars (ToEqual es n e)) t Word)
-      by None is =
-          none (bytes_eq t.text (codes "hash")) (bytes_eq t.text (codes "cut"))
-          (holds_text (slice_get vars (number_of vars n))) is
-      by (Some m) is =
-          judged_moves (ToEqual es n e) (ToMethod es n e t m) t _ _ (fits.0, fits.1, fits.2, kind, is) refl tt
-          (method_judged vars es n e fits t m kind is)
-  equal_moves es n e t _ kind fits = refl
-
-  method_moves : (es : Entries) (n e w : Lexeme) (m : Method) (t : Lexeme) (k : Kind) → t.kind ≡ k
-      → FitsPart (ToMethod es n e w m)
-      → Moves (ToMethod es n e w m) t (step_by vars (behind vars (ToMethod es n e w m)) t k)
-  method_moves es n e w m t Colon kind fits =
-      leads (ToMethod es n e w m) (ToColon es (record { name = n; equal = e; word = w; method = m; colon = t })) t
-      (fits.0, (fits.1, fits.2, fits.3, fits.4, kind)) refl tt
-  method_moves es n e w m t _ kind fits = refl
-
-  colon_moves : (es : Entries) (o : Opening) (t : Lexeme) (k : Kind) → t.kind ≡ k → FitsPart (ToColon es o)
-      → Moves (ToColon es o) t (step_by vars (behind vars (ToColon es o)) t k)
-  colon_moves es o t Integer kind fits =
-      judged_moves (ToColon es o) (Whole (Then es o (First t))) t _ _ (fits.0, fits.1, first o.method) refl tt
-      (first_judged vars es o fits t kind)
-    where
-      first : (m : Method) → FitsIntegers m (First t)
-      first m = kind
-  colon_moves es o t k kind fits = by o.method
-    where
-      by : (m : Method) → Moves (ToColon es o) t
-          (step_by vars (so_far vars es (opened (head_of vars o.name) m)) t k)
-      by method.Hash = refl
-      by method.Cut = refl
-
-  more_moves : (es : Entries) (o : Opening) (is : Integers) (c t : Lexeme) (k : Kind) → t.kind ≡ k
-      → FitsPart (ToComma es o is c)
-      → Moves (ToComma es o is c) t (step_by vars (behind vars (ToComma es o is c)) t k)
-  more_moves es o is c t Integer kind fits =
-      judged_moves (ToComma es o is c) (Whole (Then es o (Next is c t))) t _ _
-      (next_fits es o is c t fits kind) refl tt
-      (next_judged vars es o is c fits t kind)
-  more_moves es o is c t _ kind fits = refl
+  -- no integer behind a `:`
+  opened_moves : (es : Entries) (o : Opening) (t : Lexeme) (k : Kind) → k ≢ Integer → (m : Method)
+      → Moves (ToColon es o) t (step_by vars (so_far vars es (opened (head_of vars o.name) m)) t k)
+  opened_moves es o t Integer other m = absurd (other refl)
+  opened_moves es o t k other method.Hash = refl
+  opened_moves es o t k other method.Cut = refl
 
   part_moves : (p : Part) (t : Lexeme) (k : Kind) → t.kind ≡ k → FitsPart p → KeepsPart vars p
       → Moves p t (step_by vars (behind vars p) t k)
-  part_moves (Whole es) t k kind fits kept = whole_moves es t k kind fits kept
-  part_moves (ToName es n) t k kind fits kept = name_moves es n t k kind fits
-  part_moves (ToEqual es n e) t k kind fits kept = equal_moves es n e t k kind fits
-  part_moves (ToMethod es n e w m) t k kind fits kept = method_moves es n e w m t k kind fits
-  part_moves (ToColon es o) t k kind fits kept = colon_moves es o t k kind fits
-  part_moves (ToComma es o is c) t k kind fits kept = more_moves es o is c t k kind fits
+  part_moves (Whole es) t Word kind fits kept =
+      judged_moves (Whole es) (ToName es t) t _ _ (fits, kind) refl (refl, refl)
+      (name_judged vars es fits (known_whole vars es kept) t kind)
+  part_moves (Whole NoEntry) t Comma kind fits kept = refl
+  part_moves (Whole (Then es o is)) t Comma kind fits kept = comma_moves es o is t fits kind o.method refl
+  part_moves (Whole es) t k kind fits kept =
+      ends_moves es t fits (λ comma. cc (kind, comma))
+      (λ q. with_stage q.entries (stage_step vars q.entries q.stage t k)) refl
+  part_moves (ToName es n) t Equal kind fits kept =
+      leads (ToName es n) (ToEqual es n t) t (fits.0, fits.1, kind) refl tt
+  part_moves (ToName es n) t _ kind fits kept = refl
+  part_moves (ToEqual es n e) t Word kind fits kept =
+      elim (cases_Option (method_of t.text)) [
+        | inl none ↦ rw (chosen_by vars (head_of vars n) t, none) refl
+        | inr found ↦
+            judged_moves (ToEqual es n e) (ToMethod es n e t found.0) t _ _ (fits.0, fits.1, fits.2, kind, found.1) refl
+            tt (method_judged vars es n e fits t found.0 kind found.1)
+      ]
+  part_moves (ToEqual es n e) t _ kind fits kept = refl
+  part_moves (ToMethod es n e w m) t Colon kind fits kept =
+      leads (ToMethod es n e w m) (ToColon es (record { name = n; equal = e; word = w; method = m; colon = t })) t
+      (fits.0, (fits.1, fits.2, fits.3, fits.4, kind)) refl tt
+  part_moves (ToMethod es n e w m) t _ kind fits kept = refl
+  part_moves (ToColon es o) t Integer kind fits kept =
+      judged_moves (ToColon es o) (Whole (Then es o (First t))) t _ _ (fits.0, fits.1, kind) refl tt
+      (first_judged vars es o fits t kind)
+  part_moves (ToColon es o) t k kind fits kept = opened_moves es o t k (λ integer. cc) o.method
+  part_moves (ToComma es o is c) t Integer kind fits kept =
+      judged_moves (ToComma es o is c) (Whole (Then es o (Next is c t))) t _ _
+      (next_fits es o is c t fits kind) refl tt
+      (next_judged vars es o is c fits t kind)
+  part_moves (ToComma es o is c) t _ kind fits kept = refl
 
   -- behind every part
   pub moves : (p : Part) (t : Lexeme) → FitsPart p → KeepsPart vars p → Moves p t (step vars (behind vars p) t)
-  moves p t fits kept =
-      subst (Moves p t) (sym (stepped vars (behind vars p) t t.kind refl)) (part_moves p t t.kind refl fits kept)
+  moves p t fits kept = rw (stepped vars (behind vars p) t t.kind refl) (part_moves p t t.kind refl fits kept)

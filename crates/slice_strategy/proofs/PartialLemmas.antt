@@ -1,6 +1,6 @@
 -- Values that rows give to variables.
-use Rattle.std.proofs.Common.{◌≡◌, ◌≢◌, ◌∙◌, ℕ, zero, suc, ◌+◌, ◌<◌, ◌≤◌, true, false, cond, nat_eq, ◌||◌}
-use Rattle.std.proofs.Common.{List, [], ◌∷◌, length, drop, get_or, ap, sym, arith, zero-add}
+use Rattle.std.proofs.Common.{◌≡◌, ◌≢◌, ◌∙◌, ℕ, zero, suc, ◌+◌, ◌<◌, true, false, cond, nat_eq, ◌||◌, List, [], ◌∷◌}
+use Rattle.std.proofs.Common.{length, drop, get_or, ap, sym, arith, zero-add}
 use Rattle.std.proofs.lemmas.Bool.Decides.{nat_tests}
 use Rattle.std.proofs.lemmas.List.{drop_more}
 use Rattle.std.specs.List.{range_with_len}
@@ -17,35 +17,27 @@ pub record Reads (cols : List ℕ) (row : List Value) (y i : ℕ) : Type 0 where
 module _ (cols : List ℕ) (row : List Value) (y i : ℕ) (a : Value) (in_cols : i < length cols) (in_row : i < length row)
     (reads : Reads cols row y i) where
   first : nat_eq y (get_or cols i 0) || among y (drop (i + 1) cols) ≡ among y cols
-  first = sym (ap (among y) (drop_more cols i 0 in_cols)) ∙ reads.bound
+  first = rw (drop_more cols i 0 in_cols) at reads.bound
 
   taken : cond (nat_eq y (get_or cols i 0)) (get_or row i a) (valuation (drop (i + 1) cols) (drop (i + 1) row) y)
       ≡ valuation cols row y
   taken =
-      sym (ap (λ cs. valuation cs (drop i row) y) (drop_more cols i 0 in_cols)
-      ∙ ap (λ r. valuation (get_or cols i 0 ∷ drop (i + 1) cols) r y) (drop_more row i a in_row)) ∙ reads.value
+      rw (drop_more cols i 0 in_cols, drop_more row i a in_row) at reads.value
 
   pub reads_next : get_or cols i 0 ≢ y → Reads cols row y (i + 1)
   reads_next other =
       let apart : nat_eq y (get_or cols i 0) ≡ false = grind (arith, nat_tests) in
-      record {
-        bound = sym (ap (λ b. b || among y (drop (i + 1) cols)) apart) ∙ first;
-        value =
-            sym (ap (λ b. cond b (get_or row i a) (valuation (drop (i + 1) cols) (drop (i + 1) row) y)) apart) ∙ taken;
-      }
+      record { bound = rw apart at first; value = rw apart at taken }
 
 full_from : (s i : ℕ) (row : List Value) (a : Value) → i < length row
     → valuation (range_with_len s (length row)) row (s + i) ≡ get_or row i a
 full_from s i [] a low = absurd (omega arith)
 full_from s zero (b ∷ row) a low =
-    let here : nat_eq (s + 0) s ≡ true = grind (arith, nat_tests) in
-    ap (λ t. cond t b (valuation (range_with_len (s + 1) (length row)) row (s + 0))) here
+    let here : nat_eq (s + 0) s ≡ true = grind (arith, nat_tests) in rw here
 full_from s (suc i) (b ∷ row) a low =
     let apart : nat_eq (s + suc i) s ≡ false = grind (arith, nat_tests) in
     let next : s + suc i ≡ s + 1 + i = omega arith in
-    ap (λ t. cond t b (valuation (range_with_len (s + 1) (length row)) row (s + suc i))) apart
-    ∙ ap (λ n. valuation (range_with_len (s + 1) (length row)) row n) next
-    ∙ full_from (s + 1) i row a (omega arith)
+    rw (apart, next) (full_from (s + 1) i row a (omega arith))
 
 -- a full row gives each variable the value of its number
 pub full_value : (row : List Value) (i : ℕ) (a : Value) → i < length row → full_row row i ≡ get_or row i a

@@ -1,17 +1,15 @@
 -- Reading token by token, as the loop does: what is still to come says the same as the whole text.
-use Rattle.std.proofs.Common.{◌≡◌, ◌∙◌, ℕ, true, List, length, Some, None, Result, Ok, Err, sym, ap}
+use Rattle.std.proofs.Common.{◌≡◌, ◌∙◌, ℕ, true, List, length, Some, None, Result, Ok, Err, sym}
 use Rattle.mfotl_lex.specs.declared.fault.LexFault.{LexFault}
 use Rattle.mfotl_lex.specs.declared.kind.Mode.TheVariants.{Plain}
-use Rattle.mfotl_lex.specs.FirstFault.{◌>>=◌}
 use Rattle.mfotl_lex.specs.Lexemes.{Lexeme, next_token, after}
 use Rattle.mfotl_lex.specs.Places.{Place, beginning}
 use Rattle.mfotl_lex.specs.Texts.{tail_of, reading_on}
 use Rattle.mfotl_lex.proofs.TextLaws as texts
 use Rattle.mfotl_lex.proofs.TextLaws.{on_step, on_stop, on_none, on_fault, begins}
-use Rattle.mfotl_model.specs.Strategies.{Strategy}
 use Rattle.mfotl_model.specs.declared.policy.Var.{Var}
 use Rattle.slice_strategy.specs.declared.fault.StrategyFault.{StrategyFault}
-use Rattle.slice_strategy.specs.declared.fault.StrategyFault.TheVariants.{Memory, Syntax}
+use Rattle.slice_strategy.specs.declared.fault.StrategyFault.TheVariants.{Memory}
 use Rattle.slice_strategy.specs.Answers.{Fails}
 use Rattle.slice_strategy.specs.Laws.{StaysShown}
 use Rattle.slice_strategy.specs.Reading.{Partial, step, at_end, at_tail, broken_at, ended, nothing_read, reading}
@@ -26,18 +24,10 @@ pub fails_on : {A B : Type 0} (fault : StrategyFault) (x : Result A StrategyFaul
 fails_on Memory x y stays given = tt
 fails_on _ x y stays given = stays given
 
-abbrev syntax_fault : ℕ → Result Strategy StrategyFault
-syntax_fault at = Err (Syntax at)
-
 -- where the lexer has a fault an entry may be behind which there are too many workers
-module _ (p : Partial) (at : ℕ) where
-  pub broken_in : (fault : StrategyFault) → Fails fault (ended p.entries p.stage) → Fails fault (broken_at p at)
-  broken_in fault failed =
-      fails_on fault (ended p.entries p.stage) (broken_at p at)
-      (λ e. ap (λ r. r >>= λ q. syntax_fault at) e) failed
-
-  pub broken_behind : (q : Partial) → ended p.entries p.stage ≡ Ok q → Fails (Syntax at) (broken_at p at)
-  broken_behind q e = ap (λ r. r >>= λ q. syntax_fault at) e
+pub broken_in : (p : Partial) (at : ℕ) (fault : StrategyFault) → Fails fault (ended p.entries p.stage)
+    → Fails fault (broken_at p at)
+broken_in p at fault failed = fails_on fault (ended p.entries p.stage) (broken_at p at) (λ e. rw e) failed
 
 module _ (vars : List Var) (bytes : List ℕ) where
   pub begins_so : Leads vars bytes (beginning Plain bytes) (nothing_read vars)

@@ -1,6 +1,6 @@
 -- One worker after another is given something, until all that pass a test have it.
-use Rattle.std.proofs.Common.{◌≡◌, ◌∙◌, ap, sym, refl, arith, ℕ, zero, suc, ◌+◌, ◌<◌, ◌≤◌, Bool, true, false, ◌&&◌}
-use Rattle.std.proofs.Common.{cond, nat_lt, inl, inr, ◌⊎◌, List, [], ◌∷◌, length, set, get_or}
+use Rattle.std.proofs.Common.{◌≡◌, ◌∙◌, ap, refl, arith, ℕ, zero, suc, ◌+◌, ◌<◌, ◌≤◌, Bool, true, false, ◌&&◌, cond}
+use Rattle.std.proofs.Common.{nat_lt, inl, inr, ◌⊎◌, List, [], ◌∷◌, length, set, get_or, add-zero}
 use Rattle.std.proofs.lemmas.Bool.{cases_lt}
 use Rattle.std.proofs.lemmas.Bool.Decides.{nat_tests}
 use Rattle.std.proofs.Math.Bool.{and-false, and-true}
@@ -16,19 +16,18 @@ module _ {P : Type 0} (give : P → P) where
       → given_to give p y parts ≡ given_to give q y parts
   given_alike p q y [] same = refl
   given_alike p q y (part ∷ parts) same =
-      ap (λ b. cond b (give part) part ∷ given_to give p (y + 1) parts) (same y (omega arith) (omega arith))
-      ∙ ap (λ rest. cond (q y) (give part) part ∷ rest)
-      (given_alike p q (y + 1) parts (λ k up low. same k (omega (arith, up)) (omega (arith, low))))
+      rw (
+        same y (omega arith) (omega arith),
+        given_alike p q (y + 1) parts (λ k up low. same k (omega (arith, up)) (omega (arith, low))),
+      )
 
   -- where none passes, nothing is given
   pub given_none : (p : ℕ → Bool) (y : ℕ) (parts : List P)
       → ((k : ℕ) → y ≤ k → k < y + length parts → p k ≡ false) → parts ≡ given_to give p y parts
   given_none p y [] never = refl
   given_none p y (part ∷ parts) never =
-      ap (λ rest. part ∷ rest)
-      (given_none p (y + 1) parts (λ k up low. never k (omega (arith, up)) (omega (arith, low))))
-      ∙ ap (λ b. cond b (give part) part ∷ given_to give p (y + 1) parts)
-      (sym (never y (omega arith) (omega arith)))
+      rw (never y (omega arith) (omega arith)) (ap (λ rest. part ∷ rest)
+      (given_none p (y + 1) parts (λ k up low. never k (omega (arith, up)) (omega (arith, low)))))
 
   -- one part more is given it
   given_at : (p q : ℕ → Bool) (y i : ℕ) (parts : List P) (other : P) → i < length parts
@@ -37,20 +36,16 @@ module _ {P : Type 0} (give : P → P) where
       → set (given_to give p y parts) i (give (get_or (given_to give p y parts) i other)) ≡ given_to give q y parts
   given_at p q y i [] other low no_p is_q same = absurd (omega arith)
   given_at p q y zero (part ∷ parts) other low no_p is_q same =
-      let here : y + 0 ≡ y = omega arith in
-      ap (λ b. give (cond b (give part) part) ∷ given_to give p (y + 1) parts) (ap p (sym here) ∙ no_p)
-      ∙ ap (λ b. cond b (give part) part ∷ given_to give p (y + 1) parts) (sym is_q ∙ ap q here)
-      ∙ ap (λ rest. cond (q y) (give part) part ∷ rest)
-      (given_alike p q (y + 1) parts (λ k up k_low.
-      same k (omega (arith, up)) (omega (arith, k_low)) (λ e. absurd (omega (arith, e, up)))))
+      let rest =
+      given_alike p q (y + 1) parts (λ k up k_low.
+      same k (omega (arith, up)) (omega (arith, k_low)) (λ e. absurd (omega (arith, e, up)))) in
+      rw (rw add-zero at no_p, rw add-zero at is_q, rest)
   given_at p q y (suc i) (part ∷ parts) other low no_p is_q same =
       let next : y + suc i ≡ y + 1 + i = omega arith in
-      ap (λ b. cond b (give part) part
-      ∷ set (given_to give p (y + 1) parts) i (give (get_or (given_to give p (y + 1) parts) i other)))
-      (same y (omega arith) (omega arith) (λ e. absurd (omega (arith, e))))
-      ∙ ap (λ rest. cond (q y) (give part) part ∷ rest)
-      (given_at p q (y + 1) i parts other (omega (arith, low)) (sym (ap p next) ∙ no_p) (sym (ap q next) ∙ is_q)
-      (λ k up k_low apart. same k (omega (arith, up)) (omega (arith, k_low)) (λ e. apart (e ∙ next))))
+      rw (same y (omega arith) (omega arith) (λ e. absurd (omega (arith, e))))
+      (ap (λ rest. cond (q y) (give part) part ∷ rest)
+      (given_at p q (y + 1) i parts other (omega (arith, low)) (rw next at no_p) (rw next at is_q)
+      (λ k up k_low apart. same k (omega (arith, up)) (omega (arith, k_low)) (λ e. apart (e ∙ next)))))
 
   -- none below the first is given it
   pub given_start : (test : ℕ → Bool) (first : ℕ) (parts : List P) → NoneFrom 0 first test
@@ -59,10 +54,8 @@ module _ {P : Type 0} (give : P → P) where
       given_none (up_to test first) 0 parts (λ k up low. by k (cases_lt k first))
     where
       by : (k : ℕ) → (k < first) ⊎ (first ≤ k) → up_to test first k ≡ false
-      by k (inl before) = ap (λ b. b && nat_lt k first) (none k (omega arith) before)
-      by k (inr behind) =
-          let above : nat_lt k first ≡ false = grind (arith, nat_tests) in
-          ap (λ b. test k && b) above ∙ and-false (test k)
+      by k (inl before) = rw (none k (omega arith) before)
+      by k (inr behind) = let above : nat_lt k first ≡ false = grind (arith, nat_tests) in rw above (and-false (test k))
 
   -- the next one is given it
   pub given_next : (test : ℕ → Bool) (from k next : ℕ) (parts : List P) (other : P) → from ≤ k → k < length parts
@@ -77,7 +70,7 @@ module _ {P : Type 0} (give : P → P) where
       out : up_to test from (0 + k) ≡ false
       out =
           let above : nat_lt (0 + k) from ≡ false = grind (arith, nat_tests) in
-          ap (λ b. test (0 + k) && b) above ∙ and-false (test (0 + k))
+          rw above (and-false (test (0 + k)))
 
       inside : up_to test next (0 + k) ≡ true
       inside =
@@ -86,14 +79,14 @@ module _ {P : Type 0} (give : P → P) where
           ap (λ b. test (0 + k) && b) below ∙ and-true (test (0 + k)) ∙ ap test here ∙ is
 
       nothing : (j : ℕ) → test j ≡ false → up_to test from j ≡ up_to test next j
-      nothing j none = ap (λ b. b && nat_lt j from) none ∙ sym (ap (λ b. b && nat_lt j next) none)
+      nothing j none = rw none
 
       same : (j : ℕ) → (j ≡ 0 + k → ⊥) → (j < from) ⊎ (from ≤ j) → (j < k) ⊎ (k ≤ j) → (j < next) ⊎ (next ≤ j)
           → up_to test from j ≡ up_to test next j
       same j apart (inl early) _ _ =
           let one : nat_lt j from ≡ true = grind (arith, nat_tests) in
           let two : nat_lt j next ≡ true = grind (arith, nat_tests) in
-          ap (λ b. test j && b) (one ∙ sym two)
+          rw (one, two)
       same j apart (inr late) (inl early) _ = nothing j (before j late early)
       same j apart (inr late) (inr past) (inl early) =
           let above : k + 1 ≤ j = omega (arith, apart) in
@@ -101,7 +94,7 @@ module _ {P : Type 0} (give : P → P) where
       same j apart (inr late) (inr past) (inr end) =
           let one : nat_lt j from ≡ false = grind (arith, nat_tests) in
           let two : nat_lt j next ≡ false = grind (arith, nat_tests) in
-          ap (λ b. test j && b) (one ∙ sym two)
+          rw (one, two)
 
   -- no more of them pass
   pub given_end : (test : ℕ → Bool) (from : ℕ) (parts : List P) → NoneFrom from (length parts) test
@@ -112,10 +105,8 @@ module _ {P : Type 0} (give : P → P) where
       by : (k : ℕ) → k < 0 + length parts → (k < from) ⊎ (from ≤ k) → up_to test from k ≡ test k
       by k top (inl before) =
           let one : nat_lt k from ≡ true = grind (arith, nat_tests) in
-          ap (λ b. test k && b) one ∙ and-true (test k)
-      by k top (inr behind) =
-          let nothing = none k behind (omega (arith, top)) in
-          ap (λ b. b && nat_lt k from) nothing ∙ sym nothing
+          rw one (and-true (test k))
+      by k top (inr behind) = rw (none k behind (omega (arith, top)))
 
   pub given_size : (test : ℕ → Bool) (y : ℕ) (parts : List P) → length (given_to give test y parts) ≡ length parts
   given_size test y [] = refl

@@ -1,10 +1,10 @@
 -- The laws of the reader: what it reads is what a text spells, and each fault is the first that is shown.
 use Rattle.std.proofs.Common.{◌≡◌, ◌≢◌, ◌∙◌, ℕ, true, List, length, Some, None, Option, Result, Ok, Err, IfOk, IfErr}
-use Rattle.std.proofs.Common.{refl, ap, sym}
+use Rattle.std.proofs.Common.{refl, ap}
 use Rattle.mfotl_lex.specs.declared.fault.LexFault.{LexFault}
 use Rattle.mfotl_lex.specs.declared.kind.Mode.TheVariants.{Plain}
 use Rattle.mfotl_lex.specs.FirstFault as layer
-use Rattle.mfotl_lex.specs.FirstFault.{◌>>=◌, End, run}
+use Rattle.mfotl_lex.specs.FirstFault.{End, run}
 use Rattle.mfotl_lex.specs.Lexemes.{tokens}
 use Rattle.mfotl_lex.specs.Places.{beginning}
 use Rattle.mfotl_lex.specs.Texts.{tail_of}
@@ -19,19 +19,14 @@ use Rattle.slice_strategy.specs.Causes.{IsCause, IsLast}
 use Rattle.slice_strategy.specs.Grammar.{Whole, IsAccepted, IsViable}
 use Rattle.slice_strategy.specs.Laws.{OneAnswer, IsShown, ExactFaults, ExactSoundness}
 use Rattle.slice_strategy.specs.Reading.{Partial, complete, ended, step, nothing_read, at_tail, reading}
-use Rattle.slice_strategy.specs.Rules.{IsValue, strategy_of, text_of}
+use Rattle.slice_strategy.specs.Rules.{IsValue, text_of}
 use Rattle.slice_strategy.proofs.CauseLaw.{follows, few_closed, ends_accepted, part_stands, closed_few}
-use Rattle.slice_strategy.proofs.Moves.{behind}
 use Rattle.slice_strategy.proofs.PartReads.{few_kept, kept_whole, kept_reads, few_of}
+use Rattle.slice_strategy.proofs.EntryLaws.{strategy_size}
+use Rattle.slice_strategy.proofs.TokenRuns.{never_ok}
 
 module _ (vars : List Var) (bytes : List ℕ) where
   -- ---- values
-
-  abbrev given : Strategy → Result Strategy StrategyFault
-  given s = Ok s
-
-  same_given : (a b : Strategy) → given a ≡ given b → a ≡ b
-  same_given a b e = cc
 
   -- whole entries, and the end
   accepted_value : (s : Partial) (q : Partial) (strategy : Strategy)
@@ -41,16 +36,13 @@ module _ (vars : List Var) (bytes : List ℕ) where
   accepted_value s q strategy ran closed accepted done whole =
       let es = accepted.0 in
       let at = part_stands vars (text_of bytes).list s (Whole es) ran accepted.1 in
-      let few = closed_few vars es accepted.1.fits q (ap (λ (p : Partial). ended p.entries p.stage) (sym at.1)
-      ∙ closed) in
+      let few = closed_few vars es accepted.1.fits q (rw at.1 at closed) in
       record {
         written = es;
         whole = whole;
         spelled = accepted.1;
         rules = few_kept vars es at.0 few.0;
-        value =
-            same_given strategy (strategy_of vars es)
-            (sym done ∙ ap (λ (p : Partial). complete (length bytes) p.entries p.stage) few.1);
+        value = cc (rw few.1 at done);
       }
 
   at_end_by : (fault : Option LexFault) (s : Partial) (strategy : Strategy)
@@ -60,11 +52,7 @@ module _ (vars : List Var) (bytes : List ℕ) where
   at_end_by None s strategy e =
       let r = bind_ok (ended s.entries s.stage) (λ q. complete (length bytes) q.entries q.stage) strategy e in
       (refl, r.0, r.1, r.2)
-  at_end_by (Some x) s strategy e =
-      let q = bind_ok (ended s.entries s.stage) (λ q. syntax x.at) strategy e in absurd (cc (q.2))
-    where
-      syntax : ℕ → Result Strategy StrategyFault
-      syntax at = Err (Syntax at)
+  at_end_by (Some x) s strategy e = absurd (never_ok (ended s.entries s.stage) (Syntax x.at) strategy e)
 
   pub read_is_spelled : (strategy : Strategy) → reading vars bytes ≡ Ok strategy → IsValue vars bytes strategy
   unfolding reading layer.reading
@@ -78,14 +66,14 @@ module _ (vars : List Var) (bytes : List ℕ) where
   pub spelled_is_read : (strategy : Strategy) → IsValue vars bytes strategy → reading vars bytes ≡ Ok strategy
   unfolding reading layer.reading
   spelled_is_read strategy v =
-      let x = text_of bytes in
       let es = v.written in
-      ap (λ ts. run (step vars) ts (nothing_read vars) >>= λ p. at_tail x.tail p) v.spelled.spelled
-      ∙ ap (λ r. r >>= λ p. at_tail x.tail p) (kept_reads vars (Whole es) v.spelled.fits (kept_whole vars es v.rules))
-      ∙ ap (λ tail. at_tail tail (behind vars (Whole es))) v.whole
-      ∙ ap (λ r. r >>= λ (q : Partial). complete (length bytes) q.entries q.stage)
-      (few_closed vars es v.spelled.fits (few_of vars es v.rules))
-      ∙ ap given (sym v.value)
+      rw (
+        v.spelled.spelled,
+        kept_reads vars (Whole es) v.spelled.fits (kept_whole vars es v.rules),
+        v.whole,
+        few_closed vars es v.spelled.fits (few_of vars es v.rules),
+        v.value,
+      )
 
 pub one_answer : OneAnswer
 one_answer vars =
@@ -117,3 +105,10 @@ pub fault_shown : (vars : List Var) (bytes : List ℕ) (result : Result Strategy
 fault_shown vars bytes (Ok s) given = tt
 fault_shown vars bytes (Err Memory) given = λ other. absurd (other refl)
 fault_shown vars bytes (Err fault) given = λ _. (exact_faults vars bytes fault).0 given
+
+-- there is an entry for each variable
+pub size_given : (vars : List Var) (bytes : List ℕ) (result : Result Strategy StrategyFault)
+    → Gives (λ s. s) result (reading vars bytes) → IfOk result (λ s. length s ≡ length vars)
+size_given vars bytes (Ok s) given =
+    let v = read_is_spelled vars bytes s given in ap length v.value ∙ strategy_size vars v.written
+size_given vars bytes (Err fault) given = tt

@@ -8,6 +8,7 @@ ghost use Rattle.slice_strategy.specs.WorkedParts.{WorkedParts};
 ghost use Rattle.slice_strategy.specs.WorkedTexts.{WorkedValues, WorkedFaults};
 
 /// A text that is read spells its strategy, and keeps the rules.
+#[tactic(auto, using(crate::proofs::StrategyLaws::read_is_spelled))]
 pub fn read_is_spelled()
     ensures { ReadIsSpelled }
 {}
@@ -18,6 +19,7 @@ pub fn spelled_is_read()
 {}
 
 /// A text has exactly one of a strategy and a first fault.
+#[tactic(auto, using(crate::proofs::StrategyLaws::one_answer))]
 pub fn one_answer()
     ensures { OneAnswer }
 {}
@@ -35,6 +37,7 @@ pub fn exact_soundness()
 {}
 
 /// What the front of a text shows is shown by the text.
+#[tactic(auto, using(crate::proofs::ReadingLemmas::stays_shown))]
 pub fn stays_shown()
     ensures { StaysShown }
 {}
@@ -51,6 +54,7 @@ pub fn worked_parts()
 {}
 
 /// A change script has exactly one of a list of changes, which it spells, and a first fault.
+#[tactic(auto, using(crate::proofs::ChangeTextLaws::one_answer))]
 pub fn one_answer_of_changes()
     ensures { changes.OneAnswer }
 {}
@@ -66,6 +70,7 @@ pub fn exact_soundness_of_changes()
 {}
 
 /// What the front of a change script shows is shown by the script.
+#[tactic(auto, using(crate::proofs::ChangeTextLaws::stays_shown))]
 pub fn changes_stay_shown()
     ensures { changes.StaysShown }
 {}

@@ -1,5 +1,4 @@
-use Rattle.std.proofs.Common.{◌∙◌, ◌*◌, ◌+◌, min, ap, sym, subst}
-use Rattle.slice_strategy.proofs.CountLemmas.{Counts, counts_all, counts_next, counts_done, cap}
+use Rattle.slice_strategy.proofs.CountLemmas.{counts_all, counts_next, counts_done}
 use Rattle.slice_strategy.proofs.entry.count_workers.Goals as goal
 
 pub loop-entry-init : goal.loop-entry-init
@@ -8,8 +7,7 @@ loop-entry-init c = counts_all c.args.entries.now
 pub loop-entry-preserved : goal.loop-entry-preserved
 loop-entry-preserved c =
     let l = c.loop-entry in
-    subst (λ workers. Counts c.args.entries.now workers (l.entry-index + 1))
-    (sym (c.saturating_mul-workers.ensures ∙ ap (λ parts. min (l.workers * parts) cap) c.parts.ensures))
+    rw (c.saturating_mul-workers.ensures, c.parts.ensures)
     (counts_next c.args.entries.now l.workers l.entry-index c.entry-item.result l.invariant c.loop-entry-test.true
     c.entry-item.is)
 

@@ -1,8 +1,7 @@
-use Rattle.std.proofs.Common.{◌∙◌, ap, sym, subst, Ok}
+use Rattle.std.proofs.Common.{◌∙◌, ap, sym, Ok}
 use Rattle.std.proofs.lemmas.Result.{err_from_is_err_and}
 use Rattle.mfotl_lex.specs.Lexemes.{lexeme, seen}
 use Rattle.mfotl_lex.proofs.Sequence.{after_shorter}
-use Rattle.slice_strategy.specs.Answers.{Fails, Gives}
 use Rattle.slice_strategy.proofs.ReadingLemmas.{begins_so, goes_on, step_fails, lex_fails, all_read}
 use Rattle.slice_strategy.proofs.reading.read_strategy.Goals as goal
 
@@ -36,12 +35,10 @@ pub returns-in-Ok-None : goal.returns-in-Ok-None
 returns-in-Ok-None c =
     let l = c.loop-token in
     let next = sym c.in-Ok-None.ensures.found ∙ ap (λ o. seen (Ok o)) c.in-Ok-None.field-0-is in
-    subst (λ due. Gives (λ s. s) c.finish.result due)
-    (sym (all_read c.args.vars.now c.args.bytes.now l.lexer l.reader l.invariant next)) c.finish.ensures
+    rw (all_read c.args.vars.now c.args.bytes.now l.lexer l.reader l.invariant next) c.finish.ensures
 
 pub returns-in-Err : goal.returns-in-Err
 returns-in-Err c =
     let l = c.loop-token in
-    subst (λ due. Fails c.broken.result due)
-    (sym (lex_fails c.args.vars.now c.args.bytes.now l.lexer l.reader l.invariant c.in-Err.fault
-    (sym c.in-Err.ensures.found))) c.broken.ensures
+    rw (lex_fails c.args.vars.now c.args.bytes.now l.lexer l.reader l.invariant c.in-Err.fault
+    (sym c.in-Err.ensures.found)) c.broken.ensures

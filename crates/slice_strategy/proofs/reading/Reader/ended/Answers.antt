@@ -1,7 +1,3 @@
-use Rattle.std.proofs.Common.{◌∙◌, ap, sym, subst}
-use Rattle.slice_strategy.specs.Answers.{stage_of}
-use Rattle.slice_strategy.specs.Entries.{entries_of}
-use Rattle.slice_strategy.specs.Reading.{PartialFits, ended}
 use Rattle.slice_strategy.proofs.SoundLemmas.{too_many, not_too_many, set_sound}
 use Rattle.slice_strategy.proofs.reading.Reader.ended.Goals as goal
 
@@ -11,16 +7,14 @@ returns-then-count_workers-gt-MAX_WORKERS c =
     let many =
     too_many items c.in-Behind.head c.in-Behind.entry c.as_slice.result.now c.count_workers.result
     c.as_slice.ensures.value c.count_workers.ensures c.if-count_workers-gt-MAX_WORKERS.true in
-    sym (ap (λ p. ended p.entries p.stage) c.self.view_is)
-    ∙ ap (λ stage. ended (entries_of items) (stage_of stage)) c.in-Behind.is ∙ many
+    rw (← c.self.view_is, c.in-Behind.is) many
 
 pub invariant_of-result : goal.invariant_of-result
 invariant_of-result c =
     let items = c.self.inside.entries.items in
     set_sound items c.in-Behind.head c.in-Behind.entry c.as_slice.result.now c.count_workers.result
     c.as_slice.ensures.value c.count_workers.ensures c.if-count_workers-gt-MAX_WORKERS.false
-    (subst (λ stage. PartialFits (record { entries = entries_of items; stage = stage_of stage })) c.in-Behind.is
-    c.self.invariant)
+    (rw c.in-Behind.is at c.self.invariant)
 
 pub returns-else-count_workers-gt-MAX_WORKERS : goal.returns-else-count_workers-gt-MAX_WORKERS
 returns-else-count_workers-gt-MAX_WORKERS c =
@@ -28,5 +22,4 @@ returns-else-count_workers-gt-MAX_WORKERS c =
     let few =
     not_too_many items c.in-Behind.head c.in-Behind.entry c.as_slice.result.now c.count_workers.result
     c.as_slice.ensures.value c.count_workers.ensures c.if-count_workers-gt-MAX_WORKERS.false in
-    sym (ap (λ p. ended p.entries p.stage) c.self.view_is)
-    ∙ ap (λ stage. ended (entries_of items) (stage_of stage)) c.in-Behind.is ∙ few
+    rw (← c.self.view_is, c.in-Behind.is) few

@@ -1,8 +1,6 @@
-use Rattle.std.proofs.Common.{◌≡◌, Ok, subst}
 use Rattle.mfotl_lex.specs.Lexemes.{lexeme}
 use Rattle.slice_strategy.specs.Answers.{stage_of}
 use Rattle.slice_strategy.specs.Entries.{entries_of}
-use Rattle.slice_strategy.specs.Reading.{stage_step}
 use Rattle.slice_strategy.proofs.SoundLemmas.{stage_fits}
 use Rattle.slice_strategy.proofs.reading.Reader.step.Goals as goal
 
@@ -17,6 +15,5 @@ invariant_of-result c =
       fits =
           stage_fits vars (entries_of c.entries.inside.entries.items) stage token kind (stage_of c.in_ok-stage.stage)
           c.entries.invariant.fits
-          (subst (λ es. stage_step vars (entries_of es) stage token kind ≡ Ok (stage_of c.in_ok-stage.stage))
-          c.as_slice.ensures.value c.in_ok-stage.ensures);
+          (rw c.as_slice.ensures.value at c.in_ok-stage.ensures);
     }
