@@ -21,15 +21,13 @@ end_by : (ended : Bool) (points : List TimePoint) (ending : Ending) → answer_b
     → (ended ≡ true) × (ending ≡ NoFault)
 end_by true [] NoFault e = (refl, refl)
 end_by false [] NoFault e = absurd cc
-end_by ended [] (Fault fault) e = absurd cc
-end_by ended (point ∷ points) ending e = absurd cc
+end_by _ _ _ e = absurd cc
 
 fault_by : (ended : Bool) (points : List TimePoint) (ending : Ending) (fault : LogFault)
     → answer_by ended points ending ≡ Err fault → ending ≡ Fault fault
 fault_by ended [] (Fault other) fault e = cc
-fault_by true [] NoFault fault e = absurd cc
-fault_by false [] NoFault fault e = absurd cc
-fault_by ended (point ∷ points) ending fault e = absurd cc
+fault_by true _ _ fault e = absurd cc
+fault_by false _ _ fault e = absurd cc
 
 -- an answer without a fault or a time-point comes behind all time-points
 none_left : (ended : Bool) (points : List TimePoint) (ending : Ending) (answer : Result Next LogFault)

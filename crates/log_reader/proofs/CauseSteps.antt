@@ -1,7 +1,10 @@
 -- A step fails exactly where its token shows a fault, and with that fault.
-use Rattle.std.proofs.Common.{◌≡◌, ◌≢◌, inl, inr, ℕ, List, [], ◌∷◌, ◌++◌, Option, Some, None, Result, Ok, Err, refl}
-use Rattle.std.proofs.Common.{sym, ap, subst, ◌∙◌, nat_lt}
+use Rattle.std.proofs.Common.{◌≡◌, ◌≢◌, ◌≤◌, inl, inr, ℕ, true, List, [], ◌∷◌, ◌++◌, Option, Some, None, Result, Ok, Err}
+use Rattle.std.proofs.Common.{IfErr, refl, sym, ap, subst, ◌∙◌, nat_lt}
+use Rattle.std.specs.Prelude.{option_and_then}
 use Rattle.std.proofs.lemmas.Bool.{cond_both, ltb-true, ltb-false, lt-ltb, le-ltb}
+use Rattle.std.proofs.lemmas.List.{map-append}
+use Rattle.mfotl_lex.specs.FirstFault.{◌>>=◌, run}
 use Rattle.mfotl_lex.specs.Lexemes.{Lexeme}
 use Rattle.mfotl_lex.specs.Numbers.{integer_value, is_int64}
 use Rattle.mfotl_model.specs.declared.policy.Sort.{Sort}
@@ -14,107 +17,45 @@ use Rattle.log_reader.specs.declared.fault.LogFault.TheVariants.{TooManyPoints}
 use Rattle.log_reader.specs.declared.limits.Limits.{Limits}
 use Rattle.log_reader.specs.declared.stage.Stage.{Stage}
 use Rattle.log_reader.specs.declared.stage.Stage.TheVariants.{Between, AfterAt, AfterStamp, AfterName, AfterOpen}
-use Rattle.log_reader.specs.declared.stage.Stage.TheVariants.{AfterValue, AfterComma, AfterClose}
-use Rattle.log_reader.specs.Causes.{IsNoInteger, IsWide}
-use Rattle.mfotl_lex.specs.FirstFault.{◌>>=◌}
-use Rattle.log_reader.specs.Partials.{Partial}
+use Rattle.log_reader.specs.declared.stage.Stage.TheVariants.{AfterValue, AfterClose}
+use Rattle.log_reader.specs.Causes.{Plays, IsCause, IsIntegerDue, IsNoInteger, IsWide}
+use Rattle.log_reader.specs.Fronts.{symbols_before, due_sorts}
+use Rattle.log_reader.specs.Grammar.{symbols_of, IsViable}
+use Rattle.log_reader.specs.Partials.{Partial, nothing_read}
 use Rattle.log_reader.specs.Stages.{stage_after}
 use Rattle.log_reader.specs.Steps.{step, stepped, point_opened, stamped, naming, grouped, valued, group_closed}
-use Rattle.log_reader.specs.Symbols.{Written, Bare, Quoted, symbol, token_content, written}
+use Rattle.log_reader.specs.Symbols.{Symbol, Written, Bare, Quoted, symbol, token_content, written}
 use Rattle.log_reader.specs.ValuesRead.{value_at, integer_at, is_number, timestamp_of}
-use Rattle.log_reader.proofs.StateCauses.{LeadsTo, ShowsFault}
+use Rattle.log_reader.proofs.FrontSteps.{Stands, is_in_brackets, role_to, role_is, same_stage, run_stands}
+use Rattle.log_reader.proofs.Paths.{paths, paths-append, viable_by, viable_path}
+use Rattle.log_reader.proofs.Runs.{run_paths}
+use Rattle.log_reader.proofs.Transitions.{Transition, gives_first, gives_more, closes_empty, closes, transition}
 
-abbrev pub done : {A : Type 0} → A → Result A LogFault
-done x = Ok x
+-- one symbol more on a path
+one_more : (o : Option Stage) → option_and_then (λ g. Some g) o ≡ o
+one_more (Some g) = refl
+one_more None = refl
 
-abbrev pub broken : {A : Type 0} → LogFault → Result A LogFault
-broken fault = Err fault
+path_further : (front : List Lexeme) (t : Lexeme) (s : Stage) → paths Between (symbols_of front) ≡ Some s
+    → paths Between (symbols_of (front ++ t ∷ [])) ≡ stage_after s (symbol t)
+path_further front t s e =
+    ap (paths Between) (map-append symbol front (t ∷ [])) ∙ paths-append Between (symbols_of front) (symbol t ∷ [])
+    ∙ ap (option_and_then (λ g. paths g (symbol t ∷ []))) e ∙ one_more (stage_after s (symbol t))
 
-pub same_fault : {A : Type 0} (fault other : LogFault) → broken {A = A} fault ≡ broken other → fault ≡ other
-same_fault fault other e = cc
+-- values and `)` stand within brackets
+value_inside : (s : Stage) (x : Symbol) → Transition s x AfterValue → is_in_brackets s ≡ true
+value_inside _ _ (gives_first w) = refl
+value_inside _ _ (gives_more w) = refl
 
--- ---- a fault has its cause
+close_inside : (s : Stage) (x : Symbol) → Transition s x AfterClose → is_in_brackets s ≡ true
+close_inside _ _ closes_empty = refl
+close_inside _ _ closes = refl
 
-module _ (sig : List PredOf) (limits : Limits) (p : Partial) (t : Lexeme) where
-  -- the fault that is answered is one that the token shows
-  abbrev Explains : {A : Type 0} → Result A LogFault → Type 0
-  Explains r = (fault : LogFault) → r ≡ broken fault → ShowsFault sig limits p t fault
+-- the automaton goes on with the token, to this stage
+abbrev LeadsTo : Stage → Partial → Lexeme → Type 0
+LeadsTo stage p t = stage_after p.stage (symbol t) ≡ Some stage
 
-  fine : {A : Type 0} (x : A) → Explains (done x)
-  fine x fault e = absurd cc
-
-  fails : {A : Type 0} (fault : LogFault) → ShowsFault sig limits p t fault → Explains (broken {A = A} fault)
-  fails {A} fault cause other e = subst (ShowsFault sig limits p t) (same_fault {A = A} fault other e) cause
-
-  then_fine : {A B : Type 0} (r : Result A LogFault) (f : A → B) → Explains r → Explains (r >>= λ x. Ok (f x))
-  then_fine (Ok x) f why = fine (f x)
-  then_fine (Err fault) f why = fails fault (why fault refl)
-
-  opened_why : LeadsTo AfterAt p t → Explains (point_opened limits t.at p)
-  opened_why g = cond_both (nat_lt p.points limits.points) _ _ Explains
-      (λ _. fine _) (λ h. fails _ (refl, g, ltb-false p.points limits.points h))
-
-  stamped_why : LeadsTo AfterStamp p t → (time : Option ℕ) → timestamp_of (token_content t) ≡ time
-      → Explains (stamped t.at p time)
-  stamped_why g None none = fails _ (refl, g, none)
-  stamped_why g (Some time) some = cond_both (nat_lt time p.time) _ _ Explains
-      (λ h. fails _ (refl, g, some, refl, ltb-true time p.time h)) (λ _. fine _)
-
-  naming_why : LeadsTo AfterName p t → (found : Option PredOf) → named (token_content t) sig ≡ found
-      → Explains (naming t.at p found)
-  naming_why g None none = fails _ (refl, g, none)
-  naming_why g (Some pred) some = fine _
-
-  grouped_why : LeadsTo AfterOpen p t → Explains (grouped limits t.at p)
-  grouped_why g = cond_both (nat_lt p.groups limits.events) _ _ Explains
-      (λ _. fine _) (λ h. fails _ (refl, g, ltb-false p.groups limits.events h))
-
-  integer_why : LeadsTo AfterValue p t → (more : List Sort) → p.due ≡ sorts.Int ∷ more → (word : List ℕ)
-      → written t ≡ Bare word
-      → Explains (integer_at t.at word)
-  unfolding integer_at
-  integer_why g more due word is = cond_both (is_number word) _ _ Explains
-      (λ number. cond_both (is_int64 (integer_value word)) _ _ Explains (λ _. fine _)
-      (λ wide. fails _ (refl, g, (more, due), rw is (number, wide))))
-      (λ none. fails _ (refl, g, (more, due), rw is none))
-
-  value_why : LeadsTo AfterValue p t → (sort : Sort) (more : List Sort) → p.due ≡ sort ∷ more → (w : Written)
-      → written t ≡ w
-      → Explains (value_at sort t.at w)
-  value_why g sorts.Int more due (Bare word) is = integer_why g more due word is
-  value_why g sorts.Int more due (Quoted text) is = fails _ (refl, g, (more, due), rw is tt)
-  value_why g sorts.Text more due (Bare word) is = fine _
-  value_why g sorts.Text more due (Quoted text) is = fine _
-
-  valued_why : LeadsTo AfterValue p t → (due : List Sort) → p.due ≡ due → Explains (valued t.at (written t) p due)
-  valued_why g [] none = fails _ (refl, inl (g, none))
-  valued_why g (sort ∷ more) due =
-      then_fine (value_at sort t.at (written t)) _ (value_why g sort more due (written t) refl)
-
-  closed_why : LeadsTo AfterClose p t → (due : List Sort) → p.due ≡ due → Explains (group_closed t.at p due)
-  closed_why g [] none = fine _
-  closed_why g (sort ∷ more) due = fails _ (refl, inr (g, λ none. absurd (some_due sort more (sym due ∙ none))))
-    where
-      some_due : (sort : Sort) (more : List Sort) → sort ∷ more ≡ [] → ⊥
-      some_due sort more e = cc
-
-  stepped_why : (found : Option Stage) → stage_after p.stage (symbol t) ≡ found
-      → Explains (stepped sig limits p t found)
-  stepped_why None g = fails _ (refl, g)
-  stepped_why (Some AfterAt) g = opened_why g
-  stepped_why (Some AfterStamp) g = stamped_why g (timestamp_of (token_content t)) refl
-  stepped_why (Some AfterName) g = naming_why g (named (token_content t) sig) refl
-  stepped_why (Some AfterOpen) g = grouped_why g
-  stepped_why (Some AfterValue) g = valued_why g p.due refl
-  stepped_why (Some AfterComma) g = fine _
-  stepped_why (Some AfterClose) g = closed_why g p.due refl
-  stepped_why (Some Between) g = fine _
-
-  pub step_why : (fault : LogFault) → step sig limits p t ≡ Err fault → ShowsFault sig limits p t fault
-  unfolding step
-  step_why = stepped_why (stage_after p.stage (symbol t)) refl
-
--- ---- a cause shows its fault
+-- ---- values and groups that show a fault
 
 no_integer : (at : ℕ) (w : Written) → IsNoInteger w → value_at sorts.Int at w ≡ Err (WrongSort at)
 unfolding integer_at
@@ -130,37 +71,170 @@ closed_early : (at : ℕ) (p : Partial) (due : List Sort) → due ≢ [] → gro
 closed_early at p [] some = absurd (some refl)
 closed_early at p (sort ∷ more) some = refl
 
-module _ (sig : List PredOf) (limits : Limits) (p : Partial) (t : Lexeme) where
+-- ---- a token behind a front
+
+module _ (sig : List PredOf) (limits : Limits) (front : List Lexeme) (p : Partial) (t : Lexeme)
+    (sound : run (step sig limits) front nothing_read ≡ Ok p) where
+  stands : Stands sig p.stage p (symbols_before front)
+  stands = run_stands sig limits front p sound
+
+  further : paths Between (symbols_of (front ++ t ∷ [])) ≡ stage_after p.stage (symbol t)
+  further = path_further front t p.stage (run_paths sig limits nothing_read p front sound)
+
+  -- the grammar goes on exactly where the automaton does
+  viable_there : (g : Stage) → LeadsTo g p t → IsViable (front ++ t ∷ [])
+  viable_there g leads = viable_by (front ++ t ∷ []) g (further ∙ leads)
+
+  goes_there : IsViable (front ++ t ∷ []) → (g : Stage) × LeadsTo g p t
+  goes_there viable = let path = viable_path (front ++ t ∷ []) viable in (path.0, sym further ∙ path.1)
+
+  way : (g : Stage) → LeadsTo g p t → Transition p.stage (symbol t) g
+  way g leads = transition p.stage (symbol t) g leads
+
+  plays : (g : Stage) → LeadsTo g p t → Plays (role_to g) front t
+  plays g leads = (viable_there g leads, role_is sig p (symbols_before front) p.stage (symbol t) g (way g leads) stands)
+
+  leads_to : (g : Stage) → Plays (role_to g) front t → LeadsTo g p t
+  leads_to g part =
+      let there = goes_there part.0 in
+      let here = role_is sig p (symbols_before front) p.stage (symbol t) there.0 (way there.0 there.1) stands in
+      there.1 ∙ ap (λ (s : Stage). Some s) (same_stage there.0 g (sym here ∙ part.1))
+
+  value_due : LeadsTo AfterValue p t → p.due ≡ due_sorts sig (symbols_before front)
+  value_due leads = stands.due (value_inside p.stage (symbol t) (way AfterValue leads))
+
+  close_due : LeadsTo AfterClose p t → p.due ≡ due_sorts sig (symbols_before front)
+  close_due leads = stands.due (close_inside p.stage (symbol t) (way AfterClose leads))
+
+  no_way : (g : Stage) → stage_after p.stage (symbol t) ≡ None → LeadsTo g p t → ⊥
+  no_way g none leads = cc
+
+  none_there : (found : Option Stage) → stage_after p.stage (symbol t) ≡ found → (IsViable (front ++ t ∷ []) → ⊥)
+      → stage_after p.stage (symbol t) ≡ None
+  none_there None e ends = e
+  none_there (Some g) e ends = absurd (ends (viable_there g e))
+
+  -- ---- a fault has its cause
+
+  -- the fault that is answered is one that the token shows
+  abbrev Explains : {A : Type 0} → Result A LogFault → Type 0
+  Explains r = IfErr r (IsCause sig limits front t)
+
+  then_fine : {A B : Type 0} (r : Result A LogFault) (f : A → B) → Explains r → Explains (r >>= λ x. Ok (f x))
+  then_fine (Ok x) f why = tt
+  then_fine (Err fault) f why = why
+
+  opened_why : LeadsTo AfterAt p t → Explains (point_opened limits t.at p)
+  opened_why g = cond_both (nat_lt p.points limits.points) _ _ Explains (λ _. tt) (λ h. (
+    refl,
+    plays AfterAt g,
+    subst (λ (n : ℕ). limits.points ≤ n) stands.points (ltb-false p.points limits.points h),
+  ))
+
+  stamped_why : LeadsTo AfterStamp p t → (time : Option ℕ) → timestamp_of (token_content t) ≡ time
+      → Explains (stamped t.at p time)
+  stamped_why g None none = (refl, plays AfterStamp g, none)
+  stamped_why g (Some time) some = cond_both (nat_lt time p.time) _ _ Explains
+      (λ h. (refl, plays AfterStamp g, some, stands.time, ltb-true time p.time h)) (λ _. tt)
+
+  naming_why : LeadsTo AfterName p t → (found : Option PredOf) → named (token_content t) sig ≡ found
+      → Explains (naming t.at p found)
+  naming_why g None none = (refl, plays AfterName g, none)
+  naming_why g (Some pred) some = tt
+
+  grouped_why : LeadsTo AfterOpen p t → Explains (grouped limits t.at p)
+  grouped_why g = cond_both (nat_lt p.groups limits.events) _ _ Explains (λ _. tt) (λ h. (
+    refl,
+    plays AfterOpen g,
+    subst (λ (n : ℕ). limits.events ≤ n) stands.groups (ltb-false p.groups limits.events h),
+  ))
+
+  integer_why : LeadsTo AfterValue p t → IsIntegerDue sig front → (word : List ℕ) → written t ≡ Bare word
+      → Explains (integer_at t.at word)
+  unfolding integer_at
+  integer_why g due word is = cond_both (is_number word) _ _ Explains
+      (λ number. cond_both (is_int64 (integer_value word)) _ _ Explains (λ _. tt)
+      (λ wide. (refl, plays AfterValue g, due, rw is (number, wide))))
+      (λ none. (refl, plays AfterValue g, due, rw is none))
+
+  value_why : LeadsTo AfterValue p t → (sort : Sort) (more : List Sort)
+      → due_sorts sig (symbols_before front) ≡ sort ∷ more → (w : Written) → written t ≡ w
+      → Explains (value_at sort t.at w)
+  value_why g sorts.Int more due (Bare word) is = integer_why g (more, due) word is
+  value_why g sorts.Int more due (Quoted text) is = (refl, plays AfterValue g, (more, due), rw is tt)
+  value_why g sorts.Text more due (Bare word) is = tt
+  value_why g sorts.Text more due (Quoted text) is = tt
+
+  valued_why : LeadsTo AfterValue p t → (due : List Sort) → p.due ≡ due → Explains (valued t.at (written t) p due)
+  valued_why g [] none = (refl, inl (plays AfterValue g, sym (value_due g) ∙ none))
+  valued_why g (sort ∷ more) due =
+      then_fine (value_at sort t.at (written t)) _ (value_why g sort more (sym (value_due g) ∙ due) (written t) refl)
+
+  closed_why : LeadsTo AfterClose p t → (due : List Sort) → p.due ≡ due → Explains (group_closed t.at p due)
+  closed_why g [] none = tt
+  closed_why g (sort ∷ more) due = (
+    refl,
+    inr (plays AfterClose g, λ none. let lost : sort ∷ more ≡ [] = sym due ∙ close_due g ∙ none in cc),
+  )
+
+  stepped_why : (found : Option Stage) → stage_after p.stage (symbol t) ≡ found
+      → Explains (stepped sig limits p t found)
+  stepped_why None none =
+      record { ends = λ viable. let there = goes_there viable in no_way there.0 none there.1; stands = refl }
+  stepped_why (Some AfterAt) g = opened_why g
+  stepped_why (Some AfterStamp) g = stamped_why g (timestamp_of (token_content t)) refl
+  stepped_why (Some AfterName) g = naming_why g (named (token_content t) sig) refl
+  stepped_why (Some AfterOpen) g = grouped_why g
+  stepped_why (Some AfterValue) g = valued_why g p.due refl
+  stepped_why (Some AfterClose) g = closed_why g p.due refl
+  stepped_why (Some _) g = tt
+
+  pub step_why : (fault : LogFault) → step sig limits p t ≡ Err fault → IsCause sig limits front t fault
+  unfolding step
+  step_why fault e = subst (λ (r : Result Partial LogFault). IfErr r (IsCause sig limits front t)) e
+      (stepped_why (stage_after p.stage (symbol t)) refl)
+
+  -- ---- a cause shows its fault
+
   -- a step that the grammar takes to this stage
-  taken : (g : Stage) (r : Result Partial LogFault) → LeadsTo g p t → stepped sig limits p t (Some g) ≡ r
+  taken : (g : Stage) (r : Result Partial LogFault) → Plays (role_to g) front t → stepped sig limits p t (Some g) ≡ r
       → step sig limits p t ≡ r
   unfolding step
-  taken g r leads e = ap (stepped sig limits p t) leads ∙ e
+  taken g r part e = ap (stepped sig limits p t) (leads_to g part) ∙ e
 
-  value_fails : (fault : LogFault) (more : List Sort) → LeadsTo AfterValue p t → p.due ≡ sorts.Int ∷ more
-      → value_at sorts.Int t.at (written t) ≡ Err fault → step sig limits p t ≡ Err fault
-  value_fails fault more g due e =
-      taken AfterValue _ g
-      (ap (valued t.at (written t) p) due
+  value_fails : (fault : LogFault) (more : List Sort) → Plays (role_to AfterValue) front t
+      → due_sorts sig (symbols_before front) ≡ sorts.Int ∷ more → value_at sorts.Int t.at (written t) ≡ Err fault
+      → step sig limits p t ≡ Err fault
+  value_fails fault more part due e =
+      taken AfterValue _ part
+      (ap (valued t.at (written t) p) (value_due (leads_to AfterValue part) ∙ due)
       ∙ ap (λ (r : Result _ LogFault). r >>= λ v. Ok
       (record p { stage = AfterValue; due = more; args = p.args ++ v ∷ [] })) e)
 
-  pub step_shows : (fault : LogFault) → ShowsFault sig limits p t fault → step sig limits p t ≡ Err fault
+  pub step_shows : (fault : LogFault) → IsCause sig limits front t fault → step sig limits p t ≡ Err fault
   unfolding step
-  step_shows (Syntax at) (place, none) = rw place (ap (stepped sig limits p t) none)
-  step_shows (UnknownPredicate at) (place, g, none) = rw place (taken AfterName _ g (ap (naming t.at p) none))
-  step_shows (WrongArity at) (place, inl (g, none)) =
-      rw place (taken AfterValue _ g (ap (valued t.at (written t) p) none))
-  step_shows (WrongArity at) (place, inr (g, some)) = rw place (taken AfterClose _ g (closed_early t.at p p.due some))
-  step_shows (WrongSort at) (place, g, (more, due), none) =
-      rw place (value_fails _ more g due (no_integer t.at (written t) none))
-  step_shows (IntRange at) (place, g, (more, due), w) = rw place (value_fails _ more g due (wide t.at (written t) w))
-  step_shows (TimestampRange at) (place, g, none) = rw place (taken AfterStamp _ g (ap (stamped t.at p) none))
-  step_shows (FallingTime before now at) (place, g, time, last, below) =
-      rw (place, last) (taken AfterStamp _ g
-      (ap (stamped t.at p) time ∙ rw (lt-ltb now p.time (rw last at below)) refl))
-  step_shows (TooManyEvents at) (place, g, many) =
-      rw place (taken AfterOpen _ g (rw (le-ltb p.groups limits.events many) refl))
-  step_shows (TooManyPoints at) (place, g, many) =
-      rw place (taken AfterAt _ g (rw (le-ltb p.points limits.points many) refl))
+  step_shows (Syntax at) cause = rw cause.stands
+      (ap (stepped sig limits p t) (none_there (stage_after p.stage (symbol t)) refl cause.ends))
+  step_shows (UnknownPredicate at) (place, part, none) = rw place (taken AfterName _ part (ap (naming t.at p) none))
+  step_shows (WrongArity at) (place, inl (part, none)) =
+      rw place (taken AfterValue _ part
+      (ap (valued t.at (written t) p) (value_due (leads_to AfterValue part) ∙ none)))
+  step_shows (WrongArity at) (place, inr (part, some)) =
+      rw place (taken AfterClose _ part
+      (closed_early t.at p p.due (λ none. some (sym (close_due (leads_to AfterClose part)) ∙ none))))
+  step_shows (WrongSort at) (place, part, (more, due), none) =
+      rw place (value_fails _ more part due (no_integer t.at (written t) none))
+  step_shows (IntRange at) (place, part, (more, due), w) =
+      rw place (value_fails _ more part due (wide t.at (written t) w))
+  step_shows (TimestampRange at) (place, part, none) = rw place (taken AfterStamp _ part (ap (stamped t.at p) none))
+  step_shows (FallingTime before now at) (place, part, time, last, below) =
+      let same : before ≡ p.time = last ∙ sym stands.time in
+      rw (place, same) (taken AfterStamp _ part
+      (ap (stamped t.at p) time ∙ rw (lt-ltb now p.time (rw same at below)) refl))
+  step_shows (TooManyEvents at) (place, part, many) =
+      let full = subst (λ (n : ℕ). limits.events ≤ n) (sym stands.groups) many in
+      rw place (taken AfterOpen _ part (rw (le-ltb p.groups limits.events full) refl))
+  step_shows (TooManyPoints at) (place, part, many) =
+      let full = subst (λ (n : ℕ). limits.points ≤ n) (sym stands.points) many in
+      rw place (taken AfterAt _ part (rw (le-ltb p.points limits.points full) refl))
   step_shows _ cause = absurd cause

@@ -17,9 +17,9 @@ use Rattle.log_reader.specs.Readings.{Reading, Ending, behind, went_on, run, fin
 use Rattle.log_reader.specs.Stages.{is_whole, completes}
 use Rattle.log_reader.specs.Steps.{step, completed}
 use Rattle.log_reader.specs.Symbols.{symbol, ends_point}
-use Rattle.log_reader.proofs.LogJudging.{last}
+use Rattle.log_reader.proofs.LogJudging.{last, whole_finish}
 use Rattle.log_reader.proofs.LogLaws.{whole}
-use Rattle.log_reader.proofs.TokenSteps.{completed_none, completed_one}
+use Rattle.log_reader.proofs.StepStages.{completed_none, completed_one}
 
 -- ---- lists
 
@@ -34,11 +34,6 @@ one_point point (x ∷ a) b e =
     inr cc
 
 -- ---- the end of tokens that are all there are
-
-pub whole_finish : (len : ℕ) (p : Partial) (s : Stage) → is_whole s ≡ true → finish_at len p s ≡ whole (point_of p ∷ [])
-whole_finish len p AfterStamp e = refl
-whole_finish len p AfterClose e = refl
-whole_finish len p _ e = absurd cc
 
 -- what is given at an end without a fault
 finish_gives : (len : ℕ) (p : Partial) (s : Stage) (points : List TimePoint) → finish_at len p s ≡ whole points
@@ -80,7 +75,7 @@ module _ (sig : List PredOf) (limits : Limits) (len : ℕ) (ends : Partial → R
     front = [];
     back = ts;
     parts = refl;
-    reads = whole_finish len p p.stage is;
+    reads = whole_finish sig limits len p p.stage is;
     closed = closed;
   }
 

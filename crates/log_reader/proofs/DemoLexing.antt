@@ -8,7 +8,7 @@ use Rattle.mfotl_lex.specs.declared.kind.Kind.TheVariants.{OpenParen, CloseParen
 use Rattle.log_reader.specs.declared.demo_event.DemoEvent.{DemoEvent}
 use Rattle.log_reader.specs.declared.demo_event.DemoEvent.TheVariants.{Request, Grant, Drop}
 use Rattle.log_reader.specs.declared.demo_event.Person.{Person}
-use Rattle.log_reader.specs.declared.demo_event.Person.TheVariants.{Ann, Bob, Cat, Dan, Eve}
+use Rattle.log_reader.specs.declared.demo_event.Person.TheVariants.{Ann}
 use Rattle.log_reader.specs.DemoEvents.{Moment, name_of, written, line_of}
 use Rattle.log_reader.specs.Grammar.{Mention, PointText, spell_mentions, spell_point, spell_log}
 use Rattle.log_reader.specs.Symbols.{Symbol, Says, Bare, Opening, Closing, Separator, Terminator}
@@ -35,25 +35,19 @@ number_cut n more symbols small apart cuts =
 numbered_cut : (id : ℕ) (more : List ℕ) (symbols : List Symbol) → id < 100 → CutsInto more symbols
     → CutsInto (40 ∷ ((decimal id ++ codes ")") ++ more)) (Opening ∷ Says (Bare (decimal id)) ∷ Closing ∷ symbols)
 numbered_cut id more symbols small cuts =
-    let end = mark_cut 41 CloseParen more symbols refl refl refl refl refl cuts in
+    let end = mark_cut 41 CloseParen more symbols refl cuts in
     let number = number_cut id (41 ∷ more) _ (omega (arith, small)) refl end in
-    mark_cut 40 OpenParen _ _ refl refl refl refl refl
+    mark_cut 40 OpenParen _ _ refl
     (subst (λ bytes. CutsInto bytes (Says (Bare (decimal id)) ∷ Closing ∷ symbols))
     (sym (append_assoc (decimal id) (codes ")") more)) number)
 
 name_in_word : (who : Person) → list_all in_log_word (name_of who) ≡ true
 name_in_word Ann = refl
-name_in_word Bob = refl
-name_in_word Cat = refl
-name_in_word Dan = refl
-name_in_word Eve = refl
+name_in_word _ = refl
 
 pub length-name : (who : Person) → length (name_of who) ≡ 3
 length-name Ann = refl
-length-name Bob = refl
-length-name Cat = refl
-length-name Dan = refl
-length-name Eve = refl
+length-name _ = refl
 
 regrouped : (a b c d more : List ℕ) → ((((a ++ b) ++ c) ++ d) ++ more) ≡ a ++ (b ++ (c ++ (d ++ more)))
 regrouped a b c d more =
@@ -64,12 +58,12 @@ named_cut : (id : ℕ) (who : Person) (more : List ℕ) (symbols : List Symbol) 
     → CutsInto (40 ∷ ((((decimal id ++ codes ",") ++ name_of who) ++ codes ")") ++ more))
     (Opening ∷ Says (Bare (decimal id)) ∷ Separator ∷ Says (Bare (name_of who)) ∷ Closing ∷ symbols)
 named_cut id who more symbols small cuts =
-    let end = mark_cut 41 CloseParen more symbols refl refl refl refl refl cuts in
+    let end = mark_cut 41 CloseParen more symbols refl cuts in
     let name = word_cut (name_of who) (41 ∷ more) _ (name_in_word who) (omega (arith, length-name who))
     (omega (arith, length-name who)) refl end in
-    let comma = mark_cut 44 Comma _ _ refl refl refl refl refl name in
+    let comma = mark_cut 44 Comma _ _ refl name in
     let number = number_cut id (44 ∷ (name_of who ++ (41 ∷ more))) _ (omega (arith, small)) refl comma in
-    mark_cut 40 OpenParen _ _ refl refl refl refl refl
+    mark_cut 40 OpenParen _ _ refl
     (subst (λ bytes. CutsInto bytes
     (Says (Bare (decimal id)) ∷ Separator ∷ Says (Bare (name_of who)) ∷ Closing ∷ symbols))
     (sym (regrouped (decimal id) (codes ",") (name_of who) (codes ")") more)) number)
@@ -101,8 +95,7 @@ events_cut (e ∷ events) more symbols small cuts =
 
 event_apart : (e : DemoEvent) (more : List ℕ) → begins_apart (written e ++ more) ≡ true
 event_apart (Request id who) more = refl
-event_apart (Grant id) more = refl
-event_apart (Drop id) more = refl
+event_apart _ more = refl
 
 events_apart : (events : List DemoEvent) (more : List ℕ) → begins_apart more ≡ true
     → begins_apart (flat_map written events ++ more) ≡ true
@@ -120,11 +113,11 @@ line_cut : (earliest last : ℕ) (m : Moment) (more : List ℕ) (symbols : List 
     → CutsInto (line_of m ++ more) (spell_point (point_text m) symbols)
 line_cut earliest last m more symbols small sound cuts =
     let feed = blank_cut 10 more symbols refl cuts in
-    let end = mark_cut 59 Semicolon (10 ∷ more) symbols refl refl refl refl refl feed in
+    let end = mark_cut 59 Semicolon (10 ∷ more) symbols refl feed in
     let events = events_cut m.events (59 ∷ 10 ∷ more) (Terminator ∷ symbols) sound.small end in
     let time = number_cut m.time (flat_map written m.events ++ (59 ∷ 10 ∷ more)) _ (omega (arith, small, sound.within))
     (events_apart m.events (59 ∷ 10 ∷ more) refl) events in
-    mark_cut 64 At _ _ refl refl refl refl refl
+    mark_cut 64 At _ _ refl
     (subst (λ bytes. CutsInto bytes
     (Says (Bare (decimal m.time)) ∷ spell_mentions (map mention_of m.events) (Terminator ∷ symbols)))
     (sym (append_assoc (decimal m.time ++ flat_map written m.events) (codes ";\n") more

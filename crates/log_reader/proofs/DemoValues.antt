@@ -43,8 +43,7 @@ events_value (e ∷ events) before small =
 one_group : (e : DemoEvent) (mentions : List Mention)
     → group_count (mention_of e ∷ mentions) ≡ suc (group_count mentions)
 one_group (Request id who) mentions = omega arith
-one_group (Grant id) mentions = omega arith
-one_group (Drop id) mentions = omega arith
+one_group _ mentions = omega arith
 
 groups_counted : (events : List DemoEvent) → group_count (map mention_of events) ≡ length events
 groups_counted [] = refl

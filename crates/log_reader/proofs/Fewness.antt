@@ -1,27 +1,25 @@
 -- A reading has no more time-points than the limit.
-use Rattle.std.proofs.Common.{◌≡◌, inl, inr, ℕ, ◌+◌, ◌≤◌, Bool, true, false, List, [], ◌∷◌, length, Option, Some, None}
-use Rattle.std.proofs.Common.{Result, Ok, Err, refl, sym, ap, ◌∙◌, arith, nat_lt}
-use Rattle.std.proofs.lemmas.Bool.{cond_both, cases_Bool, ltb-true}
+use Rattle.std.proofs.Common.{◌≡◌, inl, inr, ℕ, ◌+◌, ◌≤◌, Bool, List, [], ◌∷◌, length, Option, Some, None}
+use Rattle.std.proofs.Common.{Result, Ok, Err, refl, ap, arith}
+use Rattle.std.proofs.lemmas.Bool.{cond_both, cases_Bool}
 use Rattle.std.proofs.lemmas.List.{length-append}
 use Rattle.mfotl_lex.specs.Lexemes.{Lexeme, tokens}
 use Rattle.mfotl_lex.specs.declared.fault.LexFault.{LexFault}
 use Rattle.mfotl_sig.specs.Preds.{PredOf}
 use Rattle.log_reader.specs.declared.fault.LogFault.{LogFault}
-use Rattle.log_reader.specs.declared.fault.LogFault.TheVariants.{TooManyPoints}
 use Rattle.log_reader.specs.declared.limits.Limits.{Limits}
 use Rattle.log_reader.specs.declared.stage.Stage.{Stage}
-use Rattle.log_reader.specs.declared.stage.Stage.TheVariants.{Between, AfterAt, AfterStamp, AfterClose}
+use Rattle.log_reader.specs.declared.stage.Stage.TheVariants.{AfterStamp, AfterClose}
 use Rattle.log_reader.specs.Cursors.{open_count, given_of, IsCounted}
 use Rattle.log_reader.specs.Partials.{Partial, nothing_read}
 use Rattle.log_reader.specs.Readings.{Reading, went_on, run, behind_tokens, is_long, finish_at, nothing_left, place_at}
 use Rattle.log_reader.specs.Readings.{reading}
 use Rattle.log_reader.specs.Soundness.{StandsForLog, StandsForSomeLog}
-use Rattle.log_reader.specs.Stages.{stage_after, completes}
-use Rattle.log_reader.specs.Steps.{step, stepped, completed}
+use Rattle.log_reader.specs.Stages.{completes}
+use Rattle.log_reader.specs.Steps.{step, completed}
 use Rattle.log_reader.specs.Stretches.{Stretch}
 use Rattle.log_reader.specs.Symbols.{symbol}
-use Rattle.log_reader.proofs.StepStages.{one_if_at, none_at, stepped_reaches, step_counts}
-use Rattle.log_reader.proofs.TokenSteps.{completes_cases, completed_none, completed_one}
+use Rattle.log_reader.proofs.StepStages.{step_counts, completes_open, completed_none, completed_one}
 use Rattle.log_reader.proofs.ReaderSoundness.{remains_now}
 
 -- no more were begun than the limit
@@ -40,73 +38,6 @@ one_more limits p f one = omega (arith, one, f.counted, f.begun)
 none_more : (limits : Limits) (p : Partial) → IsFew limits p → Within limits p 0
 none_more limits p f = omega (arith, f.begun)
 
--- ---- steps
-
-module _ (sig : List PredOf) (limits : Limits) (p : Partial) (t : Lexeme) (f : IsFew limits p) where
-  -- only an `@` begins one more, and only below the limit
-  begun_by : (g : Stage) (q : Partial) → stepped sig limits p t (Some g) ≡ Ok q → q.points ≤ limits.points
-  begun_by AfterAt q e =
-      let r = stepped_reaches sig limits p t AfterAt q e in
-      elim (cases_Bool (nat_lt p.points limits.points)) [
-        | inl below ↦ omega (arith, r.points, ltb-true p.points limits.points below)
-        | inr above ↦ let over : Err (TooManyPoints t.at) ≡ Ok q = rw above at e in absurd cc
-      ]
-  begun_by g q e =
-      let r = stepped_reaches sig limits p t g q e in
-      omega (arith, r.points, none_at g (λ same. absurd cc), f.begun)
-
-  begun_few : (q : Partial) → step sig limits p t ≡ Ok q → q.points ≤ limits.points
-  unfolding step
-  begun_few q e = by_stage (stage_after p.stage (symbol t)) e
-    where
-      by_stage : (found : Option Stage) → stepped sig limits p t found ≡ Ok q → q.points ≤ limits.points
-      by_stage None e = absurd cc
-      by_stage (Some g) e = begun_by g q e
-
-  -- a step gives what it completes
-  record Gave (q : Partial) : Type 0 where
-    few : IsFew limits q
-    given : given_of q ≡ given_of p + length (completed p t)
-
-  gave_none : (q : Partial) → completes p.stage (symbol t) ≡ false → step sig limits p t ≡ Ok q → Gave q
-  gave_none q h e =
-      let c = step_counts sig limits p q t f.counted h e in
-      record {
-        few = record { counted = c.counted; begun = begun_few q e };
-        given = omega (arith, c.given, ap length (completed_none p t h));
-      }
-
-  gave_one : (g : Stage) (q : Partial) → completes p.stage (symbol t) ≡ true → open_count p.stage ≡ 1
-      → open_count g ≡ one_if_at g
-      → stage_after p.stage (symbol t) ≡ Some g → step sig limits p t ≡ Ok q → Gave q
-  unfolding step
-  gave_one g q h one here found e =
-      let r = stepped_reaches sig limits p t g q (sym (ap (stepped sig limits p t) found) ∙ e) in
-      let now : open_count q.stage ≡ one_if_at g = ap open_count r.stage ∙ here in
-      record {
-        few = record { counted = omega (arith, now, r.points); begun = begun_few q e };
-        given = omega (arith, now, r.points, one, f.counted, ap length (completed_one p t h));
-      }
-
-  gave : (q : Partial) → step sig limits p t ≡ Ok q → Gave q
-  gave q e =
-      elim (cases_Bool (completes p.stage (symbol t))) [
-        | inl h ↦
-            let cases = completes_cases p.stage (symbol t) h in
-            elim cases.1 [
-              | inl x ↦ gave_one AfterAt q h cases.0 refl x.1 e
-              | inr x ↦ gave_one Between q h cases.0 refl x.1 e
-            ]
-        | inr h ↦ gave_none q h e
-      ]
-
-  completed_within : Within limits p (length (completed p t))
-  completed_within =
-      elim (cases_Bool (completes p.stage (symbol t))) [
-        | inl h ↦ rw (ap length (completed_one p t h)) (one_more limits p f (completes_cases p.stage (symbol t) h).0)
-        | inr h ↦ rw (ap length (completed_none p t h)) (none_more limits p f)
-      ]
-
 -- ---- readings
 
 -- a reading that is within the limit from each place
@@ -114,13 +45,20 @@ abbrev pub KeepsWithin : Limits → (Partial → Reading) → Type 0
 KeepsWithin limits rest = (p : Partial) → IsFew limits p → Within limits p (length (rest p).points)
 
 module _ (sig : List PredOf) (limits : Limits) where
+  completed_within : (p : Partial) (t : Lexeme) → IsFew limits p → Within limits p (length (completed p t))
+  completed_within p t f =
+      elim (cases_Bool (completes p.stage (symbol t))) [
+        | inl h ↦ rw (ap length (completed_one p t h)) (one_more limits p f (completes_open p.stage (symbol t) h))
+        | inr h ↦ rw (ap length (completed_none p t h)) (none_more limits p f)
+      ]
+
   step_few : (rest : Partial → Reading) (p : Partial) (t : Lexeme) → KeepsWithin limits rest → IsFew limits p
       → (r : Result Partial LogFault) → step sig limits p t ≡ r
       → Within limits p (length (completed p t) + length (went_on r rest).points)
   step_few rest p t keeps f (Ok q) e =
-      let g = gave sig limits p t f q e in
-      omega (arith, g.given, keeps q g.few)
-  step_few rest p t keeps f (Err fault) e = omega (arith, completed_within sig limits p t f)
+      let c = step_counts sig limits p q t f.counted e in
+      omega (arith, c.given, keeps q (record { counted = c.counted; begun = c.few f.begun }))
+  step_few rest p t keeps f (Err fault) e = omega (arith, completed_within p t f)
 
   run_few : (last : Partial → Reading) → KeepsWithin limits last → (ts : List Lexeme)
       → KeepsWithin limits (λ p. run sig limits last p ts)

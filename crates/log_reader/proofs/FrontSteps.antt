@@ -1,30 +1,33 @@
--- What a reader knows of the tokens that it has read, as what stands before the next one, and how a step keeps it.
+-- What a reader knows of the tokens that it has read is what stands before the next one: a step keeps it.
 use Rattle.std.proofs.Common.{arith, ◌≡◌, ℕ, ◌+◌, Bool, true, false, List, [], ◌∷◌, ◌++◌, drop, Option, Some, None}
-use Rattle.std.proofs.Common.{Result, Ok, Err, refl, sym, ap, ◌∙◌, nat_lt}
+use Rattle.std.proofs.Common.{Result, Ok, Err, IfOk, refl, sym, ap, ◌∙◌, nat_lt, subst, append_assoc}
 use Rattle.std.proofs.lemmas.Bool.{cond_both}
-use Rattle.std.proofs.lemmas.List.{drop-drop}
-use Rattle.mfotl_lex.specs.FirstFault.{◌>>=◌}
+use Rattle.std.proofs.lemmas.List.{drop-drop, append-nil, reverse-append}
+use Rattle.mfotl_lex.specs.FirstFault.{◌>>=◌, run}
 use Rattle.mfotl_lex.specs.Lexemes.{Lexeme}
 use Rattle.mfotl_model.specs.declared.policy.Sort.{Sort}
 use Rattle.mfotl_model.specs.declared.value.Value.{Value}
 use Rattle.mfotl_sig.specs.Preds.{PredOf, named}
+use Rattle.mfotl_lex.proofs.FirstFaultLaws.{bind_ok}
 use Rattle.log_reader.specs.declared.fault.LogFault.{LogFault}
 use Rattle.log_reader.specs.declared.limits.Limits.{Limits}
 use Rattle.log_reader.specs.declared.stage.Stage.{Stage}
 use Rattle.log_reader.specs.declared.stage.Stage.TheVariants.{Between, AfterAt, AfterStamp, AfterName, AfterOpen}
 use Rattle.log_reader.specs.declared.stage.Stage.TheVariants.{AfterValue, AfterComma, AfterClose}
 use Rattle.log_reader.specs.Fronts.{is_behind_at, is_in_group, points_begun, last_time, groups_begun, last_sorts}
-use Rattle.log_reader.specs.Fronts.{values_begun, due_sorts}
-use Rattle.log_reader.specs.Partials.{Partial, nothing_read, finished}
-use Rattle.log_reader.specs.Steps.{stepped, point_opened, stamped, naming, grouped, valued, group_closed}
-use Rattle.log_reader.specs.Symbols.{Symbol, AtSign, Opening, Closing, Separator, Terminator, Says, Written, Bare}
-use Rattle.log_reader.specs.Symbols.{Quoted, symbol, token_content, written}
+use Rattle.log_reader.specs.Fronts.{values_begun, due_sorts, Role, PointBegins, Timestamp, Name, GroupBegins}
+use Rattle.log_reader.specs.Fronts.{Value as ValueRole, Comma, GroupEnds, PointEnds, symbols_before, role}
+use Rattle.log_reader.specs.Partials.{Partial, nothing_read}
+use Rattle.log_reader.specs.Steps.{stepped, point_opened, stamped, naming, grouped, valued, group_closed, step}
+use Rattle.log_reader.specs.Symbols.{Symbol, AtSign, Opening, Closing, Says, Written, Bare, Quoted, symbol}
+use Rattle.log_reader.specs.Symbols.{token_content, written}
 use Rattle.log_reader.specs.ValuesRead.{timestamp_of, value_at}
+use Rattle.log_reader.specs.Grammar.{symbols_of}
 use Rattle.log_reader.proofs.Judging.{bare_content}
-use Rattle.log_reader.proofs.StepStages.{OnDone, done, failed}
 use Rattle.log_reader.proofs.Transitions.{Transition, begins_first, begins_bare, begins_full, times, names_first}
 use Rattle.log_reader.proofs.Transitions.{names_more, opens_first, opens_more, gives_first, gives_more, separates}
-use Rattle.log_reader.proofs.Transitions.{closes_empty, closes, ends_bare, ends_full}
+use Rattle.log_reader.proofs.Transitions.{closes_empty, closes, ends_bare, ends_full, transition}
+use Rattle.log_reader.proofs.StepStages.{step_goes}
 
 -- ---- what a stage says of what stands before
 
@@ -54,22 +57,20 @@ nothing_stands sig = search arith
 -- ---- steps
 
 module _ (sig : List PredOf) (limits : Limits) (p : Partial) (t : Lexeme) (older : List Symbol) where
-  abbrev Leads : Stage → Symbol → Partial → Type 0
-  Leads g x q = Stands sig g q (x ∷ older)
+  abbrev Leads : Stage → Symbol → Result Partial LogFault → Type 0
+  Leads g x r = IfOk r (λ q. Stands sig g q (x ∷ older))
 
   at_stands : (s : Stage) → is_in_brackets s ≡ false → Stands sig s p older
-      → OnDone (Leads AfterAt AtSign) (point_opened limits t.at p)
-  at_stands s out st = cond_both (nat_lt p.points limits.points) _ _ (OnDone (Leads AfterAt AtSign))
-      (λ _. done (Leads AfterAt AtSign) _ (search (arith, st.inside ∙ out)))
-      (λ _. failed (Leads AfterAt AtSign) _)
+      → Leads AfterAt AtSign (point_opened limits t.at p)
+  at_stands s out st = cond_both (nat_lt p.points limits.points) _ _ (Leads AfterAt AtSign)
+      (λ _. search (arith, st.inside ∙ out)) (λ _. tt)
 
   stamp_stands : (word : List ℕ) (found : Option ℕ) → timestamp_of word ≡ found → Stands sig AfterAt p older
-      → OnDone (Leads AfterStamp (Says (Bare word))) (stamped t.at p found)
-  stamp_stands word None e st = failed (Leads AfterStamp (Says (Bare word))) _
+      → Leads AfterStamp (Says (Bare word)) (stamped t.at p found)
+  stamp_stands word None e st = tt
   stamp_stands word (Some time) e st =
-      let Q = Leads AfterStamp (Says (Bare word)) in
-      cond_both (nat_lt time p.time) _ _ (OnDone Q) (λ _. failed Q _)
-      (λ _. done Q _ (record {
+      cond_both (nat_lt time p.time) _ _ (Leads AfterStamp (Says (Bare word))) (λ _. tt)
+      (λ _. record {
         behind = refl;
         inside = st.inside;
         points = st.points;
@@ -77,16 +78,15 @@ module _ (sig : List PredOf) (limits : Limits) (p : Partial) (t : Lexeme) (older
         time = rw (st.behind, e) refl;
         sorts = rw st.behind st.sorts;
         due = λ e. absurd cc;
-      }))
+      })
 
   name_stands : (word : List ℕ) (found : Option PredOf) (s : Stage) → named word sig ≡ found → is_after_at s ≡ false
-      → is_in_brackets s ≡ false → Stands sig s p older
-      → OnDone (Leads AfterName (Says (Bare word))) (naming t.at p found)
-  name_stands word None s e far out st = failed (Leads AfterName (Says (Bare word))) _
+      → is_in_brackets s ≡ false → Stands sig s p older → Leads AfterName (Says (Bare word)) (naming t.at p found)
+  name_stands word None s e far out st = tt
   name_stands word (Some pred) s e far out st =
       let behind = st.behind ∙ far in
       let inside = st.inside ∙ out in
-      done (Leads AfterName (Says (Bare word))) _ (record {
+      record {
         behind = refl;
         inside = inside;
         points = st.points;
@@ -94,78 +94,53 @@ module _ (sig : List PredOf) (limits : Limits) (p : Partial) (t : Lexeme) (older
         time = rw (behind, inside) st.time;
         sorts = rw (behind, inside, e) refl;
         due = λ e. absurd cc;
-      })
+      }
 
-  group_stands : (s : Stage) → Stands sig s p older → OnDone (Leads AfterOpen Opening) (grouped limits t.at p)
-  group_stands s st = cond_both (nat_lt p.groups limits.events) _ _ (OnDone (Leads AfterOpen Opening))
-      (λ _. done (Leads AfterOpen Opening) _ (search arith))
-      (λ _. failed (Leads AfterOpen Opening) _)
+  group_stands : (s : Stage) → Stands sig s p older → Leads AfterOpen Opening (grouped limits t.at p)
+  group_stands s st = cond_both (nat_lt p.groups limits.events) _ _ (Leads AfterOpen Opening)
+      (λ _. search arith) (λ _. tt)
 
-  one_more_given : (sort : Sort) (more : List Sort) → sort ∷ more ≡ due_sorts sig older
-      → more ≡ drop (values_begun older + 1) (last_sorts sig older)
-  one_more_given sort more e = ap (drop 1) e ∙ drop-drop 1 (values_begun older) (last_sorts sig older)
-
-  value_stands : (w : Written) (s : Stage) (q : Partial) → is_after_at s ≡ false → is_in_brackets s ≡ true
-      → Stands sig s p older
-      → q.points ≡ p.points → q.groups ≡ p.groups → q.time ≡ p.time → q.sorts ≡ p.sorts
-      → q.due ≡ drop (values_begun older + 1) (last_sorts sig older) → Leads AfterValue (Says w) q
-  value_stands (Bare word) s q far within st points groups time sorts due =
+  value_stands : (w : Written) (s : Stage) (args : List Value) (more : List Sort) → is_after_at s ≡ false
+      → is_in_brackets s ≡ true → Stands sig s p older → more ≡ drop (values_begun older + 1) (last_sorts sig older)
+      → Stands sig AfterValue (record p { stage = AfterValue; due = more; args = args }) (Says w ∷ older)
+  value_stands (Bare word) s args more far within st due =
       let behind = st.behind ∙ far in
       let inside = st.inside ∙ within in
       record {
         behind = refl;
         inside = inside;
-        points = points ∙ st.points;
-        groups = groups ∙ st.groups;
-        time = rw (behind, inside) (time ∙ st.time);
-        sorts = rw (behind, inside) (sorts ∙ st.sorts);
+        points = st.points;
+        groups = st.groups;
+        time = rw (behind, inside) st.time;
+        sorts = rw (behind, inside) st.sorts;
         due = λ _. rw (behind, inside) due;
       }
-  value_stands (Quoted text) s q far within st points groups time sorts due =
-      record {
-        behind = refl;
-        inside = st.inside ∙ within;
-        points = points ∙ st.points;
-        groups = groups ∙ st.groups;
-        time = time ∙ st.time;
-        sorts = sorts ∙ st.sorts;
-        due = λ _. due;
-      }
+  value_stands (Quoted text) s args more far within st due = search (arith, st.inside ∙ within)
 
   given_stands : (w : Written) (s : Stage) (sort : Sort) (more : List Sort) (r : Result Value LogFault)
-      → is_after_at s ≡ false
-      → is_in_brackets s ≡ true → Stands sig s p older → sort ∷ more ≡ due_sorts sig older
-      → OnDone (Leads AfterValue (Says w))
-      (r >>= λ v. Ok (record p { stage = AfterValue; due = more; args = p.args ++ v ∷ [] }))
+      → is_after_at s ≡ false → is_in_brackets s ≡ true → Stands sig s p older → sort ∷ more ≡ due_sorts sig older
+      → Leads AfterValue (Says w) (r >>= λ v. Ok (record p { stage = AfterValue; due = more; args = p.args ++ v ∷ [] }))
   given_stands w s sort more (Ok v) far within st e =
-      done (Leads AfterValue (Says w)) _
-      (value_stands w s _ far within st refl refl refl refl (one_more_given sort more e))
-  given_stands w s sort more (Err fault) far within st e = failed (Leads AfterValue (Says w)) _
+      value_stands w s _ more far within st (ap (drop 1) e ∙ drop-drop 1 (values_begun older) (last_sorts sig older))
+  given_stands w s sort more (Err fault) far within st e = tt
 
   valued_stands : (w : Written) (s : Stage) (due : List Sort) → p.due ≡ due → is_after_at s ≡ false
-      → is_in_brackets s ≡ true
-      → Stands sig s p older → OnDone (Leads AfterValue (Says w)) (valued t.at (written t) p due)
-  valued_stands w s [] e far within st = failed (Leads AfterValue (Says w)) _
+      → is_in_brackets s ≡ true → Stands sig s p older → Leads AfterValue (Says w) (valued t.at (written t) p due)
+  valued_stands w s [] e far within st = tt
   valued_stands w s (sort ∷ more) e far within st =
       given_stands w s sort more (value_at sort t.at (written t)) far within st (sym e ∙ st.due within)
 
-  comma_stands : Stands sig AfterValue p older → Leads AfterComma Separator (record p { stage = AfterComma })
-  comma_stands st = search (arith, st.due)
-
   closed_stands : (s : Stage) (due : List Sort) → Stands sig s p older
-      → OnDone (Leads AfterClose Closing) (group_closed t.at p due)
-  closed_stands s (sort ∷ due) st = failed (Leads AfterClose Closing) _
-  closed_stands s [] st = done (Leads AfterClose Closing) _ (search arith)
-
-  ended_stands : (s : Stage) → is_in_brackets s ≡ false → Stands sig s p older → Leads Between Terminator (finished p)
-  ended_stands s out st = search (arith, st.inside ∙ out)
+      → Leads AfterClose Closing (group_closed t.at p due)
+  closed_stands s (sort ∷ due) st = tt
+  closed_stands s [] st = search arith
 
   says : (word : List ℕ) → symbol t ≡ Says (Bare word) → token_content t ≡ word
   says word e = bare_content t.kind (token_content t) word e
 
   -- a step goes on with what stands before the next token
   pub step_stands : (s : Stage) (x : Symbol) (g : Stage) → Transition s x g → symbol t ≡ x → Stands sig s p older
-      → OnDone (Leads g x) (stepped sig limits p t (Some g))
+      → Leads g x (stepped sig limits p t (Some g))
   step_stands _ _ _ begins_first e st = at_stands Between refl st
   step_stands _ _ _ begins_bare e st = at_stands AfterStamp refl st
   step_stands _ _ _ begins_full e st = at_stands AfterClose refl st
@@ -179,8 +154,86 @@ module _ (sig : List PredOf) (limits : Limits) (p : Partial) (t : Lexeme) (older
   step_stands _ _ _ opens_more e st = group_stands AfterClose st
   step_stands _ _ _ (gives_first w) e st = valued_stands w AfterOpen p.due refl refl refl st
   step_stands _ _ _ (gives_more w) e st = valued_stands w AfterComma p.due refl refl refl st
-  step_stands _ _ _ separates e st = done (Leads AfterComma Separator) _ (comma_stands st)
+  step_stands _ _ _ separates e st = search (arith, st.due)
   step_stands _ _ _ closes_empty e st = closed_stands AfterOpen p.due st
   step_stands _ _ _ closes e st = closed_stands AfterValue p.due st
-  step_stands _ _ _ ends_bare e st = done (Leads Between Terminator) _ (ended_stands AfterStamp refl st)
-  step_stands _ _ _ ends_full e st = done (Leads Between Terminator) _ (ended_stands AfterClose refl st)
+  step_stands _ _ _ ends_bare e st = search arith
+  step_stands _ _ _ ends_full e st = search arith
+
+-- ---- roles
+
+abbrev pub role_to : Stage → Role
+role_to Between = PointEnds
+role_to AfterAt = PointBegins
+role_to AfterStamp = Timestamp
+role_to AfterName = Name
+role_to AfterOpen = GroupBegins
+role_to AfterValue = ValueRole
+role_to AfterComma = Comma
+role_to AfterClose = GroupEnds
+
+-- the role of a symbol with which the grammar goes on says where it leads
+pub role_is : (sig : List PredOf) (p : Partial) (older : List Symbol) (s : Stage) (x : Symbol) (g : Stage)
+    → Transition s x g
+    → Stands sig s p older → role older x ≡ role_to g
+role_is sig p older _ _ _ (times word digits) st = rw st.behind refl
+role_is sig p older _ _ _ (names_first word) st = rw (st.behind, st.inside) refl
+role_is sig p older _ _ _ (names_more word) st = rw (st.behind, st.inside) refl
+role_is sig p older _ _ _ (gives_first w) st = rw (st.behind, st.inside) refl
+role_is sig p older _ _ _ (gives_more w) st = rw (st.behind, st.inside) refl
+role_is sig p older _ _ _ _ st = refl
+
+abbrev stage_of : Role → Stage
+stage_of PointBegins = AfterAt
+stage_of Timestamp = AfterStamp
+stage_of Name = AfterName
+stage_of GroupBegins = AfterOpen
+stage_of ValueRole = AfterValue
+stage_of Comma = AfterComma
+stage_of GroupEnds = AfterClose
+stage_of _ = Between
+
+stage_back : (g : Stage) → stage_of (role_to g) ≡ g
+stage_back Between = refl
+stage_back _ = refl
+
+pub same_stage : (g h : Stage) → role_to g ≡ role_to h → g ≡ h
+same_stage g h e = sym (stage_back g) ∙ ap stage_of e ∙ stage_back h
+
+-- ---- tokens
+
+-- the symbols from one on, the nearest first
+before_more : (t : Lexeme) (ts : List Lexeme) (older : List Symbol)
+    → symbols_before ts ++ symbol t ∷ older ≡ symbols_before (t ∷ ts) ++ older
+before_more t ts older =
+    sym (append_assoc (symbols_before ts) (symbol t ∷ []) older)
+    ∙ ap (λ (xs : List Symbol). xs ++ older) (sym (reverse-append (symbol t ∷ []) (symbols_of ts)))
+
+module _ (sig : List PredOf) (limits : Limits) where
+  step_on : (p q : Partial) (t : Lexeme) (older : List Symbol) → step sig limits p t ≡ Ok q
+      → Stands sig p.stage p older
+      → Stands sig q.stage q (symbol t ∷ older)
+  unfolding step
+  step_on p q t older e st =
+      let leads = (step_goes sig limits p t q e).stage in
+      subst (λ (r : Result Partial LogFault). IfOk r (λ r. Stands sig q.stage r (symbol t ∷ older)))
+      (sym (ap (stepped sig limits p t) leads) ∙ e)
+      (step_stands sig limits p t older p.stage (symbol t) q.stage
+      (transition p.stage (symbol t) q.stage leads) refl st)
+
+  run_on : (ts : List Lexeme) (p q : Partial) (older : List Symbol) → run (step sig limits) ts p ≡ Ok q
+      → Stands sig p.stage p older
+      → Stands sig q.stage q (symbols_before ts ++ older)
+  unfolding run
+  run_on [] p q older e st = let same : p ≡ q = cc in subst (λ (r : Partial). Stands sig r.stage r older) same st
+  run_on (t ∷ ts) p q older e st =
+      let first = bind_ok (step sig limits p t) (λ r. run (step sig limits) ts r) q e in
+      subst (Stands sig q.stage q) (before_more t ts older)
+      (run_on ts first.0 q (symbol t ∷ older) first.2 (step_on p first.0 t older first.1 st))
+
+  -- what was read of tokens that show no fault
+  pub run_stands : (front : List Lexeme) (p : Partial) → run (step sig limits) front nothing_read ≡ Ok p
+      → Stands sig p.stage p (symbols_before front)
+  run_stands front p e =
+      subst (Stands sig p.stage p) (append-nil (symbols_before front))
+      (run_on front nothing_read p [] e (nothing_stands sig))

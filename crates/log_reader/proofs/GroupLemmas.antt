@@ -1,9 +1,9 @@
 -- Groups that are read straight from the bytes lead where their tokens would.
-use Rattle.std.proofs.Common.{◌≡◌, ℕ, ◌+◌, ◌-◌, ◌≤◌, ◌<◌, Bool, true, false, List, [], ◌∷◌, ◌++◌, length, drop, get_or}
+use Rattle.std.proofs.Common.{◌≡◌, ℕ, ◌+◌, ◌-◌, ◌≤◌, ◌<◌, Bool, true, List, [], ◌∷◌, ◌++◌, length, drop, get_or}
 use Rattle.std.proofs.Common.{Option, Some, None, Result, Ok, Err, IfOk, IfSome, ℤ, refl, sym, ap, subst, ◌∙◌, arith}
-use Rattle.std.proofs.lemmas.Bool.{lt-ltb, eqb-true}
-use Rattle.std.proofs.lemmas.List.{drop-drop, length-drop}
-use Rattle.std.specs.Prelude.{cond, ◌==◌}
+use Rattle.std.proofs.lemmas.Bool.{cond_both, lt-ltb, eqb-true}
+use Rattle.std.proofs.lemmas.List.{drop-drop, length-drop, nil_from_length}
+use Rattle.std.specs.Prelude.{◌==◌}
 use Rattle.mfotl_lex.specs.Bytes.{is_space}
 use Rattle.mfotl_lex.specs.Growing.{grown}
 use Rattle.mfotl_lex.specs.Lexemes.{Tokens, after, tokens}
@@ -25,19 +25,17 @@ use Rattle.log_reader.specs.Steps.{step, stepped, valued, group_closed}
 use Rattle.log_reader.specs.Stretches.{place_in}
 use Rattle.log_reader.specs.Tokens.{front_of, blank_before, IsInFront}
 use Rattle.log_reader.specs.Symbols.{Bare}
-use Rattle.mfotl_lex.specs.declared.kind.Kind.TheVariants.{Word}
+use Rattle.mfotl_lex.specs.declared.kind.Kind.TheVariants.{Word, OpenParen, CloseParen, Comma}
 use Rattle.mfotl_model.specs.declared.policy.Sort.TheVariants as sorts
 use Rattle.mfotl_model.specs.declared.value.Value.TheVariants as values
 use Rattle.log_reader.proofs.QuickLemmas.{writes_number, integer_takes, value_goes}
-use Rattle.log_reader.proofs.MarkLemmas.{comma_steps, closing_steps, opening_steps, again_steps, mark_takes}
+use Rattle.log_reader.proofs.MarkLemmas.{mark_steps, mark_takes}
 use Rattle.log_reader.proofs.TokenFronts.{blank_tokens}
 use Rattle.log_reader.proofs.TokenPlaces.{TokenAt, token_at_offset, place_behind}
 use Rattle.log_reader.proofs.TokenSteps.{took_leads}
 
 pub none_left : {X : Type 0} (xs : List X) → true ≡ (length xs == 0) → xs ≡ []
-none_left [] e = refl
-none_left (x ∷ xs) e = let none : length (x ∷ xs) ≡ 0 = eqb-true (length (x ∷ xs)) 0 (sym e) in
-    absurd (omega (arith, none))
+none_left xs e = nil_from_length xs (eqb-true (length xs) 0 (sym e))
 
 pub two_of : {X : Type 0} (xs : List X) (d e : X) → 2 ≤ length xs → length xs < 3
     → get_or xs 0 d ∷ get_or xs 1 e ∷ [] ≡ xs
@@ -83,25 +81,23 @@ plain_word_text at bytes text value front is = rw is (record {
 abbrev took : Result (Unit {0}) LogFault
 took = Ok tt
 
-module _ (from : ℕ) (looked : List ℕ) (ended : Bool) (sig : List PredOf) (limits : Limits) where
-  abbrev Goes : ℕ → Partial → ℕ → Partial → Type 0
-  Goes at p at' q = Leads sig limits from looked ended at p [] at' q
+module _ {from : ℕ} {looked : List ℕ} {ended : Bool} {sig : List PredOf} {limits : Limits} where
+  pub stay : {at : ℕ} {p : Partial} → at ≤ length looked → IsCounted p
+      → Leads sig limits from looked ended at p [] at p
+  stay le c = record { reads = λ more later is last. refl; within = le; counted = c; given = omega arith }
 
-  pub stay : (at : ℕ) (p : Partial) → at ≤ length looked → IsCounted p → Goes at p at p
-  stay at p le c = record {
-    reads = λ more later is last. refl;
-    within = le;
-    counted = c;
-    given = omega arith;
-  }
-
-  pub go_on : (at b c : ℕ) (p q r : Partial) → Goes at p b q → Goes b q c r → Goes at p c r
-  go_on at b c p q r x y = record {
+  pub go_on : {at b c : ℕ} {p q r : Partial} → Leads sig limits from looked ended at p [] b q
+      → Leads sig limits from looked ended b q [] c r → Leads sig limits from looked ended at p [] c r
+  go_on x y = record {
     reads = λ more later is last. x.reads more later is last ∙ y.reads more later is last;
     within = y.within;
     counted = y.counted;
     given = omega (arith, x.given, y.given);
   }
+
+module _ (from : ℕ) (looked : List ℕ) (ended : Bool) (sig : List PredOf) (limits : Limits) where
+  abbrev Goes : ℕ → Partial → ℕ → Partial → Type 0
+  Goes at p at' q = Leads sig limits from looked ended at p [] at' q
 
   module _ (at : ℕ) (p : Partial) (le : at ≤ length looked) (c : IsCounted p) where
     -- a token in front leads behind it
@@ -115,12 +111,9 @@ module _ (from : ℕ) (looked : List ℕ) (ended : Bool) (sig : List PredOf) (li
         (token_at_offset from looked ended at f.token le (f.front.is ended))) c f.goes_on f.steps
 
     blank_goes : (rest : List ℕ) → drop at looked ≡ rest → Goes at p (at + blank_before rest) p
-    blank_goes [] e = subst (λ (k : ℕ). Goes at p k p) (omega arith) (stay at p le c)
-    blank_goes (b ∷ rest) e = by_space (is_space b) refl
-      where
-        by_space : (space : Bool) → is_space b ≡ space → Goes at p (at + cond space 1 0) p
-        by_space false not = subst (λ (k : ℕ). Goes at p k p) (omega arith) (stay at p le c)
-        by_space true space = record {
+    blank_goes [] e = subst (λ (k : ℕ). Goes at p k p) (omega arith) (stay le c)
+    blank_goes (b ∷ rest) e = cond_both (is_space b) 1 0 (λ (k : ℕ). Goes at p (at + k) p)
+        (λ space. record {
           reads = λ more later is last.
               ap (λ (ts : Tokens). run sig limits (behind_tokens ts.fault last) p ts.list)
               (ap (λ (r : List ℕ). tokens (front_of (r ++ more) (from + at) later)) e
@@ -131,7 +124,8 @@ module _ (from : ℕ) (looked : List ℕ) (ended : Bool) (sig : List PredOf) (li
               omega (arith, n, length-drop at looked);
           counted = c;
           given = omega arith;
-        }
+        })
+        (λ _. subst (λ (k : ℕ). Goes at p k p) (omega arith) (stay le c))
 
     -- one blank in front, or none, changes nothing
     pub blank_leads : Goes at p (at + blank_before (drop at looked)) p
@@ -141,18 +135,16 @@ module _ (from : ℕ) (looked : List ℕ) (ended : Bool) (sig : List PredOf) (li
       mark_leads : (q : Partial) → StepsMark limits p (from + at) (get_or (drop at looked) 0 0) took q
           → Goes at p (at + 1) q
       mark_leads q s =
-          (front_leads 1 q (mark_takes sig limits p q (from + at) (drop at looked) some took s tt refl)).0
+          (front_leads 1 q (mark_takes sig limits p q (from + at) (drop at looked) some took s refl)).0
 
       pub comma_leads : p.stage ≡ AfterValue → get_or (drop at looked) 0 0 ≡ 44
           → Goes at p (at + 1) (record p { stage = AfterComma })
-      comma_leads stage is =
-          mark_leads _ (comma_steps limits p (record p { stage = AfterComma }) (from + at) took _ stage is refl)
+      comma_leads stage is = mark_leads _ (mark_steps 44 Comma AfterValue AfterComma stage is refl refl refl (λ _. refl))
 
       pub closing_leads : p.stage ≡ AfterValue → p.due ≡ [] → get_or (drop at looked) 0 0 ≡ 41
           → Goes at p (at + 1) (closed_with p p.args)
-      closing_leads stage due is =
-          mark_leads _ (closing_steps limits p (closed_with p p.args) (from + at) took _ stage is
-          (ap (group_closed (from + at) p) due
+      closing_leads stage due is = mark_leads _ (mark_steps 41 CloseParen AfterValue AfterClose stage is refl refl refl
+          (λ _. ap (group_closed (from + at) p) due
           ∙ ap (λ (d : List Sort). Ok (record (closed_with p p.args) { due = d })) due))
 
       abbrev begun : Partial
@@ -160,30 +152,27 @@ module _ (from : ℕ) (looked : List ℕ) (ended : Bool) (sig : List PredOf) (li
 
       pub opening_leads : (s : Stage) → p.stage ≡ s → may_open s ≡ true → p.groups < limits.events
           → get_or (drop at looked) 0 0 ≡ 40 → Goes at p (at + 1) begun
-      opening_leads AfterName stage may room is =
-          mark_leads begun (opening_steps limits p begun (from + at) took _ stage is
-          (rw (lt-ltb p.groups limits.events room) refl))
-      opening_leads AfterClose stage may room is =
-          mark_leads begun (again_steps limits p begun (from + at) took _ stage is
-          (rw (lt-ltb p.groups limits.events room) refl))
+      opening_leads AfterName stage may room is = mark_leads begun
+          (mark_steps 40 OpenParen AfterName AfterOpen stage is refl refl refl (λ _. rw (lt-ltb _ _ room) refl))
+      opening_leads AfterClose stage may room is = mark_leads begun
+          (mark_steps 40 OpenParen AfterClose AfterOpen stage is refl refl refl (λ _. rw (lt-ltb _ _ room) refl))
       opening_leads _ stage may room is = absurd cc
 
-module _ (limits : Limits) (from : ℕ) (looked : List ℕ) (ended : Bool) (at : ℕ) (p : Partial) where
-  pub lead_on : (at' : ℕ) (q : Partial) → at ≤ at'
-      → ((sig : List PredOf) → Goes from looked ended sig limits at p at' q)
-      → LeadsOn limits from looked ended at p at' q
-  lead_on at' q further leads =
-      let one = leads [] in
-      record { leads = leads; within = one.within; counted = one.counted; further = further }
+lead_on : {limits : Limits} {from : ℕ} {looked : List ℕ} {ended : Bool} {at at' : ℕ} {p q : Partial} → at ≤ at'
+    → ((sig : List PredOf) → Goes from looked ended sig limits at p at' q)
+    → LeadsOn limits from looked ended at p at' q
+lead_on further leads =
+    let one = leads [] in
+    record { leads = leads; within = one.within; counted = one.counted; further = further }
 
+module _ (limits : Limits) (from : ℕ) (looked : List ℕ) (ended : Bool) (at : ℕ) (p : Partial) where
   pub lead_stay : at ≤ length looked → IsCounted p → LeadsOn limits from looked ended at p at p
-  lead_stay le c = lead_on at p (omega arith) (λ sig. stay from looked ended sig limits at p le c)
+  lead_stay le c = lead_on (omega arith) (λ sig. stay le c)
 
   pub lead_further : (b c : ℕ) (q r : Partial) → LeadsOn limits from looked ended at p b q
       → LeadsOn limits from looked ended b q c r → LeadsOn limits from looked ended at p c r
   lead_further b c q r x y =
-      lead_on c r (omega (arith, x.further, y.further))
-      (λ sig. go_on from looked ended sig limits at b c p q r (x.leads sig) (y.leads sig))
+      lead_on (omega (arith, x.further, y.further)) (λ sig. go_on (x.leads sig) (y.leads sig))
 
 module _ (from : ℕ) (looked : List ℕ) (ended : Bool) (sorts : List Sort) (start : ℕ) where
   -- the tokens from behind the `(` on up to an offset give these values; a value is due there, and these sorts
@@ -201,11 +190,7 @@ module _ (from : ℕ) (looked : List ℕ) (ended : Bool) (sorts : List Sort) (st
     awaits = refl;
     within = le;
     later = omega arith;
-    leads = λ sig limits p o. subst (Goes from looked ended sig limits start p start)
-        (ap (λ (s : Stage). record p { stage = s }) o.stage
-        ∙ ap (λ (d : List Sort). record p { stage = AfterOpen; due = d }) o.due
-        ∙ ap (λ (a : List Value). record p { stage = AfterOpen; due = sorts; args = a }) o.args)
-        (stay from looked ended sig limits start p le o.counted);
+    leads = λ sig limits p o. rw (← o.stage, ← o.due, ← o.args) (stay le o.counted);
   }
 
 -- where a value is due, such a value and the mark behind it
@@ -223,9 +208,8 @@ module _ {from : ℕ} {looked : List ℕ} {ended : Bool} {sorts : List Sort} {st
       → Goes from looked ended sig limits start p (at + t.n) (valued_with p)
   over_value sig limits p o =
       let reached = s.leads sig limits p o in
-      go_on from looked ended sig limits start at (at + t.n) p _ _ reached
-      (front_leads from looked ended sig limits at (record p { stage = s.stage; due = due; args = args }) s.within
-      reached.counted t.n (valued_with p) (t.plain.takes sig limits _ more s.awaits due_is)).0
+      go_on reached (front_leads from looked ended sig limits at (record p { stage = s.stage; due = due; args = args })
+      s.within reached.counted t.n (valued_with p) (t.plain.takes sig limits _ more s.awaits due_is)).0
 
   mark_some : 1 ≤ length (drop (at + t.n) looked)
   mark_some = omega (arith, t.end, t.within, length-drop (at + t.n) looked)
@@ -239,20 +223,17 @@ module _ {from : ℕ} {looked : List ℕ} {ended : Bool} {sorts : List Sort} {st
     later = omega (arith, s.later, t.end);
     leads = λ sig limits p o.
         let over = over_value sig limits p o in
-        rw t.end (go_on from looked ended sig limits start (at + t.n) (at + t.n + 1) p _ _ over
-        (comma_leads from looked ended sig limits (at + t.n) (valued_with p) over.within over.counted mark_some refl
-        (t.is ∙ is)));
+        rw t.end (go_on over (comma_leads from looked ended sig limits (at + t.n) (valued_with p) over.within over.counted
+        mark_some refl (t.is ∙ is)));
   }
 
   -- a `)` behind the last value ends the group
   pub past_group : more ≡ [] → mark ≡ 41 → ReadsValues from looked ended sorts start row behind
   past_group none is = (
-    λ limits p o. lead_on limits from looked ended start p behind (closed_with p row) (omega (arith, s.later, t.end))
-        (λ sig.
+    λ limits p o. lead_on (omega (arith, s.later, t.end)) (λ sig.
         let over = over_value sig limits p o in
-        rw t.end (go_on from looked ended sig limits start (at + t.n) (at + t.n + 1) p _ _ over
-        (closing_leads from looked ended sig limits (at + t.n) (valued_with p) over.within over.counted mark_some refl
-        none (t.is ∙ is)))),
+        rw t.end (go_on over (closing_leads from looked ended sig limits (at + t.n) (valued_with p) over.within
+        over.counted mark_some refl none (t.is ∙ is)))),
     omega (arith, s.later, t.end),
   )
 
@@ -276,16 +257,14 @@ module _ (from : ℕ) (looked : List ℕ) (ended : Bool) (sorts : List Sort) (at
   group_row : (row : List Value) (behind : ℕ) → ReadsValues from looked ended sorts (at + blanks + 1) row behind
       → ReadsGroup from looked ended sorts at row behind
   group_row row behind v = (
-    λ limits p r. lead_on limits from looked ended at p behind (with_group p row) (omega (arith, v.1)) (λ sig.
+    λ limits p r. lead_on (omega (arith, v.1)) (λ sig.
         let same : blanks ≡ blank_before (drop at looked) = blanks_is ∙ ap blank_before front_is in
         let past = subst (λ (k : ℕ). Goes from looked ended sig limits at p (at + k) p) (sym same)
         (blank_leads from looked ended sig limits at p le r.counted) in
         let begun = opening_leads from looked ended sig limits (at + blanks) p past.within r.counted
         (subst (λ (b : List ℕ). 1 ≤ length b) mark_at some) p.stage refl r.stage r.room
         (ap (λ (b : List ℕ). get_or b 0 0) (sym mark_at) ∙ is) in
-        go_on from looked ended sig limits at (at + blanks) behind p p _ past
-        (go_on from looked ended sig limits (at + blanks) (at + blanks + 1) behind p _ _ begun
-        ((v.0 limits (record p { stage = AfterOpen; groups = p.groups + 1; due = p.sorts }) (record {
+        go_on past (go_on begun ((v.0 limits (record p { stage = AfterOpen; groups = p.groups + 1; due = p.sorts }) (record {
           stage = refl;
           due = r.same;
           args = r.args;
@@ -303,20 +282,18 @@ module _ (from : ℕ) (looked : List ℕ) (ended : Bool) (sorts : List Sort) (at
 
 -- ---- the call
 
-pub takes_group : (limits : Limits) (from : ℕ) (looked : List ℕ) (ended : Bool) (at : ℕ) (p q : Partial)
-    (found : Option (List Value × ℕ)) (row : List Value) (behind : ℕ)
+pub takes_group : {limits : Limits} {from : ℕ} {looked : List ℕ} {ended : Bool} {at : ℕ} {p q : Partial}
+    {found : Option (List Value × ℕ)} {row : List Value} {behind : ℕ}
     → IfSome found (λ x. ReadsGroup from looked ended p.sorts at x.0 x.1) → found ≡ Some (row, behind)
     → MayBeginGroup limits p.sorts p → q ≡ with_group p row
     → LeadsOn limits from looked ended at p behind q × (at < behind)
-takes_group limits from looked ended at p q found row behind reads is ready after =
-    let r = subst (λ (f : Option (List Value × ℕ)). IfSome f (λ x. ReadsGroup from looked ended p.sorts at x.0 x.1)) is
-    reads in
+takes_group {limits} {from} {looked} {ended} {at} {p} reads is ready after =
+    let r = rw is at reads in
     (rw after (r.0 limits p ready), r.1)
 
 -- a timestamp in front leads behind it
-pub stamp_leads : (from : ℕ) (looked : List ℕ) (ended : Bool) (at n : ℕ) (p q : Partial) (rest : List ℕ)
+pub stamp_leads : {from : ℕ} {looked : List ℕ} (ended : Bool) {at n : ℕ} {p q : Partial} {rest : List ℕ}
     → at ≤ length looked → IsCounted p → rest ≡ drop at looked → TakesStamp p (from + at) rest (Some n) q
     → (sig : List PredOf) (limits : Limits) → Leads sig limits from looked ended at p [] (at + n) q × (at < at + n)
-stamp_leads from looked ended at n p q rest le c is takes sig limits =
-    front_leads from looked ended sig limits at p le c n q
-    (subst (λ (r : List ℕ). TakesTokenInFront sig limits p (from + at) r n q) is (takes sig limits))
+stamp_leads {from} {looked} ended {at} {n} {p} {q} le c is takes sig limits =
+    front_leads from looked ended sig limits at p le c n q (rw is at (takes sig limits))

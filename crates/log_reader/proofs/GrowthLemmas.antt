@@ -14,6 +14,7 @@ use Rattle.std.proofs.Math.Seq.{take-append-add}
 use Rattle.mfotl_lex.proofs.GrowingLemmas.{more_bytes}
 use Rattle.mfotl_model.specs.declared.event.TimePoint.{TimePoint}
 use Rattle.mfotl_sig.specs.Preds.{PredOf}
+use Rattle.mfotl_model.proofs.LogicLemmas.{funext}
 use Rattle.log_reader.specs.Partials.{Partial, nothing_read}
 use Rattle.log_reader.specs.Readings.{NoFault, Reading, behind, behind_tokens, is_long, nothing_left, place_at, reading}
 use Rattle.log_reader.specs.Readings.{run, shown, went_on}
@@ -35,17 +36,12 @@ abbrev nothing : Reading
 nothing = record { points = []; ending = NoFault }
 
 module _ (sig : List PredOf) (limits : Limits) where
-  went_alike : (r : Result Partial LogFault) (f g : Partial → Reading) → ((q : Partial) → f q ≡ g q)
-      → went_on r f ≡ went_on r g
-  went_alike (Ok q) f g e = e q
-  went_alike (Err fault) f g e = refl
-
   run_append : (last : Partial → Reading) (p : Partial) (xs ys : List Lexeme)
       → run sig limits last p (xs ++ ys) ≡ run sig limits (λ q. run sig limits last q ys) p xs
   unfolding run
   run_append last p [] ys = refl
   run_append last p (x ∷ xs) ys =
-      ap (behind (completed p x)) (went_alike (step sig limits p x) _ _ (λ q. run_append last q xs ys))
+      ap (behind (completed p x)) (ap (went_on (step sig limits p x)) (funext _ _ (λ q. run_append last q xs ys)))
 
   behind_keeps : (points : List TimePoint) (s a : Reading) → ExtendsReading s a
       → ExtendsReading (behind points s) (behind points a)
@@ -60,14 +56,6 @@ module _ (sig : List PredOf) (limits : Limits) where
   went_keeps (Ok q) f g k = k q
   went_keeps (Err fault) f g k = same _ _ refl
 
-  -- what is the same behind the tokens is the same with them
-  run_alike : (f g : Partial → Reading) → ((q : Partial) → f q ≡ g q) → (p : Partial) (ts : List Lexeme)
-      → run sig limits f p ts ≡ run sig limits g p ts
-  unfolding run
-  run_alike f g e p [] = e p
-  run_alike f g e p (t ∷ ts) =
-      ap (behind (completed p t)) (went_alike (step sig limits p t) _ _ (λ q. run_alike f g e q ts))
-
   -- whatever comes behind, what the tokens show stays
   run_keeps : (last : Partial → Reading) (p : Partial) (ts : List Lexeme)
       → ExtendsReading (run sig limits (λ q. nothing) p ts) (run sig limits last p ts)
@@ -75,11 +63,6 @@ module _ (sig : List PredOf) (limits : Limits) where
   run_keeps last p [] = record { more = (last p).points; points = refl; stays = λ fault stops. absurd cc }
   run_keeps last p (t ∷ ts) =
       behind_keeps (completed p t) _ _ (went_keeps (step sig limits p t) _ _ (λ q. run_keeps last q ts))
-
-  behind_alike : (fault : Option LexFault) (f g : Partial → Reading) → ((q : Partial) → f q ≡ g q) → (q : Partial)
-      → behind_tokens fault f q ≡ behind_tokens fault g q
-  behind_alike (Some x) f g e q = refl
-  behind_alike None f g e q = e q
 
   -- a reading of these tokens
   abbrev run_tokens : (Partial → Reading) → Tokens → Reading
@@ -89,11 +72,11 @@ module _ (sig : List PredOf) (limits : Limits) where
       → (fault : Option LexFault) (list : List Lexeme) (more : Tokens)
       → ExtendsReading (run sig limits (behind_tokens fault first) nothing_read list)
       (run_tokens last (joined_at fault list more))
-  joined_keeps first last none (Some x) list more = same _ _ (run_alike _ _ (λ q. refl) nothing_read list)
+  joined_keeps first last none (Some x) list more = same _ _ refl
   joined_keeps first last none None list more =
       let further = λ (q : Partial). run sig limits (behind_tokens more.fault last) q more.list in
       rw (
-        run_alike (behind_tokens None first) (λ q. nothing) none nothing_read list,
+        ap (λ (rest : Partial → Reading). run sig limits rest nothing_read list) (funext first (λ q. nothing) none),
         run_append (behind_tokens more.fault last) nothing_read list more.list,
       )
       (run_keeps further nothing_read list)
@@ -115,7 +98,8 @@ module _ (sig : List PredOf) (limits : Limits) where
       let last_is : (q : Partial) → nothing_left limits (seen ++ left) ended q ≡ nothing_left limits seen false q =
       λ q. rw (whole_long, front_long) refl in
       ap (run_tokens (nothing_left limits (seen ++ left) ended)) (ap tokens place_is)
-      ∙ run_alike _ _ (behind_alike (tokens (place_at limits seen false 0)).fault _ _ last_is) nothing_read _
+      ∙ ap (λ (last : Partial → Reading). run_tokens last (tokens (place_at limits seen false 0)))
+      (funext _ _ last_is)
 
   -- the front is within the limit
   short_keeps : (seen left : List ℕ) (ended : Bool) → length seen ≤ limits.bytes

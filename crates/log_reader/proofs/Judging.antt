@@ -86,33 +86,32 @@ module _ (sig : List PredOf) (limits : Limits) where
   last_step s x p t ts r at is c e last = rw (at, is, c, e)
 
   -- a step that leads on, and one that doesn't
-  pub passes : (s : Stage) (x : Symbol) (p q : Partial) (ts : List Lexeme) (rest : List Symbol) (f : Front ts x rest)
+  pub passes : {s : Stage} {x : Symbol} {ts : List Lexeme} {rest : List Symbol} (p q : Partial) (f : Front ts x rest)
       → p.stage ≡ s → completes s x ≡ false
       → stepped sig limits p f.token (stage_after s x) ≡ Ok q → Passed p q ts rest
-  passes s x p q ts rest f at c e = record {
+  passes {s} {x} p q f at c e = record {
     others = f.others;
     spelled = f.spelled;
     reads = λ last. ap (run sig limits last p) f.parts ∙ one_step s x p f.token f.others (Ok q) at f.is c e last;
   }
 
-  pub faults : (s : Stage) (x : Symbol) (p : Partial) (fault : LogFault) (ts : List Lexeme) (rest : List Symbol)
+  pub faults : {s : Stage} {x : Symbol} {ts : List Lexeme} {rest : List Symbol} (p : Partial) (fault : LogFault)
       (f : Front ts x rest) → p.stage ≡ s → completes s x ≡ false
       → stepped sig limits p f.token (stage_after s x) ≡ Err fault → Faulty p ts
-  faults s x p fault ts rest f at c e = record {
+  faults {s} {x} p fault f at c e = record {
     points = [];
     fault = fault;
     reads = λ last. ap (run sig limits last p) f.parts ∙ one_step s x p f.token f.others (Err fault) at f.is c e last;
   }
 
-  pub Passed-then : (p q r : Partial) (ts : List Lexeme) (rest more : List Symbol) (a : Passed p q ts rest)
-      → Passed q r a.others more → Passed p r ts more
-  Passed-then p q r ts rest more a b =
-      record { others = b.others; spelled = b.spelled; reads = λ last. a.reads last ∙ b.reads last }
+module _ {sig : List PredOf} {limits : Limits} where
+  pub Passed-then : {p q r : Partial} {ts : List Lexeme} {rest more : List Symbol} (a : Passed sig limits p q ts rest)
+      → Passed sig limits q r a.others more → Passed sig limits p r ts more
+  Passed-then a b = record { others = b.others; spelled = b.spelled; reads = λ last. a.reads last ∙ b.reads last }
 
-  pub Faulty-behind : (p q : Partial) (ts : List Lexeme) (rest : List Symbol) (a : Passed p q ts rest)
-      → Faulty q a.others → Faulty p ts
-  Faulty-behind p q ts rest a b =
-      record { points = b.points; fault = b.fault; reads = λ last. a.reads last ∙ b.reads last }
+  pub Faulty-behind : {p q : Partial} {ts : List Lexeme} {rest : List Symbol} (a : Passed sig limits p q ts rest)
+      → Faulty sig limits q a.others → Faulty sig limits p ts
+  Faulty-behind a b = record { points = b.points; fault = b.fault; reads = λ last. a.reads last ∙ b.reads last }
 
 -- ---- values
 
@@ -174,15 +173,14 @@ module _ (sig : List PredOf) (limits : Limits) where
         refl,
         subst (λ (xs : List Value). Passed sig limits (within c stage [] args)
             (resting (with_event c xs) AfterClose) ts rest) (sym (append-nil args))
-            (passes sig limits stage Closing (within c stage [] args)
-            (resting (with_event c args) AfterClose) ts rest f refl h
+            (passes sig limits (within c stage [] args) (resting (with_event c args) AfterClose) f refl h
             (ap (stepped sig limits (within c stage [] args) f.token) g)),
       )
   closing c stage (sort ∷ due) args ts rest g h e =
       let f = front_of ts Closing rest e in
       inr (
         refl,
-        faults sig limits stage Closing (within c stage (sort ∷ due) args) _ ts rest f refl h
+        faults sig limits (within c stage (sort ∷ due) args) _ f refl h
             (ap (stepped sig limits (within c stage (sort ∷ due) args) f.token) g),
       )
 
@@ -199,8 +197,7 @@ module _ (sig : List PredOf) (limits : Limits) where
       let f = front_of ts (Says w) (spell_more ws (Closing ∷ rest)) e in
       inr (
         refl,
-        faults sig limits stage (Says w) (within c stage [] args) _ ts _ f refl h
-            (ap (stepped sig limits (within c stage [] args) f.token) g),
+        faults sig limits (within c stage [] args) _ f refl h (ap (stepped sig limits (within c stage [] args) f.token) g),
       )
   value_then c stage (sort ∷ due) args w ws ts rest g h e later =
       let f = front_of ts (Says w) (spell_more ws (Closing ∷ rest)) e in
@@ -212,22 +209,19 @@ module _ (sig : List PredOf) (limits : Limits) where
       elim (value_judged sort f.token.at w) [
         | inl good ↦
             let q = within c AfterValue due (args ++ good.0 ∷ []) in
-            let a = passes sig limits stage (Says w) p q ts _ f refl h
-            (steps ∙ rw good.1) in
+            let a = passes sig limits p q f refl h (steps ∙ rw good.1) in
             elim (later due (args ++ good.0 ∷ []) a.others a.spelled) [
               | inl x ↦ inl (
                 good.0 ∷ x.0,
                 rw (good.2, x.1) refl,
                 subst (λ (xs : List Value). Passed sig limits p (resting (with_event c xs) AfterClose) ts rest)
-                    (append_assoc args (good.0 ∷ []) x.0)
-                    (Passed-then sig limits p q _ ts _ rest a x.2),
+                    (append_assoc args (good.0 ∷ []) x.0) (Passed-then a x.2),
               )
-              | inr y ↦ inr (rw (good.2, y.0) refl, Faulty-behind sig limits p q ts _ a y.1)
+              | inr y ↦ inr (rw (good.2, y.0) refl, Faulty-behind a y.1)
             ]
         | inr bad ↦ inr (
           rw bad.2 refl,
-          faults sig limits stage (Says w) p bad.0 ts _ f refl h
-              (steps ∙ rw bad.1),
+          faults sig limits p bad.0 f refl h (steps ∙ rw bad.1),
         )
       ]
 
@@ -238,12 +232,11 @@ module _ (sig : List PredOf) (limits : Limits) where
   more_judged c due args (w ∷ ws) ts rest e =
       let p = within c AfterValue due args in
       let q = within c AfterComma due args in
-      let a = passes sig limits AfterValue Separator p q ts (Says w ∷ spell_more ws (Closing ∷ rest))
-      (front_of ts Separator _ e) refl refl refl in
+      let a = passes sig limits p q (front_of ts Separator _ e) refl refl refl in
       elim (value_then c AfterComma due args w ws a.others rest refl refl a.spelled
       (λ due args ts e. more_judged c due args ws ts rest e)) [
-        | inl x ↦ inl (x.0, x.1, Passed-then sig limits p q _ ts _ rest a x.2)
-        | inr y ↦ inr (y.0, Faulty-behind sig limits p q ts _ a y.1)
+        | inl x ↦ inl (x.0, x.1, Passed-then a x.2)
+        | inr y ↦ inr (y.0, Faulty-behind a y.1)
       ]
 
   pub values_judged : (c : Partial) (due : List Sort) (args : List Value) (ws : List Written) (ts : List Lexeme)

@@ -8,7 +8,7 @@ use Rattle.log_reader.specs.declared.fault.LogFault.TheVariants.{Memory}
 use Rattle.log_reader.specs.declared.limits.Limits.{Limits}
 use Rattle.log_reader.specs.declared.next.Next.{Next}
 use Rattle.log_reader.specs.declared.next.Next.TheVariants.{Point, More}
-use Rattle.log_reader.specs.Cursors.{given_of, Leads, Exhausts, Breaks, BreaksBy, AdvancesToPoint, behind_answer}
+use Rattle.log_reader.specs.Cursors.{given_of, Leads, Exhausts, BreaksBy, AdvancesToPoint, behind_answer}
 use Rattle.log_reader.specs.Given.{Gives}
 use Rattle.log_reader.specs.Partials.{Partial}
 use Rattle.log_reader.specs.Progress.{answer_of, skipped}
@@ -50,11 +50,7 @@ module _ (sig : List PredOf) (limits : Limits) (s : Stretch) (from : ℕ) (looke
   Answered answer r = Owed sig limits is_ended s at p answer at' r
 
   advanced : AdvancesTo result
-  advanced =
-      subst (λ (n : ℕ). AdvancesToPoint sig limits n (looked_at limits s)
-      (is_end_told limits s is_ended) at p result at' q)
-      begins (subst (λ (x : Bool). AdvancesToPoint sig limits from (looked_at limits s) x at p result at' q) end
-      (subst (λ (x : List ℕ). AdvancesToPoint sig limits from x told at p result at' q) look a))
+  advanced = rw (begins, look, end) at a
 
   -- the reading of what there is by now
   leads_now : (points : List TimePoint) → LeadsOn points → (last : Partial → Reading)
@@ -95,22 +91,9 @@ module _ (sig : List PredOf) (limits : Limits) (s : Stretch) (from : ℕ) (looke
       }
 
   -- a fault
-  abbrev BreaksHere : LogFault → Type 0
-  BreaksHere fault =
-      Breaks sig limits s.from (looked_at limits s) (is_end_told limits s is_ended) at p fault at' q
-
-  abbrev BreaksByHere : LogFault → Type 0
-  BreaksByHere fault =
-      BreaksBy sig limits s.from (looked_at limits s) (is_end_told limits s is_ended) at p fault at' q
-
-  due_broken : (fault : LogFault) → BreaksHere fault → (log : List ℕ)
-      → StandsForLog sig limits is_ended (given_of p) s at p log
-      → answer_of is_ended (skipped (given_of p) (reading sig limits log is_ended)) ≡ Err fault
-  due_broken fault b log st =
-      due_led [] b.leads log st ∙ ap (λ (r : Reading). answer_of is_ended (behind [] r))
-      (b.again (nothing_left limits log is_ended))
-
-  owed_by : (fault : LogFault) → BreaksByHere fault → Answered (Err fault) q
+  owed_by : (fault : LogFault)
+      → BreaksBy sig limits s.from (looked_at limits s) (is_end_told limits s is_ended) at p fault at' q
+      → Answered (Err fault) q
   owed_by Memory b = record {
     due = λ log st. tt;
     stands = λ fine. absurd cc;
@@ -119,7 +102,8 @@ module _ (sig : List PredOf) (limits : Limits) (s : Stretch) (from : ℕ) (looke
     waits = λ e. absurd cc;
   }
   owed_by fault b = record {
-    due = λ log st. due_broken fault b log st;
+    due = λ log st. due_led [] b.leads log st ∙ ap (λ (r : Reading). answer_of is_ended (behind [] r))
+        (b.again (nothing_left limits log is_ended));
     stands = λ fine. stands_led [] b.leads;
     within = λ fine. within_led [] b.leads;
     counts = omega (arith, b.leads.given);

@@ -1,6 +1,5 @@
 pub mod Lexing
 pub mod Transitions
-pub mod TokenRuns
 pub mod TokenPlaces
 pub mod StepStages
 pub mod TokenSteps
@@ -16,9 +15,7 @@ pub mod Fewness
 pub mod Paths
 pub mod CauseSteps
 pub mod Runs
-pub mod StateCauses
 pub mod FrontSteps
-pub mod FrontLemmas
 pub mod FaultLaws
 pub mod Judging
 pub mod PointJudging

@@ -28,12 +28,6 @@ use Rattle.log_reader.proofs.Runs.{ended_at, at_tail, ending_by, run_paths, run_
 abbrev pub whole : List TimePoint → Reading
 whole points = record { points = points; ending = NoFault }
 
-no_fault : (fault : LogFault) → Fault fault ≡ NoFault → ⊥
-no_fault fault e = cc
-
-none_some : (xs : List TimePoint) → None ≡ Some xs → ⊥
-none_some xs e = cc
-
 no_ending : (r : Result Partial LogFault) → ending_by r ≡ NoFault → (p : Partial) × (r ≡ Ok p)
 no_ending (Ok p) e = (p, refl)
 no_ending (Err fault) e = absurd cc
@@ -66,7 +60,7 @@ module _ (sig : List PredOf) (limits : Limits) (len : ℕ) (ts : List Lexeme) wh
     value = x.1 ∙ ap (λ (r : Reading). Some r.points) (sym x.2.reads ∙ e);
   }
   value_of_read points log spells e (inr y) =
-      absurd (no_fault y.1.fault (ap (λ (r : Reading). r.ending) (sym y.1.reads ∙ e)))
+      let lost : Fault y.1.fault ≡ NoFault = ap (λ (r : Reading). r.ending) (sym y.1.reads ∙ e) in absurd cc
 
   pub tokens_spelled : (points : List TimePoint)
       → run_points sig limits (last sig limits len) nothing_read ts ≡ whole points → Spelled points
@@ -85,7 +79,7 @@ module _ (sig : List PredOf) (limits : Limits) (len : ℕ) (ts : List Lexeme) wh
       → LogJudged sig limits len nothing_read limits.points s.log ts
       → run_points sig limits (last sig limits len) nothing_read ts ≡ whole points
   read_of_value points s (inl x) = x.2.reads ∙ ap whole (same_Some x.0 points (sym x.1 ∙ s.value))
-  read_of_value points s (inr y) = absurd (none_some points (sym y.0 ∙ s.value))
+  read_of_value points s (inr y) = let lost : None ≡ Some points = sym y.0 ∙ s.value in absurd cc
 
   pub spelled_tokens : (points : List TimePoint) → Spelled points
       → run_points sig limits (last sig limits len) nothing_read ts ≡ whole points

@@ -5,7 +5,7 @@ use Rattle.mfotl_lex.specs.Lexemes.{Lexeme, lexeme, next_token, after}
 use Rattle.mfotl_lex.specs.Places.{Place}
 use Rattle.mfotl_lex.specs.Scans.{log_mark}
 use Rattle.mfotl_lex.specs.declared.kind.Kind.{Kind}
-use Rattle.mfotl_lex.specs.declared.kind.Kind.TheVariants.{Word, OpenParen, CloseParen, Comma, At}
+use Rattle.mfotl_lex.specs.declared.kind.Kind.TheVariants.{Word, At}
 use Rattle.mfotl_lex.specs.declared.token.Token.{Token}
 use Rattle.mfotl_model.specs.declared.event.TimePoint.{TimePoint}
 use Rattle.mfotl_sig.specs.Preds.{PredOf, named}
@@ -15,8 +15,6 @@ use Rattle.log_reader.specs.declared.fault.LogFault.{LogFault}
 use Rattle.log_reader.specs.declared.fault.LogFault.TheVariants.{Memory}
 use Rattle.log_reader.specs.declared.limits.Limits.{Limits}
 use Rattle.log_reader.specs.declared.stage.Stage.{Stage}
-use Rattle.log_reader.specs.declared.stage.Stage.TheVariants.{Between, AfterAt, AfterStamp, AfterName, AfterOpen}
-use Rattle.log_reader.specs.declared.stage.Stage.TheVariants.{AfterValue, AfterComma, AfterClose}
 use Rattle.log_reader.specs.Cursors.{IsCounted, TakesToken, StepsOver}
 use Rattle.log_reader.specs.Given.{StateMoves, Stays}
 use Rattle.log_reader.specs.Partials.{Partial, point_of, finished}
@@ -25,55 +23,32 @@ use Rattle.log_reader.specs.Quick.{TakesStraight}
 use Rattle.log_reader.specs.declared.partial.Straight.{Straight}
 use Rattle.log_reader.specs.declared.partial.Straight.TheVariants as straights
 use Rattle.log_reader.specs.Stages.{stage_after, completes, is_whole}
-use Rattle.log_reader.specs.Steps.{step, stepped, point_opened, grouped, group_closed, naming}
+use Rattle.log_reader.specs.Steps.{step, stepped, naming}
 use Rattle.log_reader.specs.Stretches.{place_in}
-use Rattle.log_reader.specs.Symbols.{AtSign, Opening, Closing, Separator, Says, Bare, symbol}
+use Rattle.log_reader.specs.Symbols.{symbol}
 use Rattle.log_reader.specs.Tokens.{blank_before, IsInFront}
 use Rattle.log_reader.proofs.TokenFronts.{mark_seen, blank_past}
 use Rattle.log_reader.proofs.TokenPlaces.{TokenAt, token_at_offset}
+use Rattle.log_reader.proofs.Transitions.{name_goes}
 use Rattle.log_reader.proofs.TokenSteps.{steps_over}
 
-module _ {U : Type 0} (limits : Limits) (p q : Partial) (at : ℕ) (result : Result U LogFault) where
-  steps_mark : (b : ℕ) (kind : Kind) (stage : Stage) → log_mark b ≡ Some kind
-      → stage_after p.stage (symbol (mark_token kind at b)) ≡ Some stage
-      → completes p.stage (symbol (mark_token kind at b)) ≡ false
-      → ((sig : List PredOf) → StateMoves p q result (stepped sig limits p (mark_token kind at b) (Some stage)))
+module _ {U : Type 0} {limits : Limits} {p q : Partial} {at b : ℕ} {result : Result U LogFault} where
+  -- a mark that leads from this stage to that one
+  pub mark_steps : (mark : ℕ) (kind : Kind) (s stage : Stage) → p.stage ≡ s → b ≡ mark → log_mark mark ≡ Some kind
+      → stage_after s (symbol (mark_token kind at mark)) ≡ Some stage
+      → completes s (symbol (mark_token kind at mark)) ≡ false
+      → ((sig : List PredOf) → StateMoves p q result (stepped sig limits p (mark_token kind at mark) (Some stage)))
       → StepsMark limits p at b result q
   unfolding step
-  steps_mark b kind stage is goes_to goes_on moves = record {
-    kind = kind;
-    is = is;
-    goes_on = goes_on;
-    moves = λ sig.
-        subst (StateMoves p q result) (sym (ap (stepped sig limits p (mark_token kind at b)) goes_to)) (moves sig);
-  }
-
-  pub comma_steps : (b : ℕ) → p.stage ≡ AfterValue → b ≡ 44
-      → StateMoves p q result (Ok (record p { stage = AfterComma }))
-      → StepsMark limits p at b result q
-  comma_steps b stage is moves = rw is (steps_mark 44 Comma AfterComma refl
-      (ap (λ (s : Stage). stage_after s Separator) stage) (ap (λ (s : Stage). completes s Separator) stage)
-      (λ sig. moves))
-
-  pub closing_steps : (b : ℕ) → p.stage ≡ AfterValue → b ≡ 41 → StateMoves p q result (group_closed at p p.due)
-      → StepsMark limits p at b result q
-  closing_steps b stage is moves = rw is (steps_mark 41 CloseParen AfterClose refl
-      (ap (λ (s : Stage). stage_after s Closing) stage) (ap (λ (s : Stage). completes s Closing) stage) (λ sig. moves))
-
-  pub opening_steps : (b : ℕ) → p.stage ≡ AfterName → b ≡ 40 → StateMoves p q result (grouped limits at p)
-      → StepsMark limits p at b result q
-  opening_steps b stage is moves = rw is (steps_mark 40 OpenParen AfterOpen refl
-      (ap (λ (s : Stage). stage_after s Opening) stage) (ap (λ (s : Stage). completes s Opening) stage) (λ sig. moves))
-
-  pub again_steps : (b : ℕ) → p.stage ≡ AfterClose → b ≡ 40 → StateMoves p q result (grouped limits at p)
-      → StepsMark limits p at b result q
-  again_steps b stage is moves = rw is (steps_mark 40 OpenParen AfterOpen refl
-      (ap (λ (s : Stage). stage_after s Opening) stage) (ap (λ (s : Stage). completes s Opening) stage) (λ sig. moves))
-
-  pub begin_steps : (b : ℕ) → p.stage ≡ Between → b ≡ 64 → StateMoves p q result (point_opened limits at p)
-      → StepsMark limits p at b result q
-  begin_steps b stage is moves = rw is (steps_mark 64 At AfterAt refl
-      (ap (λ (s : Stage). stage_after s AtSign) stage) (ap (λ (s : Stage). completes s AtSign) stage) (λ sig. moves))
+  mark_steps mark kind s stage there is known goes_to goes_on moves =
+      let x = symbol (mark_token kind at mark) in
+      rw is (record {
+        kind = kind;
+        is = known;
+        goes_on = ap (λ (s : Stage). completes s x) there ∙ goes_on;
+        moves = λ sig. subst (StateMoves p q result) (sym (ap (stepped sig limits p (mark_token kind at mark))
+            (ap (λ (s : Stage). stage_after s x) there ∙ goes_to))) (moves sig);
+      })
 
 -- ---- the front of the bytes
 
@@ -87,8 +62,8 @@ module _ (sig : List PredOf) (limits : Limits) (p q : Partial) (at : ℕ) (bytes
   abbrev mark : Lexeme
   mark = mark_token s.kind at (get_or bytes 0 0)
 
-  pub mark_takes : (u : U) → result ≡ Ok u → TakesTokenInFront sig limits p at bytes 1 q
-  mark_takes u e = record {
+  pub mark_takes : {u : U} → result ≡ Ok u → TakesTokenInFront sig limits p at bytes 1 q
+  mark_takes e = record {
     token = mark;
     front = mark_seen bytes at s.kind some s.is;
     end = refl;
@@ -96,8 +71,8 @@ module _ (sig : List PredOf) (limits : Limits) (p q : Partial) (at : ℕ) (bytes
     steps = subst (λ (r : Result U LogFault). StateMoves p q r (step sig limits p mark)) e (s.moves sig);
   }
 
-  pub mark_halts : (fault : LogFault) → result ≡ Err fault → HaltsFrontBy sig limits p at bytes fault q
-  mark_halts fault e = front_halts sig limits p at bytes fault q (record {
+  pub mark_halts : {fault : LogFault} → result ≡ Err fault → HaltsFrontBy sig limits p at bytes fault q
+  mark_halts {fault} e = front_halts sig limits p at bytes fault q (record {
     token = mark;
     front = mark_seen bytes at s.kind some s.is;
     goes_on = s.goes_on;
@@ -117,17 +92,11 @@ at_completes p q at bytes point some first whole is after = record {
   after = after;
 }
 
-pub plain_word : (bytes : List ℕ) (at : ℕ) (t : Token) → IsInFront bytes at (lexeme t) → t.kind ≡ Word → t.at ≡ at
+pub plain_word : {bytes : List ℕ} {at : ℕ} (t : Token) → IsInFront bytes at (lexeme t) → t.kind ≡ Word → t.at ≡ at
     → IsInFront bytes at (record { kind = Word; at = at; text = t.text.now })
-plain_word bytes at t front kind same =
+plain_word {bytes} {at} t front kind same =
     subst (λ (n : ℕ). IsInFront bytes at (record { kind = Word; at = n; text = t.text.now })) same
     (subst (λ (k : Kind). IsInFront bytes at (record { kind = k; at = t.at; text = t.text.now })) kind front)
-
-name_goes : (s : Stage) (w : List ℕ) → is_whole s ≡ true
-    → (stage_after s (Says (Bare w)) ≡ Some AfterName) × (completes s (Says (Bare w)) ≡ false)
-name_goes AfterStamp w e = (refl, refl)
-name_goes AfterClose w e = (refl, refl)
-name_goes _ w e = absurd cc
 
 module _ (sig : List PredOf) (limits : Limits) (p q : Partial) (at : ℕ) (bytes text : List ℕ)
     (front : IsInFront bytes at (record { kind = Word; at = at; text = text })) (whole : is_whole p.stage ≡ true) where
@@ -139,9 +108,8 @@ module _ (sig : List PredOf) (limits : Limits) (p q : Partial) (at : ℕ) (bytes
   steps_name = ap (stepped sig limits p name) (name_goes p.stage text whole).0
 
   -- a predicate's name behind a whole time-point
-  pub name_takes : {U : Type 0} (u : U) → StateMoves p q (Ok u) (naming at p (named text sig))
-      → TakesTokenInFront sig limits p at bytes (length text) q
-  name_takes u moves = record {
+  pub name_takes : naming at p (named text sig) ≡ Ok q → TakesTokenInFront sig limits p at bytes (length text) q
+  name_takes moves = record {
     token = name;
     front = front;
     end = refl;
@@ -160,27 +128,19 @@ module _ (sig : List PredOf) (limits : Limits) (p q : Partial) (at : ℕ) (bytes
 
 -- ---- at an offset
 
--- the place of a token behind one blank at most
-pub record FrontPlace (looked : List ℕ) (at : ℕ) (front rest : List ℕ) (n : ℕ) : Type 0 where
-  pub front_is : front ≡ drop at looked
-  pub blanks : n ≡ blank_before front
-  pub rest_is : rest ≡ drop n front
-
+-- a token behind one blank at most
 module _ (sig : List PredOf) (limits : Limits) (from : ℕ) (looked : List ℕ) (ended : Bool) (at : ℕ) (p q : Partial)
     (counted : IsCounted p) (within : at ≤ length looked) (front rest : List ℕ) (n : ℕ)
-    (m : FrontPlace looked at front rest n) where
+    (front_is : front ≡ drop at looked) (blanks : n ≡ blank_before front) (rest_is : rest ≡ drop n front) where
   abbrev here : Place
   here = place_in from looked ended at
 
   module _ (t : Lexeme) (f : IsInFront rest (from + at + n) t) where
     in_front : IsInFront front (from + at) t
-    in_front =
-        blank_past front (from + at) t
-        (subst (λ (k : ℕ). IsInFront (drop k front) (from + at + k) t) m.blanks
-        (subst (λ (r : List ℕ). IsInFront r (from + at + n) t) m.rest_is f))
+    in_front = blank_past front (from + at) t (rw (rest_is, blanks) at f)
 
     seen : IsInFront (drop at looked) (from + at) t
-    seen = subst (λ (r : List ℕ). IsInFront r (from + at) t) m.front_is in_front
+    seen = subst (λ (r : List ℕ). IsInFront r (from + at) t) front_is in_front
 
     found : next_token here ≡ Ok (Some t)
     found = seen.is ended
@@ -197,16 +157,16 @@ module _ (sig : List PredOf) (limits : Limits) (from : ℕ) (looked : List ℕ) 
   abbrev IsStraight : Straight → Type 0
   IsStraight step = TakesStraight sig limits p (from + at + n) rest (Ok step) q
 
-  pub front_took : (count : ℕ) (step : Straight) → step ≡ straights.Took count → IsStraight step
+  pub front_took : {count : ℕ} {step : Straight} → step ≡ straights.Took count → IsStraight step
       → TakesToken sig limits from looked ended at p (Ok Took) (at + (n + count)) q
-  front_took count step is taken =
+  front_took {count} is taken =
       let f : TakesTokenInFront sig limits p (from + at + n) rest count q = subst IsStraight is taken in
       takes f.token f.front (at + (n + count)) (omega (arith, f.end)) (Ok Took) (at + (n + count))
       (f.goes_on, f.steps, refl)
 
-  pub front_completed : (point : TimePoint) (step : Straight) → step ≡ straights.Completed point → IsStraight step
+  pub front_completed : {point : TimePoint} {step : Straight} → step ≡ straights.Completed point → IsStraight step
       → TakesToken sig limits from looked ended at p (Ok (Completed point)) at q
-  front_completed point step is taken =
+  front_completed {point} is taken =
       let f : CompletesFront p (from + at + n) rest point q = subst IsStraight is taken in
       let behind = f.token.at + length f.token.text - from in
       let first : from + at + n ≤ f.token.at = f.front.first in

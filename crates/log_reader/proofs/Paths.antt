@@ -15,7 +15,7 @@ use Rattle.log_reader.specs.Stages.{stage_after}
 use Rattle.log_reader.proofs.Transitions.{Transition, begins_first, begins_bare, begins_full, times, names_first}
 use Rattle.log_reader.proofs.Transitions.{names_more, opens_first, opens_more, gives_first, gives_more, separates}
 use Rattle.log_reader.proofs.Transitions.{closes_empty, closes, ends_bare, ends_full, transition}
-use Rattle.log_reader.specs.Symbols.{Symbol, AtSign, Opening, Closing, Separator, Terminator, Says, Written, Bare}
+use Rattle.log_reader.specs.Symbols.{Symbol, Opening, Closing, Says, Written, Bare}
 use Rattle.log_reader.specs.Symbols.{is_digits}
 
 -- the stage behind symbols, if the grammar goes on with each
@@ -56,11 +56,16 @@ spell_from AfterValue r = spell_more r.values (Closing ∷ spell_groups r.groups
 spell_from AfterComma r = Says r.value ∷ spell_more r.values (Closing ∷ spell_groups r.groups (spell_point_rest r))
 spell_from AfterClose r = spell_groups r.groups (spell_point_rest r)
 
+-- a timestamp that is due has digits
+abbrev pub HasDigits : Stage → Parts → Type 0
+HasDigits AfterAt r = is_digits r.stamp ≡ true
+HasDigits _ r = Unit {0}
+
 pub record Tail (s : Stage) (symbols : List Symbol) : Type 0 where
   pub parts : Parts
   pub spelled : symbols ≡ spell_from s parts
   pub stamps : AllByRecursion HasStamp parts.log
-  pub digits : s ≡ AfterAt → is_digits parts.stamp ≡ true
+  pub digits : HasDigits s parts
 
 abbrev nothing : Parts
 nothing = record {
@@ -76,17 +81,15 @@ nothing = record {
 }
 
 -- the symbols from a stage on, where one more stands before
-prepend : (s g : Stage) (x : Symbol) (xs : List Symbol) (parts : Parts) (t : Tail g xs)
-    → x ∷ spell_from g t.parts ≡ spell_from s parts
-    → AllByRecursion HasStamp parts.log → (s ≡ AfterAt → is_digits parts.stamp ≡ true) → Tail s (x ∷ xs)
-prepend s g x xs parts t e stamps digits =
-    record {
-      parts = parts;
-      spelled = ap (λ (ys : List Symbol). x ∷ ys) t.spelled
-          ∙ e;
-      stamps = stamps;
-      digits = digits;
-    }
+prepend : {s g : Stage} {x : Symbol} {xs : List Symbol} (parts : Parts) (t : Tail g xs)
+    → x ∷ spell_from g t.parts ≡ spell_from s parts → AllByRecursion HasStamp parts.log → HasDigits s parts
+    → Tail s (x ∷ xs)
+prepend {s} {g} {x} parts t e stamps digits = record {
+  parts = parts;
+  spelled = ap (λ (ys : List Symbol). x ∷ ys) t.spelled ∙ e;
+  stamps = stamps;
+  digits = digits;
+}
 
 -- the time-point that an `@` begins, before the others
 abbrev with_point : Parts → Parts
@@ -103,53 +106,30 @@ with_mention name r = record r {
 }
 
 -- one symbol more, by where it leads
-before : (s : Stage) (x : Symbol) (g : Stage) (xs : List Symbol) → Transition s x g → Tail g xs → Tail s (x ∷ xs)
-before _ _ _ xs begins_first u =
-    prepend Between AfterAt AtSign xs (with_point u.parts) u refl (u.digits refl, u.stamps) (λ f. absurd cc)
-before _ _ _ xs begins_bare u =
-    prepend AfterStamp AfterAt AtSign xs (with_point u.parts) u refl (u.digits refl, u.stamps) (λ f. absurd cc)
-before _ _ _ xs begins_full u =
-    prepend AfterClose AfterAt AtSign xs (with_point u.parts) u refl (u.digits refl, u.stamps) (λ f. absurd cc)
-before _ _ _ xs (times word digits) u =
-    prepend AfterAt AfterStamp (Says (Bare word)) xs (record u.parts { stamp = word }) u refl u.stamps (λ f. digits)
-before _ _ _ xs (names_first word) u =
-    prepend AfterStamp AfterName (Says (Bare word)) xs (with_mention word u.parts) u refl u.stamps (λ f. absurd cc)
-before _ _ _ xs (names_more word) u =
-    prepend AfterClose AfterName (Says (Bare word)) xs (with_mention word u.parts) u refl u.stamps (λ f. absurd cc)
-before _ _ _ xs opens_first u =
-    prepend AfterName AfterOpen Opening xs (record u.parts { group = u.parts.values }) u refl u.stamps
-    (λ f. absurd cc)
-before _ _ _ xs opens_more u =
-    prepend AfterClose AfterOpen Opening xs
-    (record u.parts { groups = u.parts.values ∷ u.parts.groups }) u refl u.stamps (λ f. absurd cc)
-before _ _ _ xs (gives_first w) u =
-    prepend AfterOpen AfterValue (Says w) xs (record u.parts { values = w ∷ u.parts.values }) u refl u.stamps
-    (λ f. absurd cc)
-before _ _ _ xs (gives_more w) u =
-    prepend AfterComma AfterValue (Says w) xs (record u.parts { value = w }) u refl u.stamps (λ f. absurd cc)
-before _ _ _ xs separates u =
-    prepend AfterValue AfterComma Separator xs
-    (record u.parts { values = u.parts.value ∷ u.parts.values }) u refl u.stamps (λ f. absurd cc)
-before _ _ _ xs closes_empty u =
-    prepend AfterOpen AfterClose Closing xs (record u.parts { values = [] }) u refl u.stamps (λ f. absurd cc)
-before _ _ _ xs closes u =
-    prepend AfterValue AfterClose Closing xs (record u.parts { values = [] }) u refl u.stamps (λ f. absurd cc)
-before _ _ _ xs ends_bare u =
-    prepend AfterStamp Between Terminator xs (record nothing { is_closed = true; log = u.parts.log }) u refl u.stamps
-    (λ f. absurd cc)
-before _ _ _ xs ends_full u =
-    prepend AfterClose Between Terminator xs (record nothing { is_closed = true; log = u.parts.log }) u refl u.stamps
-    (λ f. absurd cc)
+before : {xs : List Symbol} (s : Stage) (x : Symbol) (g : Stage) → Transition s x g → Tail g xs → Tail s (x ∷ xs)
+before _ _ _ begins_first u = prepend (with_point u.parts) u refl (u.digits, u.stamps) tt
+before _ _ _ begins_bare u = prepend (with_point u.parts) u refl (u.digits, u.stamps) tt
+before _ _ _ begins_full u = prepend (with_point u.parts) u refl (u.digits, u.stamps) tt
+before _ _ _ (times word digits) u = prepend (record u.parts { stamp = word }) u refl u.stamps digits
+before _ _ _ (names_first word) u = prepend (with_mention word u.parts) u refl u.stamps tt
+before _ _ _ (names_more word) u = prepend (with_mention word u.parts) u refl u.stamps tt
+before _ _ _ opens_first u = prepend (record u.parts { group = u.parts.values }) u refl u.stamps tt
+before _ _ _ opens_more u =
+    prepend (record u.parts { groups = u.parts.values ∷ u.parts.groups }) u refl u.stamps tt
+before _ _ _ (gives_first w) u = prepend (record u.parts { values = w ∷ u.parts.values }) u refl u.stamps tt
+before _ _ _ (gives_more w) u = prepend (record u.parts { value = w }) u refl u.stamps tt
+before _ _ _ separates u =
+    prepend (record u.parts { values = u.parts.value ∷ u.parts.values }) u refl u.stamps tt
+before _ _ _ closes_empty u = prepend (record u.parts { values = [] }) u refl u.stamps tt
+before _ _ _ closes u = prepend (record u.parts { values = [] }) u refl u.stamps tt
+before _ _ _ ends_bare u = prepend (record nothing { is_closed = true; log = u.parts.log }) u refl u.stamps tt
+before _ _ _ ends_full u = prepend (record nothing { is_closed = true; log = u.parts.log }) u refl u.stamps tt
 
 ends : (s : Stage) → accepts s ≡ true → Tail s []
-ends Between a = record { parts = nothing; spelled = refl; stamps = tt; digits = λ f. absurd cc }
-ends AfterStamp a = record { parts = nothing; spelled = refl; stamps = tt; digits = λ f. absurd cc }
-ends AfterClose a = record { parts = nothing; spelled = refl; stamps = tt; digits = λ f. absurd cc }
+ends Between a = record { parts = nothing; spelled = refl; stamps = tt; digits = tt }
+ends AfterStamp a = record { parts = nothing; spelled = refl; stamps = tt; digits = tt }
+ends AfterClose a = record { parts = nothing; spelled = refl; stamps = tt; digits = tt }
 ends _ a = absurd cc
-
--- where the automaton accepts, the symbols spell what the stage needs
-no_more : (s f : Stage) → Some s ≡ Some f → accepts f ≡ true → Tail s []
-no_more s f e a = ends s (ap accepts (same_Some s f e) ∙ a)
 
 -- the first step of a path
 first_step : (o : Option Stage) (f : Stage) (next : Stage → Option Stage) → option_and_then next o ≡ Some f
@@ -158,10 +138,10 @@ first_step (Some g) f next e = (g, refl, e)
 first_step None f next e = absurd cc
 
 pub tail : (s : Stage) (xs : List Symbol) (f : Stage) → paths s xs ≡ Some f → accepts f ≡ true → Tail s xs
-tail s [] f e a = no_more s f e a
+tail s [] f e a = ends s (ap accepts (same_Some s f e) ∙ a)
 tail s (x ∷ xs) f e a =
     let first = first_step (stage_after s x) f (λ g. paths g xs) e in
-    before s x first.0 xs (transition s x first.0 first.1) (tail first.0 xs f first.2 a)
+    before s x first.0 (transition s x first.0 first.1) (tail first.0 xs f first.2 a)
 
 -- ---- the symbols of a log are accepted
 

@@ -1,5 +1,5 @@
 -- A reading of what a time-point spells goes on exactly where the rules give a value.
-use Rattle.std.proofs.Common.{◌≡◌, ◌⊎◌, inl, inr, ℕ, suc, ◌+◌, ◌≤◌, ◌<◌, false, List, [], ◌∷◌, length, Option, Some}
+use Rattle.std.proofs.Common.{◌≡◌, ◌⊎◌, inl, inr, ℕ, suc, ◌+◌, ◌≤◌, ◌<◌, true, false, List, [], ◌∷◌, length, Option, Some}
 use Rattle.std.proofs.Common.{None, refl, ap, subst, ◌∙◌, arith}
 use Rattle.std.specs.BTreeSet.{insert_key}
 use Rattle.std.proofs.lemmas.Bool.{cases_lt, lt-ltb, le-ltb}
@@ -10,15 +10,16 @@ use Rattle.mfotl_sig.specs.Preds.{PredOf, named}
 use Rattle.log_reader.specs.declared.fault.LogFault.TheVariants.{TooManyEvents, UnknownPredicate}
 use Rattle.log_reader.specs.declared.limits.Limits.{Limits}
 use Rattle.log_reader.specs.declared.stage.Stage.{Stage}
-use Rattle.log_reader.specs.declared.stage.Stage.TheVariants.{AfterStamp, AfterName, AfterOpen, AfterClose}
+use Rattle.log_reader.specs.declared.stage.Stage.TheVariants.{AfterName, AfterOpen, AfterClose}
 use Rattle.log_reader.specs.Grammar.{Mention, spell_values, spell_group, spell_groups, spell_mentions, symbols_of}
 use Rattle.log_reader.specs.Partials.{Partial}
 use Rattle.log_reader.specs.Rules.{groups_value, mentions_value, group_count}
-use Rattle.log_reader.specs.Stages.{stage_after, completes}
+use Rattle.log_reader.specs.Stages.{stage_after, completes, is_whole}
 use Rattle.log_reader.specs.Steps.{stepped, grouped}
 use Rattle.log_reader.specs.Symbols.{Symbol, Opening, Closing, Says, Written, Bare, token_content}
 use Rattle.log_reader.proofs.Judging.{front_of, bare_content, Passed, Faulty, passes, faults, Passed-then}
 use Rattle.log_reader.proofs.Judging.{Faulty-behind, resting, within, values_judged}
+use Rattle.log_reader.proofs.Transitions.{name_goes}
 
 -- a time-point so far of a predicate's groups
 abbrev of_pred : Partial → PredOf → Partial
@@ -57,8 +58,7 @@ module _ (sig : List PredOf) (limits : Limits) where
       let opened = within begun AfterOpen pred.sorts [] in
       elim (cases_lt c.groups limits.events) [
         | inl room ↦
-            let a = passes sig limits stage Opening p opened ts _ f refl h
-            (steps ∙ rw (lt-ltb c.groups limits.events room) refl) in
+            let a = passes sig limits p opened f refl h (steps ∙ rw (lt-ltb c.groups limits.events room) refl) in
             elim (values_judged sig limits begun pred.sorts [] group a.others (spell_groups groups rest) a.spelled) [
               | inl x ↦
                   let c2 = record c {
@@ -66,7 +66,6 @@ module _ (sig : List PredOf) (limits : Limits) where
                     events =
                         insert_key event_cmp c.events (record { pred = pred.number; args = x.0 });
                   } in
-                  let mid = resting (of_pred c2 pred) AfterClose in
                   elim (later c2 x.2.others x.2.spelled (omega arith)) [
                     | inl y ↦
                         let sum : (c.groups + 1) + length groups ≡ c.groups + suc (length groups) = omega arith in
@@ -76,21 +75,19 @@ module _ (sig : List PredOf) (limits : Limits) where
                           omega (arith, y.2),
                           subst (λ (n : ℕ). Passed sig limits p
                               (resting (of_pred (record c { groups = n; events = y.0 }) pred) AfterClose) ts rest) sum
-                              (Passed-then sig limits p opened _ ts _ rest a
-                              (Passed-then sig limits opened mid _ a.others _ rest x.2 y.3)),
+                              (Passed-then a (Passed-then x.2 y.3)),
                         )
                     | inr z ↦ inr (
                       elim z.0 [ inl none ↦ inl (rw x.1 none) | inr many ↦ inr (omega (arith, many)) ],
-                      Faulty-behind sig limits p opened ts _ a
-                          (Faulty-behind sig limits opened mid a.others _ x.2 z.1),
+                      Faulty-behind a (Faulty-behind x.2 z.1),
                     )
                   ]
-              | inr y ↦ inr (inl (rw y.0 refl), Faulty-behind sig limits p opened ts _ a y.1)
+              | inr y ↦ inr (inl (rw y.0 refl), Faulty-behind a y.1)
             ]
         | inr full ↦ inr (
           inr (omega (arith, full)),
-          faults sig limits stage Opening p
-              (TooManyEvents f.token.at) ts _ f refl h (steps ∙ rw (le-ltb c.groups limits.events full) refl),
+          faults sig limits p (TooManyEvents f.token.at) f refl h
+              (steps ∙ rw (le-ltb c.groups limits.events full) refl),
         )
       ]
 
@@ -116,18 +113,6 @@ module _ (sig : List PredOf) (limits : Limits) where
 
   -- ---- predicates with their groups
 
-  -- a stage at which a time-point is whole: a name may follow
-  pub record IsOpen (stage : Stage) : Type 0 where
-    pub goes : (name : List ℕ) → stage_after stage (Says (Bare name)) ≡ Some AfterName
-    pub none : (name : List ℕ) → completes stage (Says (Bare name)) ≡ false
-    pub whole : (stage ≡ AfterStamp) ⊎ (stage ≡ AfterClose)
-
-  pub after_stamp : IsOpen AfterStamp
-  after_stamp = record { goes = λ name. refl; none = λ name. refl; whole = inl refl }
-
-  pub after_close : IsOpen AfterClose
-  after_close = record { goes = λ name. refl; none = λ name. refl; whole = inr refl }
-
   -- the events of a time-point were read
   pub record MentionsRead (c : Partial) (stage : Stage) (mentions : List Mention) (ts : List Lexeme)
       (rest : List Symbol) : Type 0 where
@@ -136,7 +121,7 @@ module _ (sig : List PredOf) (limits : Limits) where
     pub events : mentions_value sig c.events mentions ≡ Some there.events
     pub few : c.groups + group_count mentions ≤ limits.events
     pub passed : Passed sig limits (resting c stage) (resting there at) ts rest
-    pub whole : (at ≡ AfterStamp) ⊎ (at ≡ AfterClose)
+    pub whole : is_whole at ≡ true
     pub points : there.points ≡ c.points
     pub time : there.time ≡ c.time
 
@@ -147,7 +132,7 @@ module _ (sig : List PredOf) (limits : Limits) where
       × Faulty sig limits (resting c stage) ts)
 
   named_judged : (found : Option PredOf) (c : Partial) (stage : Stage) (m : Mention) (mentions : List Mention)
-      (ts : List Lexeme) (rest : List Symbol) → IsOpen stage
+      (ts : List Lexeme) (rest : List Symbol) → is_whole stage ≡ true
       → named m.name sig ≡ found → symbols_of ts ≡ spell_mentions (m ∷ mentions) rest
       → ((c : Partial) (ts : List Lexeme) → symbols_of ts ≡ spell_mentions mentions rest → c.groups ≤ limits.events
       → MentionsJudged c AfterClose mentions ts rest)
@@ -159,37 +144,34 @@ module _ (sig : List PredOf) (limits : Limits) where
       let says : token_content f.token ≡ m.name = bare_content f.token.kind (token_content f.token) m.name f.is in
       inr (
         inl (rw n refl),
-        faults sig limits stage (Says (Bare m.name)) p (UnknownPredicate f.token.at) ts _ f refl (o.none m.name)
-            (rw (o.goes m.name, says, n)),
+        faults sig limits p (UnknownPredicate f.token.at) f refl (name_goes stage m.name o).1
+            (rw ((name_goes stage m.name o).0, says, n)),
       )
   named_judged (Some pred) c stage m mentions ts rest o n e later =
       let p = resting c stage in
       let f = front_of ts (Says (Bare m.name)) _ e in
       let says : token_content f.token ≡ m.name = bare_content f.token.kind (token_content f.token) m.name f.is in
       let q = resting (of_pred c pred) AfterName in
-      let a = passes sig limits stage (Says (Bare m.name)) p q ts _ f refl (o.none m.name)
-      (rw (o.goes m.name, says, n)) in
+      let a = passes sig limits p q f refl (name_goes stage m.name o).1 (rw ((name_goes stage m.name o).0, says, n)) in
       let inner = spell_mentions mentions rest in
       elim (one_group pred c AfterName m.first m.more a.others inner refl refl a.spelled
       (λ c ts e room. groups_judged pred m.more c ts inner e room)) [
         | inl x ↦
             let c2 = of_pred (grown c (suc (length m.more)) x.0) pred in
-            let mid = resting c2 AfterClose in
             elim (later c2 x.3.others x.3.spelled x.2) [
               | inl y ↦ inl (record {
                 there = y.there;
                 at = y.at;
                 events = rw (n, x.1) y.events;
                 few = omega (arith, y.few);
-                passed = Passed-then sig limits p q _ ts _ rest a
-                    (Passed-then sig limits q mid _ a.others _ rest x.3 y.passed);
+                passed = Passed-then a (Passed-then x.3 y.passed);
                 whole = y.whole;
                 points = y.points;
                 time = y.time;
               })
               | inr z ↦ inr (
                 elim z.0 [ inl none ↦ inl (rw (n, x.1) none) | inr many ↦ inr (omega (arith, many)) ],
-                Faulty-behind sig limits p q ts _ a (Faulty-behind sig limits q mid a.others _ x.3 z.1),
+                Faulty-behind a (Faulty-behind x.3 z.1),
               )
             ]
         | inr y ↦ inr (
@@ -198,12 +180,12 @@ module _ (sig : List PredOf) (limits : Limits) where
             | inr many ↦
                 inr (omega (arith, many))
           ],
-          Faulty-behind sig limits p q ts _ a y.1,
+          Faulty-behind a y.1,
         )
       ]
 
   pub mentions_judged : (mentions : List Mention) (c : Partial) (stage : Stage) (ts : List Lexeme)
-      (rest : List Symbol) → IsOpen stage → symbols_of ts ≡ spell_mentions mentions rest
+      (rest : List Symbol) → is_whole stage ≡ true → symbols_of ts ≡ spell_mentions mentions rest
       → c.groups ≤ limits.events → MentionsJudged c stage mentions ts rest
   unfolding mentions_value
   mentions_judged [] c stage ts rest o e room =
@@ -213,10 +195,10 @@ module _ (sig : List PredOf) (limits : Limits) where
         events = refl;
         few = omega arith;
         passed = record { others = ts; spelled = e; reads = λ last. refl };
-        whole = o.whole;
+        whole = o;
         points = refl;
         time = refl;
       })
   mentions_judged (m ∷ mentions) c stage ts rest o e room =
       named_judged (named m.name sig) c stage m mentions ts rest o refl e
-      (λ c ts e room. mentions_judged mentions c AfterClose ts rest after_close e room)
+      (λ c ts e room. mentions_judged mentions c AfterClose ts rest refl e room)

@@ -1,6 +1,6 @@
 -- What a reader keeps true of the bytes, the offset and what was read before it.
 use Rattle.std.proofs.Common.{◌≡◌, ℕ, ◌+◌, ◌-◌, ◌≤◌, Bool, true, false, cond, List, [], ◌∷◌, ◌++◌, length, drop, nat_lt}
-use Rattle.std.proofs.Common.{None, Result, Ok, Err, refl, sym, ap, subst, ◌∙◌, arith, append_assoc, append-nil}
+use Rattle.std.proofs.Common.{None, Result, Ok, Err, refl, sym, ap, ap₂, subst, ◌∙◌, arith, append_assoc, append-nil}
 use Rattle.std.proofs.lemmas.Bool.{cond_both, ltb-false}
 use Rattle.std.proofs.lemmas.List.{length-drop, length-append, length-take, drop-drop, take_all, nil_from_length}
 use Rattle.std.proofs.Math.Seq.{drop-append_seam, take-nil}
@@ -28,20 +28,16 @@ use Rattle.log_reader.specs.Soundness.{Remains, StandsForLog, IsInStretch, Stand
 use Rattle.log_reader.specs.Stretches.{Stretch, Waits, stretch_end, with_piece, looked_at, is_end_told, stretch_place}
 use Rattle.log_reader.specs.Stretches.{forgotten}
 use Rattle.log_reader.specs.Stretches as stretches
-use Rattle.log_reader.proofs.StretchLemmas.{further, place_grown, later_told, place_now, behind_place, behind_end}
+use Rattle.log_reader.proofs.StretchLemmas.{further, place_grown, later_told, behind_place, behind_end}
 use Rattle.log_reader.proofs.StretchLemmas.{shortened_end, shortened_place}
-use Rattle.log_reader.proofs.TokenRuns.{none_run}
+use Rattle.log_reader.proofs.TokenPlaces.{none_run}
 use Rattle.log_reader.proofs.TokenSteps.{later_self}
-
-same_reading : (r : Reading) (points : List TimePoint) (ending : Ending) → points ≡ r.points → ending ≡ r.ending
-    → record { points = points; ending = ending } ≡ r
-same_reading r points ending p e = rw (p, e) refl
 
 -- behind the first time-points of a reading comes the rest
 skip_more : (n : ℕ) (points : List TimePoint) (all rest : Reading) → skipped n all ≡ behind points rest
     → skipped (n + length points) all ≡ rest
 skip_more n points all rest e =
-    same_reading rest (drop (n + length points) all.points) all.ending
+    ap₂ (λ (ps : List TimePoint) (end : Ending). record { points = ps; ending = end })
     (sym (drop-drop (length points) n all.points) ∙ ap (drop (length points)) (ap (λ (r : Reading). r.points) e)
     ∙ drop-append_seam points rest.points)
     (ap (λ (r : Reading). r.ending) e)
@@ -84,36 +80,29 @@ asks_by : (limits : Limits) (len : ℕ) (long ended : Bool) (p : Partial) (stage
 asks_by limits len true ended p stage l e = absurd cc
 asks_by limits len false false p stage l e = record { short = l; untold = refl }
 asks_by limits len false true p Between l e = absurd cc
-asks_by limits len false true p AfterStamp l e = absurd cc
-asks_by limits len false true p AfterClose l e = absurd cc
 asks_by limits len false true p _ l e = absurd cc
 
-module _ (sig : List PredOf) (limits : Limits) (log : List ℕ) where
-  moves : (later : Bool) (more : List ℕ) (given : ℕ) (p q : Partial) (place place' : Place) (points : List TimePoint)
-      → Remains sig limits (log ++ more) later given p place
-      → (let last = nothing_left limits (log ++ more) later in
-      run_from sig limits last p place ≡ behind points (run_from sig limits last q place'))
-      → Remains sig limits (log ++ more) later (given + length points) q place'
-  moves later more given p q place place' points r e =
-      let all = reading sig limits (log ++ more) later in
-      let here = r.rest ∙ e in
-      let len : length (drop given all.points)
-      ≡ length points + length (run_from sig limits (nothing_left limits (log ++ more) later) q place').points
-      = ap (λ (x : Reading). length x.points) here ∙ length-append points _ in
-      record {
-        rest = skip_more given points all _ here;
-        few = omega (arith, len, r.few, length-drop given all.points);
-      }
+moves : {sig : List PredOf} {limits : Limits} {log : List ℕ} {later : Bool} {given : ℕ} {p q : Partial}
+    {place place' : Place} (points : List TimePoint) → Remains sig limits log later given p place
+    → run_from sig limits (nothing_left limits log later) p place
+    ≡ behind points (run_from sig limits (nothing_left limits log later) q place')
+    → Remains sig limits log later (given + length points) q place'
+moves {sig} {limits} {log} {later} {given} {p} {q} {place} {place'} points r e =
+    let all = reading sig limits log later in
+    let len : length (drop given all.points)
+    ≡ length points + length (run_from sig limits (nothing_left limits log later) q place').points =
+    ap (λ (x : Reading). length x.points) (r.rest ∙ e) ∙ length-append points _ in
+    record {
+      rest = skip_more given points all _ (r.rest ∙ e);
+      few = omega (arith, len, r.few, length-drop given all.points);
+    }
 
+module _ (sig : List PredOf) (limits : Limits) (log : List ℕ) where
   module _ (is_ended : Bool) (s : Stretch) (given : ℕ) where
     -- what remains now
     pub remains_now : (at : ℕ) (p : Partial) → StandsForLog sig limits is_ended given s at p log
         → Remains sig limits log is_ended given p (stretch_place limits s is_ended at)
-    remains_now at p st =
-        subst (λ (place : Place). Remains sig limits log is_ended given p place) (place_now limits s is_ended at)
-        (subst (λ (bytes : List ℕ). Remains sig limits bytes is_ended given p
-        (stretch_place limits (with_piece s []) is_ended at)) (append-nil log)
-        (st.remains [] is_ended (later_self is_ended)))
+    remains_now at p st = rw (append-nil log, append-nil s.bytes) at (st.remains [] is_ended (later_self is_ended))
 
     pub stands_leads : (at at' : ℕ) (p q : Partial) (points : List TimePoint)
         → at ≤ length (looked_at limits s) → StandsForLog sig limits is_ended given s at p log
@@ -130,7 +119,7 @@ module _ (sig : List PredOf) (limits : Limits) (log : List ℕ) where
           (later_told limits s is_ended later more is) last
           ∙ ap (λ (place : Place). behind points (run_from sig limits last q place))
           (sym (place_grown limits s is_ended later more at' l.within)) in
-          moves later more given p q _ _ points (st.remains more later is) on;
+          moves points (st.remains more later is) on;
     }
 
     -- behind the last time-point, which the end completes
@@ -141,28 +130,19 @@ module _ (sig : List PredOf) (limits : Limits) (log : List ℕ) where
       len = st.len;
       remains = λ more later is.
           let none : (more ≡ []) × (later ≡ true) = rw w.told at is in
-          rw (none.0, none.1) (last_point tt);
+          rw (none.0, none.1, append-nil log, append-nil s.bytes) (rw w.told at last_point);
     }
       where
-        last_point : (u : Unit {0}) → Remains sig limits (log ++ []) true (given + 1) (finished p)
-            (stretch_place limits (with_piece s []) true at)
-        last_point u =
-            let place = stretch_place limits (with_piece s []) true at in
-            let last = nothing_left limits (log ++ []) true in
-            let len : length (log ++ []) ≡ stretch_end s = ap length (append-nil log) ∙ st.len in
-            let found : next_token place ≡ Ok None =
-            ap next_token (place_now limits s true at) ∙ rw w.told at empty in
-            let here : run_from sig limits last p place ≡ record { points = point_of p ∷ []; ending = NoFault } =
-            none_run sig limits last p place found
-            ∙ ap (λ (n : ℕ). nothing_behind limits n true p) len ∙ rw w.told at w.here in
-            let then : run_from sig limits last (finished p) place ≡ record { points = []; ending = NoFault } =
-            none_run sig limits last (finished p) place found
-            ∙ ap (λ (n : ℕ). nothing_behind limits n true (finished p)) len ∙ rw w.told at w.behind in
-            let both : run_from sig limits last p place
-            ≡ behind (point_of p ∷ []) (run_from sig limits last (finished p) place) =
-            here ∙ ap (λ (r : Reading). behind (point_of p ∷ []) r) (sym then) in
-            moves true [] given p (finished p) place place (point_of p ∷ [])
-            (st.remains [] true (rw w.told (refl, refl))) both
+        ended_at : (q : Partial)
+            → run_from sig limits (nothing_left limits log is_ended) q (stretch_place limits s is_ended at)
+            ≡ nothing_behind limits (stretch_end s) is_ended q
+        ended_at q =
+            none_run sig limits (nothing_left limits log is_ended) q (stretch_place limits s is_ended at) empty
+            ∙ ap (λ (n : ℕ). nothing_behind limits n is_ended q) st.len
+
+        last_point : Remains sig limits log is_ended (given + 1) (finished p) (stretch_place limits s is_ended at)
+        last_point = moves (point_of p ∷ []) (remains_now at p st) (ended_at p ∙ w.here
+            ∙ ap (λ (r : Reading). behind (point_of p ∷ []) r) (sym (ended_at (finished p) ∙ w.behind)))
 
     -- what is due is what the rest gives
     pub due_rest : (at : ℕ) (p : Partial) → StandsForLog sig limits is_ended given s at p log

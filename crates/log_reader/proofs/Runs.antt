@@ -11,7 +11,7 @@ use Rattle.log_reader.specs.declared.fault.LogFault.{LogFault}
 use Rattle.log_reader.specs.declared.fault.LogFault.TheVariants.{Syntax, TooLong}
 use Rattle.log_reader.specs.declared.limits.Limits.{Limits}
 use Rattle.log_reader.specs.declared.stage.Stage.{Stage}
-use Rattle.log_reader.specs.declared.stage.Stage.TheVariants.{Between, AfterStamp, AfterClose}
+use Rattle.log_reader.specs.declared.stage.Stage.TheVariants.{Between}
 use Rattle.log_reader.specs.Grammar.{symbols_of}
 use Rattle.log_reader.specs.LogTexts.{is_long, tail_behind, log_text, tokens_of}
 use Rattle.log_reader.specs.Partials.{Partial, nothing_read}
@@ -50,7 +50,7 @@ module _ (sig : List PredOf) (limits : Limits) where
   run_paths p q [] e = let same : p ≡ q = cc in ap (λ (r : Partial). Some r.stage) same
   run_paths p q (t ∷ ts) e =
       let first = bind_ok (step sig limits p t) (λ r. run (step sig limits) ts r) q e in
-      ap (option_and_then (λ g. paths g (symbols_of ts))) (step_goes sig limits p first.0 t first.1)
+      ap (option_and_then (λ g. paths g (symbols_of ts))) (step_goes sig limits p t first.0 first.1).stage
       ∙ run_paths first.0 q ts first.2
 
   module _ (last : Partial → Reading) (ends : Partial → Result Partial LogFault)
@@ -74,8 +74,6 @@ module _ (sig : List PredOf) (limits : Limits) where
 pub finish_ending : (n : ℕ) (p : Partial) (stage : Stage)
     → (finish_at n p stage).ending ≡ ending_by (ended_at n p stage)
 finish_ending n p Between = refl
-finish_ending n p AfterStamp = refl
-finish_ending n p AfterClose = refl
 finish_ending n p _ = refl
 
 left_ending : (limit n : ℕ) (long ended : Bool) (p : Partial)

@@ -2,7 +2,7 @@
 use Rattle.std.proofs.Common.{◌≡◌, ℕ, suc, zero, ◌+◌, ◌-◌, ◌≤◌, Bool, true, false, not, ◌&&◌, nat_lt, List, [], ◌∷◌}
 use Rattle.std.proofs.Common.{◌++◌, length, take, drop, refl, sym, ap, ap₂, ◌∙◌, inl, inr, arith, append-nil}
 use Rattle.std.specs.Prelude.{◌==◌}
-use Rattle.std.proofs.lemmas.Bool.{cases_Bool, eqb-true}
+use Rattle.std.proofs.lemmas.Bool.{cases_Bool, eqb-true, cond_both}
 use Rattle.std.proofs.lemmas.List.{length-append, length-drop, length-take, drop-append-le, take_all}
 use Rattle.std.proofs.Math.Seq.{take-nil}
 use Rattle.mfotl_lex.proofs.ShorteningLemmas.{shortening}
@@ -60,10 +60,6 @@ module _ (limits : Limits) (s : Stretch) where
       rw (none, same, append-nil s.bytes, take-nil (limits.bytes - s.from - length s.bytes))
       (later_self (true && not (nat_lt limits.bytes (stretch_end s))))
   later_told false later more is = tt
-
-  pub place_now : (ended : Bool) (at : ℕ)
-      → stretch_place limits (with_piece s []) ended at ≡ stretch_place limits s ended at
-  place_now ended at = rw (append-nil s.bytes) refl
 
   -- ---- without what is done with
 
@@ -153,10 +149,7 @@ module _ (limits : Limits) (from : ℕ) where
 pub comment_within : (bytes : List ℕ) → comment_of bytes ≤ length bytes
 comment_within [] = omega arith
 comment_within (b ∷ bytes) =
-    elim (cases_Bool (b == hash)) [
-      | inl is ↦ rw is (omega arith)
-      | inr other ↦ rw other (omega arith)
-    ]
+    cond_both (b == hash) _ _ (λ (n : ℕ). n ≤ suc (length bytes)) (λ _. omega arith) (λ _. omega arith)
 
 pub shortened_end : (s : Stretch) → stretch_end (shortened s) ≡ stretch_end s
 shortened_end s =

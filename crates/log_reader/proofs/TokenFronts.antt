@@ -1,36 +1,35 @@
 -- What is seen straight in a log's bytes is what a lexer would find there.
-use Rattle.std.proofs.Common.{◌≡◌, ℕ, ◌+◌, ◌≤◌, ◌<◌, Bool, true, false, List, [], ◌∷◌, length, take, drop, cond}
-use Rattle.std.proofs.Common.{Option, Some, None, Result, Ok, Err, IfSome, get_or, refl, sym, ap, subst, ◌∙◌, inl, inr}
+use Rattle.std.proofs.Common.{◌≡◌, ℕ, ◌+◌, ◌≤◌, ◌<◌, Bool, true, false, List, [], ◌∷◌, length, take, drop}
+use Rattle.std.proofs.Common.{Option, Some, None, Ok, IfSome, get_or, refl, sym, ap, subst, ◌∙◌, inl, inr}
 use Rattle.std.proofs.Common.{arith}
 use Rattle.std.specs.Prelude.{◌==◌}
 use Rattle.std.specs.List.{prefix_len}
-use Rattle.std.proofs.lemmas.Bool.{cases_Bool, eqb-true, le-ltb, lt-ltb, or_right}
+use Rattle.std.proofs.lemmas.Bool.{cases_Bool, eqb-true, le-ltb, lt-ltb, or_right, cond_both}
+use Rattle.std.proofs.lemmas.Bool.Decides.{nat_tests}
 use Rattle.std.proofs.lemmas.List.{length-take}
 use Rattle.mfotl_lex.proofs.BlankLemmas.{blank_len-none, blank_space}
-use Rattle.mfotl_lex.proofs.Sequence.{next_is, after_is, scan_at, tokens_step}
+use Rattle.mfotl_lex.proofs.GrowingLemmas.{tokens_same}
+use Rattle.mfotl_lex.proofs.Sequence.{next_is, after_is, scan_at}
 use Rattle.mfotl_lex.specs.Blanks.{blank_len}
 use Rattle.mfotl_lex.specs.Bytes.{quote, hash, is_space, in_log_word}
 use Rattle.mfotl_lex.specs.Lexemes.{Lexeme, lexeme, past_blanks, token_at, place_after, next_token, after, tokens}
-use Rattle.mfotl_lex.specs.Lexemes.{followed}
 use Rattle.mfotl_lex.specs.Limits.{max_log_word}
 use Rattle.mfotl_lex.specs.Places.{Place}
 use Rattle.mfotl_lex.specs.Scans.{log_scan, log_mark}
-use Rattle.mfotl_lex.specs.declared.fault.LexFault.{LexFault}
 use Rattle.mfotl_lex.specs.declared.kind.Kind.{Kind}
 use Rattle.mfotl_lex.specs.declared.kind.Kind.TheVariants.{Word}
 use Rattle.mfotl_lex.specs.declared.scan.Scan.{Scan}
 use Rattle.mfotl_lex.specs.declared.scan.Scan.TheVariants.{Unshown, Takes, Fails}
 use Rattle.mfotl_lex.specs.declared.token.Token.{Token}
 use Rattle.log_reader.specs.Tokens.{front_of, blank_before, IsInFront}
-use Rattle.log_reader.proofs.WordLexing.{no_blank, no_comment}
 
 -- a whole token without blanks before it
-record IsWhole (bytes : List ℕ) (kind : Kind) (n : ℕ) : Type 0 where
-  scanned : (ended : Bool) → log_scan ended bytes ≡ Takes kind n
-  bare : (ended : Bool) → blank_len ended bytes ≡ 0
-  inner : n ≤ length bytes
+pub record IsWhole (bytes : List ℕ) (kind : Kind) (n : ℕ) : Type 0 where
+  pub scanned : (ended : Bool) → log_scan ended bytes ≡ Takes kind n
+  pub bare : (ended : Bool) → blank_len ended bytes ≡ 0
+  pub inner : n ≤ length bytes
 
-in_front : (bytes : List ℕ) (at : ℕ) (kind : Kind) (n : ℕ) → IsWhole bytes kind n
+pub in_front : (bytes : List ℕ) (at : ℕ) (kind : Kind) (n : ℕ) → IsWhole bytes kind n
     → IsInFront bytes at (record { kind = kind; at = at; text = take n bytes })
 in_front bytes at kind n w = record {
   is = λ ended.
@@ -53,26 +52,15 @@ record Marks (b : ℕ) : Type 0 where
   text : (b == quote) ≡ false
 
 marks_of : (b : ℕ) (kind : Kind) → log_mark b ≡ Some kind → Marks b
-marks_of b kind e =
-    elim (cases_Bool (b == 64)) [
-      | inl is ↦ rw (eqb-true b 64 is) (record { space = refl; comment = refl; word = refl; text = refl })
-      | inr not64 ↦ elim (cases_Bool (b == 40)) [
-        | inl is ↦ rw (eqb-true b 40 is) (record { space = refl; comment = refl; word = refl; text = refl })
-        | inr not40 ↦ elim (cases_Bool (b == 41)) [
-          | inl is ↦ rw (eqb-true b 41 is) (record { space = refl; comment = refl; word = refl; text = refl })
-          | inr not41 ↦ elim (cases_Bool (b == 44)) [
-            | inl is ↦ rw (eqb-true b 44 is) (record { space = refl; comment = refl; word = refl; text = refl })
-            | inr not44 ↦ elim (cases_Bool (b == 59)) [
-              | inl is ↦ rw (eqb-true b 59 is) (record { space = refl; comment = refl; word = refl; text = refl })
-              | inr not59 ↦
-                  let lost : None ≡ Some kind = rw (not64, not40, not41, not44, not59) at e in absurd cc
-            ]
-          ]
-        ]
-      ]
-    ]
+marks_of b kind =
+    let P : Option Kind → Type 0 = λ o. o ≡ Some kind → Marks b in
+    cond_both (b == 64) _ _ P (λ is _. rw (eqb-true b 64 is) (search arith))
+    (λ _. cond_both (b == 40) _ _ P (λ is _. rw (eqb-true b 40 is) (search arith))
+    (λ _. cond_both (b == 41) _ _ P (λ is _. rw (eqb-true b 41 is) (search arith))
+    (λ _. cond_both (b == 44) _ _ P (λ is _. rw (eqb-true b 44 is) (search arith))
+    (λ _. cond_both (b == 59) _ _ P (λ is _. rw (eqb-true b 59 is) (search arith)) (λ _ e. absurd cc)))))
 
-mark_whole : (b : ℕ) (more : List ℕ) (kind : Kind) → log_mark b ≡ Some kind → IsWhole (b ∷ more) kind 1
+pub mark_whole : (b : ℕ) (more : List ℕ) (kind : Kind) → log_mark b ≡ Some kind → IsWhole (b ∷ more) kind 1
 unfolding log_scan
 mark_whole b more kind e =
     let m = marks_of b kind e in
@@ -82,11 +70,13 @@ mark_whole b more kind e =
       inner = omega arith;
     }
 
-pub mark_in_front : (b : ℕ) (more : List ℕ) (at : ℕ) (kind : Kind) → log_mark b ≡ Some kind
-    → IsInFront (b ∷ more) at (record { kind = kind; at = at; text = b ∷ [] })
-mark_in_front b more at kind e = in_front (b ∷ more) at kind 1 (mark_whole b more kind e)
-
 -- ---- words
+
+no_blank : (b : ℕ) → in_log_word b ≡ true → is_space b ≡ false
+no_blank b h = grind (arith, nat_tests)
+
+no_comment : (b : ℕ) → in_log_word b ≡ true → (b == hash) ≡ false
+no_comment b h = grind (arith, nat_tests)
 
 first_in : (b : ℕ) (bytes : List ℕ) (n : ℕ) → prefix_len in_log_word (b ∷ bytes) ≡ n → 0 < n
     → in_log_word b ≡ true
@@ -96,7 +86,7 @@ first_in b bytes n e some =
       | inr not ↦ let none : 0 ≡ n = rw not at e in absurd (omega (arith, none, some))
     ]
 
-word_whole : (bytes : List ℕ) (n : ℕ) → prefix_len in_log_word bytes ≡ n → 0 < n → n ≤ 4096
+pub word_whole : (bytes : List ℕ) (n : ℕ) → prefix_len in_log_word bytes ≡ n → 0 < n → n ≤ 4096
     → n < length bytes → IsWhole bytes Word n
 unfolding log_scan
 word_whole [] n e some few inner = absurd (omega (arith, inner))
@@ -153,18 +143,9 @@ module _ (b : ℕ) (bytes : List ℕ) (at : ℕ) (space : is_space b ≡ true) (
       ∙ same_behind here there (past_blanks there) (scan_at there) t (sym (next_is there) ∙ e)
       ∙ sym (after_is there)
 
-  same_followed : (r : Result (Option Lexeme) LexFault) → next_token there ≡ r
-      → followed r (tokens (after here)) ≡ followed r (tokens (after there))
-  same_followed (Ok (Some t)) e = ap (λ (q : Place). followed (Ok (Some t)) (tokens q)) (same_after t e)
-  same_followed (Ok None) e = refl
-  same_followed (Err fault) e = refl
-
   -- the tokens are those behind it
   pub blank_tokens : tokens here ≡ tokens there
-  blank_tokens =
-      tokens_step here
-      ∙ ap (λ (r : Result (Option Lexeme) LexFault). followed r (tokens (after here))) same_next
-      ∙ same_followed (next_token there) refl ∙ sym (tokens_step there)
+  blank_tokens = tokens_same here there (past_blank ended b bytes at space)
 
 -- a token behind a blank is in front of both
 pub blank_in_front : (b : ℕ) (bytes : List ℕ) (at : ℕ) (t : Lexeme) → is_space b ≡ true
@@ -185,34 +166,28 @@ pub word_at : (bytes : List ℕ) (at n : ℕ) (text : List ℕ) → n ≡ prefix
 word_at bytes at n text e some few inner within is =
     rw is (word_in_front bytes at n (sym e) (omega (arith, some)) few (omega (arith, inner, within)))
 
+-- a mark is the first byte
+pub mark_seen : (bytes : List ℕ) (at : ℕ) (kind : Kind) → 1 ≤ length bytes → log_mark (get_or bytes 0 0) ≡ Some kind
+    → IsInFront bytes at (record { kind = kind; at = at; text = get_or bytes 0 0 ∷ [] })
+mark_seen [] at kind some e = absurd (omega (arith, some))
+mark_seen (b ∷ bytes) at kind some e = in_front (b ∷ bytes) at kind 1 (mark_whole b bytes kind e)
+
 pub mark_at : (bytes : List ℕ) (at : ℕ) (kind : Kind) (text : List ℕ) → 1 ≤ length bytes
     → log_mark (get_or bytes 0 0) ≡ Some kind → text ≡ take 1 bytes
     → IsInFront bytes at (record { kind = kind; at = at; text = text })
 mark_at [] at kind text some e is = absurd (omega (arith, some))
-mark_at (b ∷ bytes) at kind text some e is = rw is (mark_in_front b bytes at kind e)
-
--- the same of the first byte
-pub mark_seen : (bytes : List ℕ) (at : ℕ) (kind : Kind) → 1 ≤ length bytes → log_mark (get_or bytes 0 0) ≡ Some kind
-    → IsInFront bytes at (record { kind = kind; at = at; text = get_or bytes 0 0 ∷ [] })
-mark_seen [] at kind some e = absurd (omega (arith, some))
-mark_seen (b ∷ bytes) at kind some e = mark_in_front b bytes at kind e
-
-in_front_of : (b : ℕ) (bytes : List ℕ) (at : ℕ) (t : Lexeme) (space : Bool) → is_space b ≡ space
-    → IsInFront (drop (cond space 1 0) (b ∷ bytes)) (at + cond space 1 0) t → IsInFront (b ∷ bytes) at t
-in_front_of b bytes at t true is f = blank_in_front b bytes at t is f
-in_front_of b bytes at t false is f =
-    let same : at + 0 ≡ at = omega arith in subst (λ (n : ℕ). IsInFront (b ∷ bytes) n t) same f
+mark_at (b ∷ bytes) at kind text some e is = rw is (mark_seen (b ∷ bytes) at kind some e)
 
 pub blank_past : (bytes : List ℕ) (at : ℕ) (t : Lexeme)
     → IsInFront (drop (blank_before bytes) bytes) (at + blank_before bytes) t → IsInFront bytes at t
 blank_past [] at t f = let same : at + 0 ≡ at = omega arith in subst (λ (n : ℕ). IsInFront [] n t) same f
-blank_past (b ∷ bytes) at t f = in_front_of b bytes at t (is_space b) refl f
+blank_past (b ∷ bytes) at t f =
+    cond_both (is_space b) 1 0 (λ (n : ℕ). IsInFront (drop n (b ∷ bytes)) (at + n) t → IsInFront (b ∷ bytes) at t)
+    (λ space. blank_in_front b bytes at t space)
+    (λ _ f. let same : at + 0 ≡ at = omega arith in subst (λ (n : ℕ). IsInFront (b ∷ bytes) n t) same f) f
 
 pub blank_at : (bytes : List ℕ) (at n : ℕ) (behind : List ℕ) (token : Option Token) → n ≡ blank_before bytes
     → behind ≡ drop n bytes → IfSome token (λ t. IsInFront behind (at + n) (lexeme t))
     → IfSome token (λ t. IsInFront bytes at (lexeme t))
 blank_at bytes at n behind None count is f = tt
-blank_at bytes at n behind (Some t) count is f =
-    blank_past bytes at (lexeme t)
-    (subst (λ (k : ℕ). IsInFront (drop k bytes) (at + k) (lexeme t)) count
-    (subst (λ (r : List ℕ). IsInFront r (at + n) (lexeme t)) is f))
+blank_at bytes at n behind (Some t) count is f = blank_past bytes at (lexeme t) (rw (is, count) at f)

@@ -1,12 +1,20 @@
--- A token at an offset of the bytes, and where reading goes on behind it.
+-- A token at an offset of the bytes, where reading goes on behind it, and what it makes of a reading from there.
 use Rattle.std.proofs.Common.{◌≡◌, ℕ, ◌+◌, ◌-◌, ◌≤◌, ◌<◌, Bool, List, length, drop, Some, Ok, ap, ap₂, subst, ◌∙◌}
-use Rattle.std.proofs.Common.{arith, add_assoc}
+use Rattle.std.proofs.Common.{arith, add_assoc, Option, None, Result, Err}
 use Rattle.std.proofs.lemmas.List.{length-drop, drop-drop}
 use Rattle.mfotl_lex.specs.Growing.{grown}
-use Rattle.mfotl_lex.specs.Lexemes.{Lexeme, next_token, after}
+use Rattle.mfotl_lex.specs.Lexemes.{Lexeme, next_token, after, Tokens, followed, tokens}
 use Rattle.mfotl_lex.specs.Places.{Place, further_on}
+use Rattle.mfotl_lex.proofs.Sequence.{tokens_step}
+use Rattle.mfotl_lex.specs.declared.fault.LexFault.{LexFault}
+use Rattle.mfotl_sig.specs.Preds.{PredOf}
 use Rattle.log_reader.specs.Cursors.{MayComeLater}
 use Rattle.log_reader.specs.Stretches.{place_in}
+use Rattle.log_reader.specs.declared.fault.LogFault.TheVariants.{Lex}
+use Rattle.log_reader.specs.declared.limits.Limits.{Limits}
+use Rattle.log_reader.specs.Partials.{Partial}
+use Rattle.log_reader.specs.Readings.{Reading, behind, fault_only, went_on, run, run_from, behind_tokens}
+use Rattle.log_reader.specs.Steps.{step, completed}
 use Rattle.log_reader.proofs.Lexing.{token_moves, token_again}
 
 -- a token at an offset, and the offset behind it, whatever comes later
@@ -42,3 +50,25 @@ token_at_offset from looked ended at t le e =
       further = omega (arith, l.some);
       within = omega (arith, inner, length-drop at looked);
     })
+
+module _ (sig : List PredOf) (limits : Limits) (last : Partial → Reading) (p : Partial) (place : Place) where
+  by_tokens : (r : Result (Option Lexeme) LexFault) → next_token place ≡ r
+      → run_from sig limits last p place
+      ≡ (let ts = followed r (tokens (after place)) in run sig limits (behind_tokens ts.fault last) p ts.list)
+  by_tokens r e = ap (λ (ts : Tokens). run sig limits (behind_tokens ts.fault last) p ts.list)
+      (tokens_step place ∙ ap (λ (x : Result (Option Lexeme) LexFault). followed x (tokens (after place))) e)
+
+  pub token_run : (t : Lexeme) → next_token place ≡ Ok (Some t)
+      → run_from sig limits last p place
+      ≡ behind (completed p t) (went_on (step sig limits p t) (λ q. run_from sig limits last q (after place)))
+  unfolding run
+  token_run t e = by_tokens (Ok (Some t)) e
+
+  pub none_run : next_token place ≡ Ok None → run_from sig limits last p place ≡ last p
+  unfolding run
+  none_run e = by_tokens (Ok None) e
+
+  pub fault_run : (fault : LexFault) → next_token place ≡ Err fault
+      → run_from sig limits last p place ≡ fault_only (Lex fault)
+  unfolding run
+  fault_run fault e = by_tokens (Err fault) e

@@ -1,5 +1,5 @@
 -- What one token does to a reading.
-use Rattle.std.proofs.Common.{◌≡◌, ◌⊎◌, inl, inr, ℕ, ◌≤◌, ◌<◌, Bool, true, false, cond, List, [], ◌∷◌, length, Some}
+use Rattle.std.proofs.Common.{◌≡◌, ◌⊎◌, inl, inr, ℕ, ◌≤◌, ◌<◌, Bool, true, false, List, [], ◌∷◌, length, Some}
 use Rattle.std.proofs.Common.{None, Result, Ok, Err, refl, sym, ap, subst, ◌∙◌, arith, ◌+◌, ◌-◌, drop}
 use Rattle.std.proofs.lemmas.List.{length-drop}
 use Rattle.mfotl_lex.specs.Blanks.{blank_len}
@@ -16,7 +16,7 @@ use Rattle.log_reader.specs.declared.fault.LogFault.TheVariants.{Memory}
 use Rattle.log_reader.specs.declared.limits.Limits.{Limits}
 use Rattle.log_reader.specs.declared.stage.Stage.{Stage}
 use Rattle.log_reader.specs.declared.stage.Stage.TheVariants.{Between, AfterAt, AfterStamp, AfterClose}
-use Rattle.log_reader.specs.Cursors.{MayComeLater, open_count, IsCounted, Leads, Exhausts, StepsOver, Halts, HaltsBy}
+use Rattle.log_reader.specs.Cursors.{MayComeLater, IsCounted, Leads, Exhausts, StepsOver, Halts, HaltsBy}
 use Rattle.log_reader.specs.Cursors.{TakesToken}
 use Rattle.log_reader.specs.Partials.{Partial, point_of, finished}
 use Rattle.log_reader.specs.Readings.{behind_tokens, run}
@@ -25,18 +25,16 @@ use Rattle.log_reader.specs.Steps.{step, completed, stepped}
 use Rattle.log_reader.specs.Stretches.{place_in}
 use Rattle.log_reader.specs.Symbols.{Symbol, AtSign, Terminator, symbol, symbol_of, token_content}
 use Rattle.log_reader.specs.Given.{Stays}
-use Rattle.log_reader.proofs.TokenRuns.{token_run}
+use Rattle.log_reader.proofs.TokenPlaces.{token_run, TokenAt, place_behind}
 use Rattle.log_reader.proofs.Lexing.{blanks_done}
-use Rattle.log_reader.proofs.TokenPlaces.{TokenAt, place_behind}
-use Rattle.log_reader.proofs.StepStages.{step_counts}
+use Rattle.log_reader.proofs.StepStages.{step_counts, completed_none, completed_one, completes_open}
 
-pub completes_cases : (s : Stage) (x : Symbol) → completes s x ≡ true
-    → (open_count s ≡ 1) × (((x ≡ AtSign) × (stage_after s x ≡ Some AfterAt))
-    ⊎ ((x ≡ Terminator) × (stage_after s x ≡ Some Between)))
-completes_cases AfterStamp AtSign h = (refl, inl (refl, refl))
-completes_cases AfterStamp Terminator h = (refl, inr (refl, refl))
-completes_cases AfterClose AtSign h = (refl, inl (refl, refl))
-completes_cases AfterClose Terminator h = (refl, inr (refl, refl))
+completes_cases : (s : Stage) (x : Symbol) → completes s x ≡ true
+    → ((x ≡ AtSign) × (stage_after s x ≡ Some AfterAt)) ⊎ ((x ≡ Terminator) × (stage_after s x ≡ Some Between))
+completes_cases AfterStamp AtSign h = inl (refl, refl)
+completes_cases AfterStamp Terminator h = inr (refl, refl)
+completes_cases AfterClose AtSign h = inl (refl, refl)
+completes_cases AfterClose Terminator h = inr (refl, refl)
 completes_cases _ _ h = absurd cc
 
 read_on-at : (k : Kind) (c : List ℕ) (before after : ℕ) → symbol_of k c ≡ AtSign → read_on k before after ≡ before
@@ -47,14 +45,6 @@ read_on-terminator : (k : Kind) (c : List ℕ) (before after : ℕ) → symbol_o
     → read_on k before after ≡ after
 read_on-terminator Semicolon c before after e = refl
 read_on-terminator _ c before after e = absurd cc
-
-pub completed_none : (p : Partial) (t : Lexeme) → completes p.stage (symbol t) ≡ false → completed p t ≡ []
-unfolding completed
-completed_none p t h = ap (λ (b : Bool). cond b (point_of p ∷ []) []) h
-
-pub completed_one : (p : Partial) (t : Lexeme) → completes p.stage (symbol t) ≡ true → completed p t ≡ point_of p ∷ []
-unfolding completed
-completed_one p t h = ap (λ (b : Bool). cond b (point_of p ∷ []) []) h
 
 completed_between : (p : Partial) (t : Lexeme) → completed (finished p) t ≡ []
 unfolding completed
@@ -70,7 +60,7 @@ module _ (sig : List PredOf) (limits : Limits) (from : ℕ) (looked : List ℕ) 
       → completes p.stage (symbol t) ≡ false → step sig limits p t ≡ Ok q
       → Leads sig limits from looked ended at p [] behind q × (at < behind)
   took_leads b q found c h e =
-      let counts = step_counts sig limits p q t c h e in (
+      let counts = step_counts sig limits p q t c e in (
         record {
           reads = λ more later is last.
               let place = grown (place_in from looked ended at) more later in
@@ -78,7 +68,7 @@ module _ (sig : List PredOf) (limits : Limits) (from : ℕ) (looked : List ℕ) 
               ∙ rw (completed_none p t h, e, found.place more later is);
           within = found.within;
           counted = counts.counted;
-          given = omega (arith, counts.given);
+          given = omega (arith, counts.given, ap length (completed_none p t h));
         },
         found.further,
       )
@@ -98,8 +88,8 @@ module _ (sig : List PredOf) (limits : Limits) (from : ℕ) (looked : List ℕ) 
       → completes p.stage (symbol t) ≡ true
       → Leads sig limits from looked ended at p (point_of p ∷ []) (read_on t.kind at behind) (finished p)
   completed_leads b found le c h =
-      let cases = completes_cases p.stage (symbol t) h in
-      elim cases.1 [
+      let one = completes_open p.stage (symbol t) h in
+      elim (completes_cases p.stage (symbol t) h) [
         | inl x ↦ rw (read_on-at t.kind (token_content t) at b x.0) (record {
           reads = λ more later is last.
               let place = grown (place_in from looked ended at) more later in
@@ -112,7 +102,7 @@ module _ (sig : List PredOf) (limits : Limits) (from : ℕ) (looked : List ℕ) 
               );
           within = le;
           counted = omega arith;
-          given = omega (arith, cases.0, c);
+          given = omega (arith, one, c);
         })
         | inr x ↦ rw (read_on-terminator t.kind (token_content t) at b x.0) (record {
           reads = λ more later is last.
@@ -121,7 +111,7 @@ module _ (sig : List PredOf) (limits : Limits) (from : ℕ) (looked : List ℕ) 
               ∙ rw (completed_one p t h, step-terminator x.1, found.place more later is);
           within = found.within;
           counted = omega arith;
-          given = omega (arith, cases.0, c);
+          given = omega (arith, one, c);
         })
       ]
 
@@ -154,10 +144,10 @@ module _ (sig : List PredOf) (limits : Limits) (from : ℕ) (looked : List ℕ) 
   steps_over b found le c e (Err fault) at' q (none, here, stays) = rw here (fault_halts fault q e none stays)
 
 -- where no whole token is left, the blanks are behind
-pub blanks_over : (sig : List PredOf) (limits : Limits) (from : ℕ) (looked : List ℕ) (ended : Bool) (at : ℕ)
-    (p : Partial) → at ≤ length looked → IsCounted p → next_token (place_in from looked ended at) ≡ Ok None
+pub blanks_over : {sig : List PredOf} {limits : Limits} {from : ℕ} {looked : List ℕ} {ended : Bool} {at : ℕ}
+    {p : Partial} → at ≤ length looked → IsCounted p → next_token (place_in from looked ended at) ≡ Ok None
     → Exhausts sig limits from looked ended at p ((after (place_in from looked ended at)).at - from) p
-blanks_over sig limits from looked ended at p le c e =
+blanks_over {sig} {limits} {from} {looked} {ended} {at} {p} le c e =
     let here = place_in from looked ended at in
     let b = blanks_done here e in
     let n = blank_len ended (drop at looked) in

@@ -1,9 +1,10 @@
 -- The ways on of the automaton of the grammar, one by one.
-use Rattle.std.proofs.Common.{◌≡◌, ℕ, Bool, true, false, cond, List, Some, None, refl, subst}
+use Rattle.std.proofs.Common.{◌≡◌, ℕ, true, false, List, Option, Some, IfSome, refl, subst}
+use Rattle.std.proofs.lemmas.Bool.{cond_both}
 use Rattle.log_reader.specs.declared.stage.Stage.{Stage}
 use Rattle.log_reader.specs.declared.stage.Stage.TheVariants.{Between, AfterAt, AfterStamp, AfterName, AfterOpen}
 use Rattle.log_reader.specs.declared.stage.Stage.TheVariants.{AfterValue, AfterComma, AfterClose}
-use Rattle.log_reader.specs.Stages.{stage_after}
+use Rattle.log_reader.specs.Stages.{stage_after, completes, is_whole}
 use Rattle.log_reader.specs.Symbols.{Symbol, AtSign, Opening, Closing, Separator, Terminator, Says, Written, Bare}
 use Rattle.log_reader.specs.Symbols.{is_digits}
 
@@ -24,36 +25,40 @@ pub data Transition : Stage → Symbol → Stage → Type 0 where
   ends_bare : Transition AfterStamp Terminator Between
   ends_full : Transition AfterClose Terminator Between
 
-to : {s : Stage} {x : Symbol} (g h : Stage) → Some g ≡ Some h → Transition s x g → Transition s x h
-to {s} {x} g h e t = let same : g ≡ h = cc in subst (λ (k : Stage). Transition s x k) same t
-
-stamp_to : (b : Bool) (word : List ℕ) (g : Stage) → is_digits word ≡ b → cond b (Some AfterStamp) None ≡ Some g
-    → Transition AfterAt (Says (Bare word)) g
-stamp_to true word g digits e = to AfterStamp g e (times word digits)
-stamp_to false word g digits e = absurd cc
-
 -- each way that the automaton goes is one of these
+ways : (s : Stage) (x : Symbol) → IfSome (stage_after s x) (Transition s x)
+ways Between AtSign = begins_first
+ways AfterAt (Says (Bare word)) =
+    cond_both (is_digits word) _ _ (λ (o : Option Stage). IfSome o (Transition AfterAt (Says (Bare word))))
+    (times word) (λ _. tt)
+ways AfterStamp AtSign = begins_bare
+ways AfterStamp Terminator = ends_bare
+ways AfterStamp (Says (Bare word)) = names_first word
+ways AfterName Opening = opens_first
+ways AfterOpen (Says w) = gives_first w
+ways AfterOpen Closing = closes_empty
+ways AfterValue Separator = separates
+ways AfterValue Closing = closes
+ways AfterComma (Says w) = gives_more w
+ways AfterClose AtSign = begins_full
+ways AfterClose Terminator = ends_full
+ways AfterClose Opening = opens_more
+ways AfterClose (Says (Bare word)) = names_more word
+ways _ _ = tt
+
 pub transition : (s : Stage) (x : Symbol) (g : Stage) → stage_after s x ≡ Some g → Transition s x g
-transition Between AtSign g e = to AfterAt g e begins_first
-transition Between _ g e = absurd cc
-transition AfterAt (Says (Bare word)) g e = stamp_to (is_digits word) word g refl e
-transition AfterAt _ g e = absurd cc
-transition AfterStamp AtSign g e = to AfterAt g e begins_bare
-transition AfterStamp Terminator g e = to Between g e ends_bare
-transition AfterStamp (Says (Bare word)) g e = to AfterName g e (names_first word)
-transition AfterStamp _ g e = absurd cc
-transition AfterName Opening g e = to AfterOpen g e opens_first
-transition AfterName _ g e = absurd cc
-transition AfterOpen (Says w) g e = to AfterValue g e (gives_first w)
-transition AfterOpen Closing g e = to AfterClose g e closes_empty
-transition AfterOpen _ g e = absurd cc
-transition AfterValue Separator g e = to AfterComma g e separates
-transition AfterValue Closing g e = to AfterClose g e closes
-transition AfterValue _ g e = absurd cc
-transition AfterComma (Says w) g e = to AfterValue g e (gives_more w)
-transition AfterComma _ g e = absurd cc
-transition AfterClose AtSign g e = to AfterAt g e begins_full
-transition AfterClose Terminator g e = to Between g e ends_full
-transition AfterClose Opening g e = to AfterOpen g e opens_more
-transition AfterClose (Says (Bare word)) g e = to AfterName g e (names_more word)
-transition AfterClose _ g e = absurd cc
+transition s x g e = subst (λ (o : Option Stage). IfSome o (Transition s x)) e (ways s x)
+
+-- behind a whole time-point a name may follow
+pub name_goes : (s : Stage) (w : List ℕ) → is_whole s ≡ true
+    → (stage_after s (Says (Bare w)) ≡ Some AfterName) × (completes s (Says (Bare w)) ≡ false)
+name_goes AfterStamp w e = (refl, refl)
+name_goes AfterClose w e = (refl, refl)
+name_goes _ w e = absurd cc
+
+-- and an `@` or a `;`
+pub end_goes : (s : Stage) → is_whole s ≡ true
+    → (stage_after s AtSign ≡ Some AfterAt) × (stage_after s Terminator ≡ Some Between)
+end_goes AfterStamp e = (refl, refl)
+end_goes AfterClose e = (refl, refl)
+end_goes _ e = absurd cc

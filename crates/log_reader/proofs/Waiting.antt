@@ -74,11 +74,9 @@ left_little : (bytes : List ℕ) → log_scan false bytes ≡ Unshown
     → length (take (length bytes - comment_of bytes) bytes) ≤ held_limit
 left_little [] e = omega arith
 left_little (b ∷ bytes) e =
-    elim (cases_Bool (b == hash)) [
-      | inl is ↦ rw is (omega (arith, length-take (suc (length bytes) - length bytes) (b ∷ bytes)))
-      | inr other ↦ rw other
-          (omega (arith, log_little b bytes other e, length-take (suc (length bytes) - 0) (b ∷ bytes)))
-    ]
+    cond_both (b == hash) _ _ (λ (n : ℕ). length (take (suc (length bytes) - n) (b ∷ bytes)) ≤ held_limit)
+    (λ _. omega (arith, length-take (suc (length bytes) - length bytes) (b ∷ bytes)))
+    (λ other. omega (arith, log_little b bytes other e, length-take (suc (length bytes) - 0) (b ∷ bytes)))
 
 pub waits_little : (limits : Limits) (s : Stretch) (at : ℕ) → Waits limits s at
     → length (forgotten s at).bytes ≤ held_limit

@@ -5,5 +5,5 @@ use Rattle.log_reader.proofs.groups.plain_text.Goals as goal
 pub returns-in_ok-text-in-Some : goal.returns-in_ok-text-in-Some
 returns-in_ok-text-in-Some c =
     plain_word_text c.args.at c.args.bytes.now c.in-Some.word.text.now c.in_ok-text-in-Some.text
-    (plain_word c.args.bytes.now c.args.at c.in-Some.word c.in-Some.ensures.is c.in-Some.ensures.kind
-    c.in-Some.ensures.at) c.in_ok-text-in-Some.ensures
+    (plain_word c.in-Some.word c.in-Some.ensures.is c.in-Some.ensures.kind c.in-Some.ensures.at)
+    c.in_ok-text-in-Some.ensures

@@ -1,6 +1,6 @@
-use Rattle.std.proofs.Common.{◌≡◌, ◌+◌, ◌-◌, ◌*◌, ◌<◌, ◌^◌, ℕ, true, drop, get_or, sym, subst, ◌∙◌, arith, rules}
+use Rattle.std.proofs.Common.{◌≡◌, ◌+◌, ◌-◌, ◌<◌, true, get_or, sym, ◌∙◌, arith, rules}
 use Rattle.std.specs.Char.{is_ascii_digit}
-use Rattle.log_reader.specs.Quick.{room, digits_before}
+use Rattle.log_reader.specs.Quick.{room}
 use Rattle.log_reader.proofs.QuickLemmas.{goes_at, ends_at, other_at, few_digits, one_more_digit}
 use Rattle.log_reader.proofs.short_numbers.digits_before.Goals as goal
 
@@ -23,9 +23,7 @@ loop-count-preserved c =
     let digit : is_ascii_digit (get_or c.args.bytes.now c.loop-count.count 0) ≡ true
     = sym c.is_ascii_digit.ensures.value ∙ c.if-is_ascii_digit.true in
     let is : c.from.result ≡ get_or c.args.bytes.now c.loop-count.count 0 - 48 = search rules in
-    subst (λ (d : ℕ). (digits_before (10 * c.loop-count.number + d) (c.loop-count.count + 1)
-    (drop (c.loop-count.count + 1) c.args.bytes.now) ≡ digits_before 0 0 c.args.bytes.now)
-    × (10 * c.loop-count.number + d < 10 ^ (c.loop-count.count + 1))) (sym is) (
+    rw is (
       sym (goes_at c.loop-count.number c.loop-count.count c.args.bytes.now c.loop-count-test.true
           (c.loop-count.count + 1) (omega arith) digit small)
           ∙ c.loop-count.invariant.0,

@@ -3,8 +3,7 @@ use Rattle.mfotl_lex.specs.Lexemes.{lexeme, next_token}
 use Rattle.mfotl_lex.specs.declared.token.Token.{Token}
 use Rattle.log_reader.specs.Stretches.{place_in}
 use Rattle.log_reader.specs.Tokens.{FindsToken}
-use Rattle.log_reader.proofs.TokenRuns.{fault_run}
-use Rattle.log_reader.proofs.TokenPlaces.{TokenAt, token_at_offset}
+use Rattle.log_reader.proofs.TokenPlaces.{fault_run, TokenAt, token_at_offset}
 use Rattle.log_reader.proofs.TokenSteps.{steps_over, blanks_over}
 use Rattle.log_reader.proofs.cursor.Cursor.lex_token.Goals as goal
 
@@ -14,9 +13,7 @@ returns-in-None c =
     let place = place_in look.from look.bytes.now look.ended c.args.self.now.at in
     let found : FindsToken look.from place (Ok c.in-Ok.found) = c.in-Ok.ensures in
     let e : next_token place ≡ Ok None = found.0 ∙ ap (λ (t : Option Token). Ok (option_map lexeme t)) c.in-None.is in
-    rw found.1
-    (blanks_over c.args.sig.now c.args.limits.now look.from look.bytes.now look.ended c.args.self.now.at
-    c.args.self.now.partial c.requires.within c.requires.counted e)
+    rw found.1 (blanks_over c.requires.within c.requires.counted e)
 
 pub returns-in-Err : goal.returns-in-Err
 returns-in-Err c =
@@ -33,7 +30,6 @@ pub returns-in-Some : goal.returns-in-Some
 returns-in-Some c =
     let look = c.args.look in
     let at = c.args.self.now.at in
-    let p = c.args.self.now.partial in
     let t = lexeme c.in-Some.token in
     let place = place_in look.from look.bytes.now look.ended at in
     let finds : FindsToken look.from place (Ok c.in-Ok.found) = c.in-Ok.ensures in
@@ -41,5 +37,5 @@ returns-in-Some c =
     finds.0 ∙ ap (λ (t : Option Token). Ok (option_map lexeme t)) c.in-Some.is in
     let found : TokenAt look.from look.bytes.now look.ended at t c.in-Ok.found.behind =
     rw finds.1 (token_at_offset look.from look.bytes.now look.ended at t c.requires.within e) in
-    steps_over c.args.sig.now c.args.limits.now look.from look.bytes.now look.ended at p t _ found c.requires.within
-    c.requires.counted e c.take.result _ _ c.take.ensures
+    steps_over c.args.sig.now c.args.limits.now look.from look.bytes.now look.ended at c.args.self.now.partial t _ found
+    c.requires.within c.requires.counted e c.take.result _ _ c.take.ensures

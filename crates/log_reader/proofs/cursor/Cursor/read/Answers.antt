@@ -9,13 +9,7 @@ returns-in-Ok-Some c =
     let owed = owed_point c.args.sig.now c.args.limits.now c.args.kept.now _ _ c.args.ended _ _ _ _ _ _
     c.look_at-look.ensures.from c.look_at-look.ensures.bytes c.look_at-look.ensures.ended c.advance.ensures c.requires
     c.in-Ok-Some.point (c.in-Ok-Some.is ∙ ap Ok c.in-Ok-Some.field-0-is) in
-    record {
-      answer = owed.due;
-      stands = owed.stands;
-      within = owed.within;
-      counts = owed.counts;
-      waits = owed.waits;
-    }
+    search owed
 
 pub returns-in-Ok-None : goal.returns-in-Ok-None
 returns-in-Ok-None c =
@@ -25,23 +19,11 @@ returns-in-Ok-None c =
     ∙ ap (λ (n : ℕ). answer_of c.args.ended (nothing_behind c.args.limits.now n c.args.ended
     c.advance.new.self.partial)) c.end.ensures.is)
     c.end-in-Ok-None.ensures.after in
-    record {
-      answer = owed.due;
-      stands = owed.stands;
-      within = owed.within;
-      counts = owed.counts;
-      waits = owed.waits;
-    }
+    search owed
 
 pub returns-in-Err : goal.returns-in-Err
 returns-in-Err c =
     let owed = owed_fault c.args.sig.now c.args.limits.now c.args.kept.now _ _ c.args.ended _ _ _ _ _ _
     c.look_at-look.ensures.from c.look_at-look.ensures.bytes c.look_at-look.ensures.ended c.advance.ensures c.requires
     c.in-Err.fault c.in-Err.is in
-    record {
-      answer = owed.due;
-      stands = owed.stands;
-      within = owed.within;
-      counts = owed.counts;
-      waits = owed.waits;
-    }
+    search owed

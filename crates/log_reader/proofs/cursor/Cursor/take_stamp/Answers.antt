@@ -6,16 +6,14 @@ use Rattle.log_reader.proofs.cursor.Cursor.take_stamp.Goals as goal
 
 pub overflow_add-self : goal.overflow_add-self
 overflow_add-self c =
-    let there = stamp_leads c.args.look.from c.args.look.bytes.now c.args.look.ended c.args.self.now.at c.in-Some.count
-    c.args.self.now.partial c.take_stamp.new.self c.split_at.result.1.now c.requires.within c.requires.counted
-    c.split_at.ensures.back c.in-Some.ensures [] standard in
+    let there = stamp_leads c.args.look.ended c.requires.within c.requires.counted c.split_at.ensures.back
+    c.in-Some.ensures [] standard in
     Fits-of_lt (omega (arith, there.0.within, c.requires.small))
 
 pub returns-in-Some : goal.returns-in-Some
 returns-in-Some c =
-    let leads = stamp_leads c.args.look.from c.args.look.bytes.now c.args.look.ended c.args.self.now.at c.in-Some.count
-    c.args.self.now.partial c.take_stamp.new.self c.split_at.result.1.now c.requires.within c.requires.counted
-    c.split_at.ensures.back c.in-Some.ensures in
+    let leads = stamp_leads c.args.look.ended c.requires.within c.requires.counted c.split_at.ensures.back
+    c.in-Some.ensures in
     let there = leads [] standard in
     record {
       leads = λ sig limits. (leads sig limits).0;
@@ -27,10 +25,8 @@ returns-in-Some c =
 pub returns-in-None : goal.returns-in-None
 returns-in-None c =
     let same : c.take_stamp.new.self ≡ c.args.self.now.partial = c.in-None.ensures in
-    let stays = stay c.args.look.from c.args.look.bytes.now c.args.look.ended in
     record {
-      leads = λ sig limits. rw same (stays sig limits c.args.self.now.at c.args.self.now.partial c.requires.within
-          c.requires.counted);
+      leads = λ sig limits. rw same (stay c.requires.within c.requires.counted);
       within = c.requires.within;
       counted = rw same c.requires.counted;
       further = omega arith;

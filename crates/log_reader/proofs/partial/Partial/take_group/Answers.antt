@@ -1,10 +1,8 @@
-use Rattle.std.proofs.Common.{◌≡◌, ◌+◌, ◌<◌, [], sym, subst, ◌∙◌, rules, refl}
+use Rattle.std.proofs.Common.{◌≡◌, [], sym, subst, ◌∙◌, rules, refl}
 use Rattle.std.specs.BTreeSet.{insert_key}
 use Rattle.mfotl_model.specs.Ascending.{ascending}
 use Rattle.mfotl_model.specs.Events.{event_cmp}
-use Rattle.log_reader.specs.declared.stage.Stage.TheVariants.{AfterClose}
 use Rattle.log_reader.specs.Cursors.{IsCounted}
-use Rattle.log_reader.specs.Groups.{LeadsOn}
 use Rattle.log_reader.specs.Partials.{Partial}
 use Rattle.log_reader.proofs.GroupLemmas.{takes_group, none_left}
 use Rattle.log_reader.proofs.partial.Partial.take_group.Goals as goal
@@ -16,21 +14,7 @@ returns c =
     let inserted : ascending event_cmp c.push_event.new.events.items
     ≡ insert_key event_cmp (ascending event_cmp c.self.inside.events.items)
     (record { pred = c.self.inside.pred; args = c.in-Some.args }) = search rules in
-    let after : Partial = record {
-      stage = AfterClose;
-      points = c.self.inside.points;
-      time = c.self.inside.time;
-      events = ascending event_cmp c.push_event.new.events.items;
-      groups = c.self.inside.groups + 1;
-      pred = c.self.inside.pred;
-      sorts = c.self.inside.sorts.now;
-      args = c.self.inside.args;
-      due = [];
-    } in
-    subst (λ (p : Partial). LeadsOn c.args.limits.now c.args.look.from c.args.look.bytes.now c.args.look.ended
-    c.args.at p c.in-Some.behind after × (c.args.at < c.in-Some.behind)) c.self.view_is
-    (takes_group c.args.limits.now c.args.look.from c.args.look.bytes.now c.args.look.ended c.args.at _ after
-    c.in_ok-args.field-0 c.in-Some.args c.in-Some.behind c.in_ok-args.ensures c.in-Some.is (record {
+    rw (← c.self.view_is) (takes_group c.in_ok-args.ensures c.in-Some.is (record {
       stage = sym c.may_open.ensures ∙ c.if-not-may_open.false;
       same = refl;
       args = none;

@@ -5,14 +5,10 @@ use Rattle.log_reader.proofs.MarkLemmas.{mark_takes, mark_halts, at_completes}
 use Rattle.log_reader.proofs.partial.Partial.take_marked.Goals as goal
 
 pub returns-in-Ok : goal.returns-in-Ok
-returns-in-Ok c =
-    mark_takes c.args.sig.now c.args.limits.now c.args.self.now _ c.args.at c.args.bytes.now c.in-len1-up.len_at_least
-    c.in-Some.stepped c.in-Some.ensures c.in-Ok.field-0 c.in-Ok.is
+returns-in-Ok c = mark_takes _ _ _ _ _ _ c.in-len1-up.len_at_least _ c.in-Some.ensures c.in-Ok.is
 
 pub returns-in-Err : goal.returns-in-Err
-returns-in-Err c =
-    mark_halts c.args.sig.now c.args.limits.now c.args.self.now _ c.args.at c.args.bytes.now c.in-len1-up.len_at_least
-    c.in-Some.stepped c.in-Some.ensures c.in-Err.fault c.in-Err.is
+returns-in-Err c = mark_halts _ _ _ _ _ _ c.in-len1-up.len_at_least _ c.in-Some.ensures c.in-Err.is
 
 pub returns-in-None-2 : goal.returns-in-None-2
 returns-in-None-2 c =
