@@ -1,15 +1,13 @@
 -- Intervals and quantified variables at the head of tokens that the reader accepts.
-use Rattle.std.proofs.Common.{◌≡◌, ℕ, ℤ, zero, suc, ◌<◌, ◌≤◌, pos, negsuc, Bool, true, List, [], ◌∷◌, ◌++◌, length}
-use Rattle.std.proofs.Common.{map, Option, Some, None, refl, ap, sym, ◌∙◌, arith}
+use Rattle.std.proofs.Common.{◌≡◌, ℕ, ℤ, zero, suc, ◌<◌, ◌≤◌, pos, negsuc, Bool, true, List, [], ◌∷◌, ◌++◌, length, map}
+use Rattle.std.proofs.Common.{Option, Some, None, refl, ap, sym, ◌∙◌, arith}
 use Rattle.std.proofs.lemmas.List.{append_assoc, length-append}
 use Rattle.mfotl_lex.specs.Lexemes.{Lexeme}
 use Rattle.mfotl_model.specs.declared.interval.Interval.{Interval}
-use Rattle.mfotl_model.specs.declared.value.Value.TheVariants as values
 use Rattle.mfotl_sig.specs.Preds.{PredOf}
 use Rattle.mfotl_parse.specs.declared.class.Class.{Class}
 use Rattle.mfotl_parse.specs.declared.class.Class.TheVariants as classes
 use Rattle.mfotl_parse.specs.declared.class.Quantifier.{Quantifier}
-use Rattle.mfotl_parse.specs.declared.term.Operand.TheVariants as operands
 use Rattle.mfotl_parse.specs.Classes.{class_of, unit_of}
 use Rattle.mfotl_parse.specs.Grammar.{WrittenVariable, Bare, Asked, WrittenVariables, LastVariable, MoreVariables}
 use Rattle.mfotl_parse.specs.Grammar.{WrittenBound, Count, Counted, WrittenEnd, Included, Excluded, Unbounded}
@@ -24,14 +22,12 @@ use Rattle.mfotl_parse.specs.Lookahead.{maybe_move, maybe_number_move, maybe_wor
 use Rattle.mfotl_parse.specs.Quantifiers.{binder_move, binder_marked_move, bound_move}
 use Rattle.mfotl_parse.specs.Reading.{transition, transition_at}
 use Rattle.mfotl_parse.specs.Reduction.{hold}
-use Rattle.mfotl_parse.specs.States.{Frame, Parens, Negation, Moment, Binding, Left, SymbolTable, Partial}
-use Rattle.mfotl_parse.specs.States.{ExpectOperand, AfterTemporal, ExpectVariable, AfterVariableMark, AfterVariable}
-use Rattle.mfotl_parse.specs.States.{ExpectSign, AfterParen, AfterParenNumber, ExpectLow, AfterLowNumber, AfterLow}
-use Rattle.mfotl_parse.specs.States.{ExpectHigh, AfterHighNumber, AfterHigh, AfterStar}
+use Rattle.mfotl_parse.specs.States.{Frame, Parens, Binding, SymbolTable, Partial, ExpectOperand, AfterTemporal}
+use Rattle.mfotl_parse.specs.States.{ExpectVariable, AfterVariable, ExpectSign, ExpectHigh}
 use Rattle.mfotl_parse.specs.Viability.{if_moved, accepts}
-use Rattle.mfotl_parse.proofs.SpelledMoves.{at_place}
-use Rattle.mfotl_parse.proofs.SpelledParts.{context_at}
-use Rattle.mfotl_parse.proofs.AcceptedParts.{refused}
+use Rattle.mfotl_parse.proofs.SpelledForms.{number_side}
+use Rattle.mfotl_parse.proofs.SpelledMoves.{at_place, context_at}
+use Rattle.mfotl_parse.proofs.AcceptedParts.{refused, by_token}
 
 -- where an operand is due, behind frames that hold so tightly
 pub record Wanting (sig : List PredOf) (holds : List ℕ) (rest : List Lexeme) : Type 0 where
@@ -45,10 +41,7 @@ pub record Wanting (sig : List PredOf) (holds : List ℕ) (rest : List Lexeme) :
 
 hold_framed : (i : Interval) (frame : Frame) → hold (framed i frame) ≡ hold frame
 hold_framed i Parens = refl
-hold_framed i Negation = refl
-hold_framed i (Moment operator before) = refl
-hold_framed i (Binding quantifier variable name) = refl
-hold_framed i (Left operator before left) = refl
+hold_framed i _ = refl
 
 holds_same : (i : Interval) (stack : List Frame) → map hold (with_interval i stack) ≡ map hold stack
 holds_same i [] = refl
@@ -84,46 +77,39 @@ pub record Timing (sig : List PredOf) (holds : List ℕ) (ts : List Lexeme) : Ty
   pub wanting : Wanting sig holds rest
 
 module _ (sig : List PredOf) (stack : List Frame) (nodes : ℕ) (names : SymbolTable) where
-  timed_wanting : (i : Interval) (rest : List Lexeme)
-      → accepts sig rest (at_place ExpectOperand (with_interval i stack) nodes names) ≡ true
-      → Wanting sig (map hold stack) rest
-  timed_wanting i rest h =
-      record { stack = with_interval i stack; nodes = nodes; names = names; accepted = h; held = holds_same i stack }
+  end_some : (end : WrittenEnd) → 0 < length (end_spelling end)
+  end_some (Included high closing) = omega (arith, length-append (bound_spelling high) (closing ∷ []))
+  end_some (Excluded high closing) = omega (arith, length-append (bound_spelling high) (closing ∷ []))
+  end_some (Unbounded star closing) = omega arith
+
+  up_to : (end : WrittenEnd) (i : Interval) (ts : List Lexeme) → FitsEnd end
+      → accepts sig ts (at_place ExpectOperand (with_interval i stack) nodes names) ≡ true
+      → UpTo sig (map hold stack) (end_spelling end ++ ts)
+  up_to end i ts fits h =
+      record {
+        end = end;
+        rest = ts;
+        fits = fits;
+        parts = refl;
+        shorter = omega (arith, end_some end, length-append (end_spelling end) ts);
+        wanting = record {
+          stack = with_interval i stack;
+          nodes = nodes;
+          names = names;
+          accepted = h;
+          held = holds_same i stack;
+        };
+      }
 
   bracket_one : (high : WrittenBound) (at low top : ℕ) (t : Lexeme) (ts : List Lexeme) (c : Class) → FitsBound high
       → class_of t ≡ c
       → if_moved (bracket (context_at stack nodes names) at low top c) (accepts sig ts) ≡ true
       → UpTo sig (map hold stack) (bound_spelling high ++ t ∷ ts)
   bracket_one high at low top t ts classes.CloseBracket fits class h =
-      record {
-        end = Included high t;
-        rest = ts;
-        fits = (fits, class);
-        parts = sym
-            (append_assoc (bound_spelling high) (t ∷ []) ts);
-        shorter = omega
-            (arith, length-append (bound_spelling high) (t ∷ ts));
-        wanting = timed_wanting _ ts h;
-      }
+      rw (← append_assoc (bound_spelling high) (t ∷ []) ts) (up_to (Included high t) _ ts (fits, class) h)
   bracket_one high at low top t ts classes.CloseParen fits class h =
-      record {
-        end = Excluded high t;
-        rest = ts;
-        fits = (fits, class);
-        parts = sym
-            (append_assoc (bound_spelling high) (t ∷ []) ts);
-        shorter = omega
-            (arith, length-append (bound_spelling high) (t ∷ ts));
-        wanting = timed_wanting _ ts h;
-      }
+      rw (← append_assoc (bound_spelling high) (t ∷ []) ts) (up_to (Excluded high t) _ ts (fits, class) h)
   bracket_one high at low top t ts _ fits class h = refused h _
-
-  high_done : (high : WrittenBound) (at low top : ℕ) (ts : List Lexeme) → FitsBound high
-      → accepts sig ts (at_place (AfterHigh at low top) stack nodes names) ≡ true
-      → UpTo sig (map hold stack) (bound_spelling high ++ ts)
-  unfolding accepts transition
-  high_done high at low top [] fits h = refused h _
-  high_done high at low top (t ∷ ts) fits h = bracket_one high at low top t ts (class_of t) fits refl h
 
   high_units : (token unit : Lexeme) (at low number_at n : ℕ) (ts : List Lexeme) (seconds : Option ℕ)
       → class_of token ≡ classes.Integer (pos n) → class_of unit ≡ classes.Name → unit_of unit.text ≡ seconds
@@ -131,7 +117,8 @@ module _ (sig : List PredOf) (stack : List Frame) (nodes : ℕ) (names : SymbolT
       → UpTo sig (map hold stack) (token ∷ unit ∷ ts)
   high_units token unit at low number_at n ts None number class lasts h = refused h _
   high_units token unit at low number_at n ts (Some seconds) number class lasts h =
-      high_done (Counted token n unit seconds) at low _ ts (number, class, lasts) h
+      by_token sig (λ us. UpTo sig (map hold stack) (token ∷ unit ∷ us)) _ refl
+      (λ t us c. bracket_one (Counted token n unit seconds) at low _ t us c (number, class, lasts)) ts h
 
   high_number_one : (token : Lexeme) (at low number_at n : ℕ) (t : Lexeme) (ts : List Lexeme) (c : Class)
       → class_of token ≡ classes.Integer (pos n) → class_of t ≡ c
@@ -142,48 +129,23 @@ module _ (sig : List PredOf) (stack : List Frame) (nodes : ℕ) (names : SymbolT
   high_number_one token at low number_at n t ts c number class h =
       bracket_one (Count token n) at low n t ts c number class h
 
-  high_number : (token : Lexeme) (at low number_at n : ℕ) (ts : List Lexeme) → class_of token ≡ classes.Integer (pos n)
-      → accepts sig ts (at_place (AfterHighNumber at low number_at n) stack nodes names) ≡ true
-      → UpTo sig (map hold stack) (token ∷ ts)
-  unfolding accepts transition
-  high_number token at low number_at n [] number h = refused h _
-  high_number token at low number_at n (t ∷ ts) number h =
-      high_number_one token at low number_at n t ts (class_of t) number refl h
-
   endless_one : (star : Lexeme) (low : ℕ) (t : Lexeme) (ts : List Lexeme) (c : Class) → class_of star ≡ classes.Star
       → class_of t ≡ c
       → if_moved (endless_move (context_at stack nodes names) low c) (accepts sig ts) ≡ true
       → UpTo sig (map hold stack) (star ∷ t ∷ ts)
   endless_one star low t ts classes.CloseParen stars class h =
-      record {
-        end = Unbounded star t;
-        rest = ts;
-        fits =
-            (stars, class);
-        parts = refl;
-        shorter = omega arith;
-        wanting = timed_wanting _ ts h;
-      }
+      up_to (Unbounded star t) _ ts (stars, class) h
   endless_one star low t ts _ stars class h = refused h _
-
-  endless : (star : Lexeme) (at low : ℕ) (ts : List Lexeme) → class_of star ≡ classes.Star
-      → accepts sig ts (at_place (AfterStar at low) stack nodes names) ≡ true → UpTo sig (map hold stack) (star ∷ ts)
-  unfolding accepts transition
-  endless star at low [] stars h = refused h _
-  endless star at low (t ∷ ts) stars h = endless_one star low t ts (class_of t) stars refl h
 
   high_one : (at low : ℕ) (t : Lexeme) (ts : List Lexeme) (c : Class) → class_of t ≡ c
       → if_moved (high_move (context_at stack nodes names) at low t c) (accepts sig ts) ≡ true
       → UpTo sig (map hold stack) (t ∷ ts)
-  high_one at low t ts (classes.Integer (pos n)) class h = high_number t at low t.at n ts class h
-  high_one at low t ts classes.Star class h = endless t at low ts class h
+  high_one at low t ts (classes.Integer (pos n)) class h =
+      by_token sig (λ us. UpTo sig (map hold stack) (t ∷ us)) _ refl
+      (λ u us c. high_number_one t at low t.at n u us c class) ts h
+  high_one at low t ts classes.Star class h =
+      by_token sig (λ us. UpTo sig (map hold stack) (t ∷ us)) _ refl (λ u us c. endless_one t low u us c class) ts h
   high_one at low t ts _ class h = refused h _
-
-  high : (at low : ℕ) (ts : List Lexeme) → accepts sig ts (at_place (ExpectHigh at low) stack nodes names) ≡ true
-      → UpTo sig (map hold stack) ts
-  unfolding accepts transition
-  high at low [] h = refused h _
-  high at low (t ∷ ts) h = high_one at low t ts (class_of t) refl h
 
   -- a lower bound, its comma and the rest
   comma_back : (low : WrittenBound) (at from : ℕ) (t : Lexeme) (ts : List Lexeme) → FitsBound low → class_of t
@@ -191,7 +153,7 @@ module _ (sig : List PredOf) (stack : List Frame) (nodes : ℕ) (names : SymbolT
       → accepts sig ts (at_place (ExpectHigh at from) stack nodes names) ≡ true
       → FromLow sig (map hold stack) (bound_spelling low ++ t ∷ ts)
   comma_back low at from t ts fits class h =
-      let u = high at from ts h in
+      let u = by_token sig (UpTo sig (map hold stack)) _ refl (high_one at from) ts h in
       record {
         low = low;
         comma = t;
@@ -213,20 +175,14 @@ module _ (sig : List PredOf) (stack : List Frame) (nodes : ℕ) (names : SymbolT
   low_done_one low at from t ts classes.Comma fits class h = comma_back low at from t ts fits class h
   low_done_one low at from t ts _ fits class h = refused h _
 
-  low_done : (low : WrittenBound) (at from : ℕ) (ts : List Lexeme) → FitsBound low
-      → accepts sig ts (at_place (AfterLow at from) stack nodes names) ≡ true
-      → FromLow sig (map hold stack) (bound_spelling low ++ ts)
-  unfolding accepts transition
-  low_done low at from [] fits h = refused h _
-  low_done low at from (t ∷ ts) fits h = low_done_one low at from t ts (class_of t) fits refl h
-
   low_units : (token unit : Lexeme) (at number_at n : ℕ) (ts : List Lexeme) (seconds : Option ℕ) → class_of token
       ≡ classes.Integer (pos n) → class_of unit ≡ classes.Name → unit_of unit.text ≡ seconds
       → if_moved (low_unit (context_at stack nodes names) at number_at n seconds) (accepts sig ts) ≡ true
       → FromLow sig (map hold stack) (token ∷ unit ∷ ts)
   low_units token unit at number_at n ts None number class lasts h = refused h _
   low_units token unit at number_at n ts (Some seconds) number class lasts h =
-      low_done (Counted token n unit seconds) at _ ts (number, class, lasts) h
+      by_token sig (λ us. FromLow sig (map hold stack) (token ∷ unit ∷ us)) _ refl
+      (λ t us c. low_done_one (Counted token n unit seconds) at _ t us c (number, class, lasts)) ts h
 
   low_number_one : (token : Lexeme) (at number_at n : ℕ) (t : Lexeme) (ts : List Lexeme) (c : Class) → class_of token
       ≡ classes.Integer (pos n) → class_of t ≡ c
@@ -238,25 +194,13 @@ module _ (sig : List PredOf) (stack : List Frame) (nodes : ℕ) (names : SymbolT
       low_units token t at number_at n ts (unit_of t.text) number class refl h
   low_number_one token at number_at n t ts _ number class h = refused h _
 
-  low_number : (token : Lexeme) (at number_at n : ℕ) (ts : List Lexeme) → class_of token ≡ classes.Integer (pos n)
-      → accepts sig ts (at_place (AfterLowNumber at number_at n) stack nodes names) ≡ true
-      → FromLow sig (map hold stack) (token ∷ ts)
-  unfolding accepts transition
-  low_number token at number_at n [] number h = refused h _
-  low_number token at number_at n (t ∷ ts) number h =
-      low_number_one token at number_at n t ts (class_of t) number refl h
-
   low_one : (at : ℕ) (t : Lexeme) (ts : List Lexeme) (c : Class) → class_of t ≡ c
       → if_moved (low_move (context_at stack nodes names) at t c) (accepts sig ts) ≡ true
       → FromLow sig (map hold stack) (t ∷ ts)
-  low_one at t ts (classes.Integer (pos n)) class h = low_number t at t.at n ts class h
+  low_one at t ts (classes.Integer (pos n)) class h =
+      by_token sig (λ us. FromLow sig (map hold stack) (t ∷ us)) _ refl
+      (λ u us c. low_number_one t at t.at n u us c class) ts h
   low_one at t ts _ class h = refused h _
-
-  low : (at : ℕ) (ts : List Lexeme) → accepts sig ts (at_place (ExpectLow at) stack nodes names) ≡ true
-      → FromLow sig (map hold stack) ts
-  unfolding accepts transition
-  low at [] h = refused h _
-  low at (t ∷ ts) h = low_one at t ts (class_of t) refl h
 
 -- ---- behind a temporal operator
 
@@ -284,33 +228,23 @@ module _ (sig : List PredOf) (stack : List Frame) (nodes : ℕ) (names : SymbolT
         wanting = record { stack = stack; nodes = nodes; names = names; accepted = h; held = refl };
       }
 
-  from_bracket : (t : Lexeme) (ts : List Lexeme) → class_of t ≡ classes.OpenBracket → FromLow sig (map hold stack) ts
+  from_low : (interval : WrittenInterval) (t : Lexeme) (ts : List Lexeme) (f : FromLow sig (map hold stack) ts)
+      → FitsInterval interval → interval_spelling interval ≡ t ∷ (bound_spelling f.low ++ f.comma ∷ end_spelling f.end)
       → Timing sig (map hold stack) (t ∷ ts)
-  from_bracket t ts class f =
+  from_low interval t ts f fits spelled =
       record {
-        interval = From t f.low f.comma f.end;
+        interval = interval;
         rest = f.rest;
-        fits =
-            (class, f.fits, f.commas, f.fits_end);
-        parts = ap (λ (xs : List Lexeme). t ∷ xs) f.parts;
-        shorter = omega
-            (arith, f.shorter);
+        fits = fits;
+        parts = ap (λ (xs : List Lexeme). t ∷ xs) f.parts ∙ ap (λ (xs : List Lexeme). xs ++ f.rest) (sym spelled);
+        shorter = omega (arith, f.shorter);
         wanting = f.wanting;
       }
 
   from_paren : (t : Lexeme) (ts : List Lexeme) → class_of t ≡ classes.OpenParen → FromLow sig (map hold stack) ts
       → Timing sig (map hold stack) (t ∷ ts)
   from_paren t ts class f =
-      record {
-        interval = Above t f.low f.comma f.end;
-        rest = f.rest;
-        fits =
-            (class, f.fits, f.commas, f.fits_end);
-        parts = ap (λ (xs : List Lexeme). t ∷ xs) f.parts;
-        shorter = omega
-            (arith, f.shorter);
-        wanting = f.wanting;
-      }
+      from_low (Above t f.low f.comma f.end) t ts f (class, f.fits, f.commas, f.fits_end) refl
 
   maybe_units : (t number unit : Lexeme) (at number_at n : ℕ) (ts : List Lexeme) (seconds : Option ℕ) → class_of t
       ≡ classes.OpenParen → class_of number ≡ classes.Integer (pos n) → class_of unit ≡ classes.Name
@@ -320,7 +254,9 @@ module _ (sig : List PredOf) (stack : List Frame) (nodes : ℕ) (names : SymbolT
   maybe_units t number unit at number_at n ts None opens counts class lasts h = refused h _
   maybe_units t number unit at number_at n ts (Some seconds) opens counts class lasts h =
       from_paren t (number ∷ unit ∷ ts) opens
-      (low_done sig stack nodes names (Counted number n unit seconds) at _ ts (counts, class, lasts) h)
+      (by_token sig (λ us. FromLow sig (map hold stack) (number ∷ unit ∷ us)) _ refl
+      (λ u us c. low_done_one sig stack nodes names (Counted number n unit seconds) at _ u us c (counts, class, lasts))
+      ts h)
 
   maybe_words : (t number unit : Lexeme) (at number_at : ℕ) (z : ℤ) (ts : List Lexeme) → class_of t
       ≡ classes.OpenParen → class_of number ≡ classes.Integer z → class_of unit ≡ classes.Name
@@ -353,24 +289,17 @@ module _ (sig : List PredOf) (stack : List Frame) (nodes : ℕ) (names : SymbolT
       ∙ accepts_is sig (at_place ExpectOperand (Parens ∷ stack) nodes names) number (next ∷ ts)
       (classes.Integer z) counts
       ∙ accepts_is sig
-      (at_place (ExpectSign (record { at = number.at; operand = operands.Constant (values.Int z) }))
+      (at_place (ExpectSign (number_side number.at z))
       (Parens ∷ stack) nodes names) next ts (classes.Sign sign) class
       ∙ h)
   maybe_numbers t number next z ts _ opens counts class h = refused h _
 
-  maybe_number : (t number : Lexeme) (z : ℤ) (ts : List Lexeme) → class_of t ≡ classes.OpenParen → class_of number
-      ≡ classes.Integer z
-      → accepts sig ts (at_place (AfterParenNumber t.at number.at z) stack nodes names) ≡ true
-      → Timing sig (map hold stack) (t ∷ number ∷ ts)
-  unfolding accepts transition
-  maybe_number t number z [] opens counts h = refused h _
-  maybe_number t number z (next ∷ ts) opens counts h =
-      maybe_numbers t number next z ts (class_of next) opens counts refl h
-
   maybe_one : (t u : Lexeme) (ts : List Lexeme) (c : Class) → class_of t ≡ classes.OpenParen → class_of u ≡ c
       → if_moved (maybe_move (context_at stack nodes names) t.at u c) (accepts sig ts) ≡ true
       → Timing sig (map hold stack) (t ∷ u ∷ ts)
-  maybe_one t u ts (classes.Integer z) opens class h = maybe_number t u z ts opens class h
+  maybe_one t u ts (classes.Integer z) opens class h =
+      by_token sig (λ us. Timing sig (map hold stack) (t ∷ u ∷ us)) _ refl
+      (λ v us c. maybe_numbers t u v z us c opens class) ts h
   maybe_one t u ts c opens class h =
       no_interval (t ∷ u ∷ ts)
       (accepts_is sig (at_place ExpectOperand stack nodes names) t (u ∷ ts) classes.OpenParen opens
@@ -378,25 +307,20 @@ module _ (sig : List PredOf) (stack : List Frame) (nodes : ℕ) (names : SymbolT
       ∙ sym (moved_first (within_depth t.at stack) (operand_move (context_at (Parens ∷ stack) nodes names) u c)
       (accepts sig ts)) ∙ h)
 
-  maybe_back : (t : Lexeme) (ts : List Lexeme) → class_of t ≡ classes.OpenParen
-      → accepts sig ts (at_place (AfterParen t.at) stack nodes names) ≡ true → Timing sig (map hold stack) (t ∷ ts)
-  unfolding accepts transition
-  maybe_back t [] opens h = refused h _
-  maybe_back t (u ∷ ts) opens h = maybe_one t u ts (class_of u) opens refl h
-
   fresh_one : (t : Lexeme) (ts : List Lexeme) (c : Class) → class_of t ≡ c
       → if_moved (fresh_move (context_at stack nodes names) t c) (accepts sig ts) ≡ true
       → Timing sig (map hold stack) (t ∷ ts)
-  fresh_one t ts classes.OpenBracket class h = from_bracket t ts class (low sig stack nodes names t.at ts h)
-  fresh_one t ts classes.OpenParen class h = maybe_back t ts class h
+  fresh_one t ts classes.OpenBracket class h =
+      let f = by_token sig (FromLow sig (map hold stack)) _ refl (low_one sig stack nodes names t.at) ts h in
+      from_low (From t f.low f.comma f.end) t ts f (class, f.fits, f.commas, f.fits_end) refl
+  fresh_one t ts classes.OpenParen class h =
+      by_token sig (λ us. Timing sig (map hold stack) (t ∷ us)) _ refl (λ u us c. maybe_one t u us c class) ts h
   fresh_one t ts c class h =
       no_interval (t ∷ ts) (accepts_is sig (at_place ExpectOperand stack nodes names) t ts c class ∙ h)
 
   pub fresh_back : (ts : List Lexeme) → accepts sig ts (at_place AfterTemporal stack nodes names) ≡ true
       → Timing sig (map hold stack) ts
-  unfolding accepts transition
-  fresh_back [] h = refused h _
-  fresh_back (t ∷ ts) h = fresh_one t ts (class_of t) refl h
+  fresh_back ts h = by_token sig (Timing sig (map hold stack)) _ refl fresh_one ts h
 
 -- ---- quantified variables
 
@@ -461,10 +385,10 @@ module _ (sig : List PredOf) (q : Quantifier) where
       (names : SymbolTable) (ts : List Lexeme) → LaterVariables n → length ts ≤ suc n → FitsVariable x
       → accepts sig ts (at_place (AfterVariable q) (Binding q variable name ∷ stack) nodes names) ≡ true
       → Quantifying sig (map hold stack) (variable_spelling x ++ ts)
-  unfolding accepts transition
-  bound_back n x variable name stack nodes names [] later few fits h = refused h _
-  bound_back n x variable name stack nodes names (t ∷ ts) later few fits h =
-      bound_one n x variable name stack nodes names t ts (class_of t) later (omega (arith, few)) fits refl h
+  bound_back n x variable name stack nodes names ts later few fits h =
+      by_token sig (λ us. length us ≤ suc n → Quantifying sig (map hold stack) (variable_spelling x ++ us)) _ refl
+      (λ t us c class moved most.
+      bound_one n x variable name stack nodes names t us c later (omega (arith, most)) fits class moved) ts h few
 
   binder_marked_one : (n : ℕ) (mark : Lexeme) (stack : List Frame) (nodes : ℕ) (names : SymbolTable) (t : Lexeme)
       (ts : List Lexeme) (c : Class) → LaterVariables n → length ts ≤ n → class_of mark ≡ classes.Question
@@ -475,15 +399,6 @@ module _ (sig : List PredOf) (q : Quantifier) where
       bound_back n (Asked mark t) _ _ stack nodes _ ts later (omega (arith, few)) (marks, class) h
   binder_marked_one n mark stack nodes names t ts _ later few marks class h = refused h _
 
-  binder_mark : (n at : ℕ) (mark : Lexeme) (stack : List Frame) (nodes : ℕ) (names : SymbolTable) (ts : List Lexeme)
-      → LaterVariables n → length ts ≤ suc n → class_of mark ≡ classes.Question
-      → accepts sig ts (at_place (AfterVariableMark q at) stack nodes names) ≡ true
-      → Quantifying sig (map hold stack) (mark ∷ ts)
-  unfolding accepts transition
-  binder_mark n at mark stack nodes names [] later few marks h = refused h _
-  binder_mark n at mark stack nodes names (t ∷ ts) later few marks h =
-      binder_marked_one n mark stack nodes names t ts (class_of t) later (omega (arith, few)) marks refl h
-
   binder_one : (n : ℕ) (stack : List Frame) (nodes : ℕ) (names : SymbolTable) (t : Lexeme) (ts : List Lexeme)
       (c : Class) → LaterVariables n → length ts ≤ suc n → class_of t ≡ c
       → if_moved (binder_move (context_at stack nodes names) q t c) (accepts sig ts) ≡ true
@@ -491,7 +406,9 @@ module _ (sig : List PredOf) (q : Quantifier) where
   binder_one n stack nodes names t ts classes.Name later few class h =
       bound_back n (Bare t) _ _ stack (suc nodes) _ ts later few class h
   binder_one n stack nodes names t ts classes.Question later few class h =
-      binder_mark n t.at t stack (suc nodes) names ts later few class h
+      by_token sig (λ us. length us ≤ suc n → Quantifying sig (map hold stack) (t ∷ us)) _ refl
+      (λ u us c of_class moved most.
+      binder_marked_one n t stack (suc nodes) names u us c later (omega (arith, most)) class of_class moved) ts h few
   binder_one n stack nodes names t ts _ later few class h = refused h _
 
   binder_fuel : (n : ℕ) → LaterVariables n

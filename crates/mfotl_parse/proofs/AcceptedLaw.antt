@@ -18,16 +18,16 @@ use Rattle.mfotl_parse.specs.Operands.{operand_move}
 use Rattle.mfotl_parse.specs.Operators.{have_move, joined_move, enclosed_move, around, is_parens, now_behind}
 use Rattle.mfotl_parse.specs.Reading.{transition, is_closed}
 use Rattle.mfotl_parse.specs.Reduction.{Reduced, reduce, hold}
-use Rattle.mfotl_parse.specs.States.{Frame, Parens, Negation, Moment, Binding, Left, SymbolTable, Context, nothing_read}
+use Rattle.mfotl_parse.specs.States.{Frame, Parens, Moment, Left, SymbolTable, Context, nothing_read}
 use Rattle.mfotl_parse.specs.Viability.{if_moved, accepts}
-use Rattle.mfotl_parse.proofs.SpelledMoves.{at_place}
-use Rattle.mfotl_parse.proofs.SpelledParts.{context_at}
+use Rattle.mfotl_parse.proofs.SpelledMoves.{at_place, context_at}
 use Rattle.mfotl_parse.proofs.AcceptedParts.{refused, Behind, Primary, compared_back, marked_back, word_back}
 use Rattle.mfotl_parse.proofs.AcceptedParts.{blank_back}
 use Rattle.mfotl_parse.proofs.AcceptedIntervals.{Wanting, fresh_back, push_ones, binder_back}
 use Rattle.mfotl_parse.proofs.AcceptedTrees.{Held, HeldParens, HeldNot, HeldTimed, HeldBound, HeldLeft, own_tokens}
 use Rattle.mfotl_parse.proofs.AcceptedTrees.{held_tokens, holds_of, wanted, FitAll, drop_tight, holds_reduced}
-use Rattle.mfotl_parse.proofs.AcceptedTrees.{first_one, level_least, right_least, level_most, Closed, close}
+use Rattle.mfotl_parse.proofs.AcceptedTrees.{first_one, Closed, close}
+use Rattle.mfotl_parse.proofs.OperatorLevels.{levels}
 
 -- the same tokens
 formula_as : (ts us : List Lexeme) → ts ≡ us → IsFormula us → IsFormula ts
@@ -53,12 +53,9 @@ WantLater sig n =
 
 nothing_held : (hs : List Held) → holds_of hs ≡ [] → hs ≡ []
 nothing_held [] e = refl
-nothing_held (HeldParens opening ∷ hs) e = absurd cc
-nothing_held (HeldNot token ∷ hs) e = absurd cc
-nothing_held (HeldTimed token operator interval ∷ hs) e = absurd cc
 nothing_held (HeldBound token quantifier variables dot ∷ hs) e =
     let f = first_one variables (holds_of hs) in absurd (cc (e, f.1))
-nothing_held (HeldLeft left token operator interval ∷ hs) e = absurd cc
+nothing_held (_ ∷ hs) e = absurd cc
 
 none_open : (stack : List Frame) → is_closed stack ≡ true → map hold stack ≡ []
 none_open [] e = refl
@@ -73,7 +70,7 @@ closed_alike : (rule : ℕ) (f : Form) (stack : List Frame) (hs : List Held) (tr
 closed_alike rule f stack hs tree c held = holds_reduced rule f stack ∙ ap (drop_tight rule) held ∙ c.holds
 
 no_level : (o : Operator) → precedence o ≡ 0 → ⊥
-no_level o e = omega (arith, e, level_least o)
+no_level o e = omega (arith, e, (levels o).least)
 
 close_all : (hs : List Held) (tree : Tree) → FitAll hs → Operand tree → Closed 0 hs tree
 close_all hs tree fit operand =
@@ -114,15 +111,12 @@ module _ (sig : List PredOf) where
   parenthesis (HeldBound token quantifier variables dot ∷ hs) holds e =
       let f = first_one variables (holds_of hs) in absurd (omega (arith, heads 0 1 holds f.0 (e ∙ f.1)))
   parenthesis (HeldLeft left token operator interval ∷ hs) holds e =
-      absurd (omega (arith, heads 0 (right_precedence operator) holds (holds_of hs) e, right_least operator))
+      absurd (omega (arith, heads 0 (right_precedence operator) holds (holds_of hs) e, (levels operator).right_least))
 
   inside_parens : (frame : Frame) (stack : List Frame) → is_parens frame ≡ true → map hold (frame ∷ stack)
       ≡ 0 ∷ map hold stack
   inside_parens Parens stack e = refl
-  inside_parens Negation stack e = absurd cc
-  inside_parens (Moment operator interval) stack e = absurd cc
-  inside_parens (Binding quantifier variable name) stack e = absurd cc
-  inside_parens (Left operator interval left) stack e = absurd cc
+  inside_parens _ stack e = absurd cc
 
   enclosed_tokens : (hs outer : List Held) (opening t : Lexeme) (tree whole : Tree) (ts : List Lexeme)
       → held_tokens hs ++ spelling tree ≡ held_tokens (HeldParens opening ∷ outer) ++ spelling whole
@@ -216,19 +210,11 @@ module _ (sig : List PredOf) where
       let timing = timing_of (is_timed o) (Left o any_distance reduced.form ∷ reduced.stack)
       (suc p.nodes) p.names ts h in
       let held2 = HeldLeft c.whole t o timing.0 ∷ c.around in
-      let w = timing.5 in
       let fit : FitAll held2 =
-      ((c.left o refl, c.shut (level_least o), class, timing.2), no_zero o c.around c.loose, c.fit_all) in
+      ((c.left o refl, c.shut (levels o).least, class, timing.2), no_zero o c.around c.loose, c.fit_all) in
       formula_as _ _ (joined_tokens hs c.around tree c.whole t o timing.0 ts timing.1 c.tokens timing.3)
       (later held2 timing.1 (omega (arith, few, timing.4)) fit
-      (record {
-        stack = w.stack;
-        nodes = w.nodes;
-        names = w.names;
-        accepted = w.accepted;
-        held = w.held
-            ∙ ap (λ (ns : List ℕ). right_precedence o ∷ ns) held;
-      }))
+      (subst (λ (ns : List ℕ). Wanting sig (right_precedence o ∷ ns) timing.1) held timing.5))
 
   have_one : (n : ℕ) (hs : List Held) (stack : List Frame) (tree : Tree) (f : Form) (nodes : ℕ) (names : SymbolTable)
       (t : Lexeme) (ts : List Lexeme) (c : Class) → HaveLater sig n → WantLater sig n → length ts ≤ n → FitAll hs
@@ -236,7 +222,7 @@ module _ (sig : List PredOf) where
       → class_of t ≡ c → if_moved (have_move (context_at stack nodes names) f t c) (accepts sig ts) ≡ true
       → IsFormula (held_tokens hs ++ (spelling tree ++ t ∷ ts))
   have_one n hs stack tree f nodes names t ts (classes.Operator o) have want few fit held operand class h =
-      let c = close (precedence o) (omega (arith, level_most o)) hs tree fit (operand.fits (wanted hs))
+      let c = close (precedence o) (omega (arith, (levels o).most)) hs tree fit (operand.fits (wanted hs))
       (λ p e. operand.fits _) (λ some. operand.shut) in
       at_operator n hs tree o t ts (context_at stack nodes names) (reduce (precedence o) f stack) c want few class
       (closed_alike (precedence o) f stack hs tree c held) h
@@ -287,33 +273,17 @@ module _ (sig : List PredOf) where
       (record { stack = _; nodes = _; names = _; accepted = h; held = ap (λ (ns : List ℕ). 6 ∷ ns) held })
   want_one n hs stack nodes names t ts (classes.Temporal operator) have want few fit held class h =
       let timing = fresh_back sig (Moment operator any_distance ∷ stack) (suc nodes) names ts h in
-      let w = timing.wanting in
       held_then n (HeldTimed t operator timing.interval) hs (t ∷ ts) timing.rest want
       (omega (arith, few, timing.shorter)) ((class, timing.fits), tt, fit)
       (ap (λ (xs : List Lexeme). t ∷ xs) timing.parts)
-      (record {
-        stack = w.stack;
-        nodes = w.nodes;
-        names = w.names;
-        accepted = w.accepted;
-        held = w.held
-            ∙ ap (λ (ns : List ℕ). 6 ∷ ns) held;
-      })
+      (subst (λ (ns : List ℕ). Wanting sig (6 ∷ ns) timing.rest) held timing.wanting)
   want_one n hs stack nodes names t ts (classes.Quantifier q) have want few fit held class h =
       let r = binder_back sig q stack nodes names ts h in
-      let w = r.wanting in
       held_then n (HeldBound t q r.variables r.dot) hs (t ∷ ts) r.rest want (omega (arith, few, r.shorter))
       ((class, r.fits, r.dots), tt, fit)
       (ap (λ (xs : List Lexeme). t ∷ xs)
       (r.parts ∙ sym (append_assoc (variables_spelling r.variables) (r.dot ∷ []) r.rest)))
-      (record {
-        stack = w.stack;
-        nodes = w.nodes;
-        names = w.names;
-        accepted = w.accepted;
-        held = w.held
-            ∙ ap (push_ones r.variables) held;
-      })
+      (subst (λ (ns : List ℕ). Wanting sig (push_ones r.variables ns) r.rest) held r.wanting)
   want_one n hs stack nodes names t ts classes.Name have want few fit held class h =
       primary_then n hs stack (t ∷ ts) have (omega (arith, few)) fit held
       (word_back sig stack t t.at t.text ts nodes names class h)

@@ -1,6 +1,6 @@
 -- Tokens that the reader accepts begin with what the grammar spells there: terms, atoms, comparisons.
-use Rattle.std.proofs.Common.{◌≡◌, ℕ, zero, suc, ◌<◌, ◌≤◌, true, false, List, [], ◌∷◌, ◌++◌, length, refl, ap, sym}
-use Rattle.std.proofs.Common.{◌∙◌, inl, inr, arith}
+use Rattle.std.proofs.Common.{◌≡◌, ℕ, zero, suc, ◌<◌, ◌≤◌, true, false, List, [], ◌∷◌, ◌++◌, length, refl, ap, sym, ◌∙◌}
+use Rattle.std.proofs.Common.{inl, inr, arith}
 use Rattle.std.proofs.lemmas.List.{append_assoc, length-append}
 use Rattle.mfotl_lex.specs.Lexemes.{Lexeme}
 use Rattle.mfotl_model.specs.declared.term.Sign.{Sign}
@@ -12,21 +12,28 @@ use Rattle.mfotl_parse.specs.declared.term.Side.{Side}
 use Rattle.mfotl_parse.specs.Arguments.{argument_move, first_move, taken_move, argument_marked_move}
 use Rattle.mfotl_parse.specs.Classes.{class_of}
 use Rattle.mfotl_parse.specs.Grammar.{Bare, Asked, WrittenTerm, Named, Number, Quoted, WrittenArgument, Given, Hidden}
-use Rattle.mfotl_parse.specs.Grammar.{WrittenArguments, LastArgument, MoreArguments, Tree, BareAtom, AtomOf}
-use Rattle.mfotl_parse.specs.Grammar.{Comparison, term_spelling, argument_spelling, arguments_spelling, spelling}
-use Rattle.mfotl_parse.specs.Grammar.{FitsTerm, FitsArgument, FitsArguments, IsAtomName, Fits, is_shut}
+use Rattle.mfotl_parse.specs.Grammar.{WrittenArguments, LastArgument, MoreArguments, Tree, BareAtom, AtomOf, Comparison}
+use Rattle.mfotl_parse.specs.Grammar.{term_spelling, argument_spelling, arguments_spelling, spelling, FitsTerm}
+use Rattle.mfotl_parse.specs.Grammar.{FitsArgument, FitsArguments, IsAtomName, Fits, is_shut}
 use Rattle.mfotl_parse.specs.Operands.{word_move, blank_move}
 use Rattle.mfotl_parse.specs.Comparisons.{against_move, against_marked_move, compared_move, marked_move}
-use Rattle.mfotl_parse.specs.Reading.{transition}
+use Rattle.mfotl_parse.specs.Reading.{transition, transition_at}
 use Rattle.mfotl_parse.specs.States.{Frame, Call, SymbolTable, AfterOperand, AfterWord, AfterBlank, AfterMark}
-use Rattle.mfotl_parse.specs.States.{ExpectSign, AfterSign, AfterSignMark, FirstArgument, NextArgument, AfterArgument}
-use Rattle.mfotl_parse.specs.States.{AfterArgumentMark}
-use Rattle.mfotl_parse.specs.Viability.{if_moved, accepts}
-use Rattle.mfotl_parse.proofs.SpelledMoves.{at_place}
-use Rattle.mfotl_parse.proofs.SpelledParts.{context_at}
+use Rattle.mfotl_parse.specs.States.{ExpectSign, AfterSign, FirstArgument, NextArgument, AfterArgument, Partial}
+use Rattle.mfotl_parse.specs.Viability.{if_moved, is_whole, accepts}
+use Rattle.mfotl_parse.proofs.SpelledMoves.{at_place, context_at}
 
 pub refused : false ≡ true → (P : Type 0) → P
 refused h P = absurd cc
+
+-- where the text can't end, accepted tokens begin with one that the grammar goes on with
+pub by_token : (sig : List PredOf) (P : List Lexeme → Type 0) (p : Partial) → is_whole p.now p.context.stack ≡ false
+    → ((t : Lexeme) (ts : List Lexeme) (c : Class) → class_of t ≡ c
+    → if_moved (transition_at p.now sig p.context t c) (accepts sig ts) ≡ true → P (t ∷ ts))
+    → (ts : List Lexeme) → accepts sig ts p ≡ true → P ts
+unfolding accepts transition
+by_token sig P p unfinished one [] h = absurd cc
+by_token sig P p unfinished one (t ∷ ts) h = one t ts (class_of t) refl h
 
 -- behind an operand, with these frames open
 pub record Behind (sig : List PredOf) (stack : List Frame) (rest : List Lexeme) : Type 0 where
@@ -68,72 +75,44 @@ record Inside (sig : List PredOf) (stack : List Frame) (ts : List Lexeme) : Type
 module _ (sig : List PredOf) (stack : List Frame) where
   -- ---- comparisons
 
+  term_some : (t : WrittenTerm) → 0 < length (term_spelling t)
+  term_some (Named (Bare name)) = omega arith
+  term_some (Named (Asked mark name)) = omega arith
+  term_some (Number token z) = omega arith
+  term_some (Quoted token) = omega arith
+
+  right_side : (form : Form) (nodes : ℕ) (names : SymbolTable) (right : WrittenTerm) (ts : List Lexeme)
+      → FitsTerm right → accepts sig ts (at_place (AfterOperand form) stack nodes names) ≡ true
+      → RightSide sig stack (term_spelling right ++ ts)
+  right_side form nodes names right ts fits h =
+      record {
+        right = right;
+        rest = ts;
+        fits = fits;
+        parts = refl;
+        shorter = omega (arith, term_some right, length-append (term_spelling right) ts);
+        behind = record { form = _; nodes = _; names = _; accepted = h };
+      }
+
   against_marked_back : (left : Side) (at mark_at : ℕ) (sign : Sign) (mark t : Lexeme) (ts : List Lexeme) (nodes : ℕ)
       (names : SymbolTable) (c : Class) → class_of mark ≡ classes.Question → class_of t ≡ c
       → if_moved (against_marked_move (context_at stack nodes names) left at sign mark_at t c) (accepts sig ts)
       ≡ true → RightSide sig stack (mark ∷ t ∷ ts)
   against_marked_back left at mark_at sign mark t ts nodes names classes.Name marks class h =
-      record {
-        right = Named (Asked mark t);
-        rest = ts;
-        fits =
-            (marks, class);
-        parts = refl;
-        shorter = omega arith;
-        behind = record { form = _; nodes = _; names = _; accepted = h };
-      }
+      right_side _ _ _ (Named (Asked mark t)) ts (marks, class) h
   against_marked_back left at mark_at sign mark t ts nodes names _ marks class h = refused h _
-
-  against_mark : (left : Side) (at mark_at : ℕ) (sign : Sign) (mark : Lexeme) (ts : List Lexeme) (nodes : ℕ)
-      (names : SymbolTable) → class_of mark ≡ classes.Question
-      → accepts sig ts (at_place (AfterSignMark left at sign mark_at) stack nodes names) ≡ true
-      → RightSide sig stack (mark ∷ ts)
-  unfolding accepts transition
-  against_mark left at mark_at sign mark [] nodes names marks h = refused h _
-  against_mark left at mark_at sign mark (t ∷ ts) nodes names marks h =
-      against_marked_back left at mark_at sign mark t ts nodes names (class_of t) marks refl h
 
   against_one : (left : Side) (at : ℕ) (sign : Sign) (t : Lexeme) (ts : List Lexeme) (nodes : ℕ)
       (names : SymbolTable) (c : Class) → class_of t ≡ c
       → if_moved (against_move (context_at stack nodes names) left at sign t c) (accepts sig ts) ≡ true
       → RightSide sig stack (t ∷ ts)
-  against_one left at sign t ts nodes names classes.Name class h =
-      record {
-        right = Named
-            (Bare t);
-        rest = ts;
-        fits = class;
-        parts = refl;
-        shorter = omega arith;
-        behind = record { form = _; nodes = _; names = _; accepted = h };
-      }
+  against_one left at sign t ts nodes names classes.Name class h = right_side _ _ _ (Named (Bare t)) ts class h
   against_one left at sign t ts nodes names classes.Question class h =
-      against_mark left at t.at sign t ts nodes names class h
-  against_one left at sign t ts nodes names (classes.Integer z) class h =
-      record {
-        right = Number t z;
-        rest = ts;
-        fits = class;
-        parts = refl;
-        shorter = omega arith;
-        behind = record { form = _; nodes = _; names = _; accepted = h };
-      }
-  against_one left at sign t ts nodes names classes.Text class h =
-      record {
-        right = Quoted t;
-        rest = ts;
-        fits = class;
-        parts = refl;
-        shorter = omega arith;
-        behind = record { form = _; nodes = _; names = _; accepted = h };
-      }
+      by_token sig (λ us. RightSide sig stack (t ∷ us)) _ refl
+      (λ u us c. against_marked_back left at t.at sign t u us nodes names c class) ts h
+  against_one left at sign t ts nodes names (classes.Integer z) class h = right_side _ _ _ (Number t z) ts class h
+  against_one left at sign t ts nodes names classes.Text class h = right_side _ _ _ (Quoted t) ts class h
   against_one left at sign t ts nodes names _ class h = refused h _
-
-  against_back : (left : Side) (at : ℕ) (sign : Sign) (ts : List Lexeme) (nodes : ℕ) (names : SymbolTable)
-      → accepts sig ts (at_place (AfterSign left at sign) stack nodes names) ≡ true → RightSide sig stack ts
-  unfolding accepts transition
-  against_back left at sign [] nodes names h = refused h _
-  against_back left at sign (t ∷ ts) nodes names h = against_one left at sign t ts nodes names (class_of t) refl h
 
   -- a comparison's sign, with what stands before it
   pub sign_back : (left : WrittenTerm) (side : Side) (at : ℕ) (t : Lexeme) (sign : Sign) (ts : List Lexeme)
@@ -141,7 +120,8 @@ module _ (sig : List PredOf) (stack : List Frame) where
       → accepts sig ts (at_place (AfterSign side at sign) stack nodes names) ≡ true
       → Primary sig stack (term_spelling left ++ t ∷ ts)
   sign_back left side at t sign ts nodes names fits class h =
-      let r = against_back side at sign ts nodes names h in
+      let r = by_token sig (RightSide sig stack) _ refl
+      (λ u us c. against_one side at sign u us nodes names c) ts h in
       let parts : term_spelling left ++ t ∷ ts ≡ (term_spelling left ++ t ∷ term_spelling r.right) ++ r.rest =
       ap (λ (xs : List Lexeme). term_spelling left ++ t ∷ xs) r.parts
       ∙ sym (append_assoc (term_spelling left) (t ∷ term_spelling r.right) r.rest) in
@@ -167,10 +147,9 @@ module _ (sig : List PredOf) (stack : List Frame) where
       → FitsTerm left
       → accepts sig ts (at_place (ExpectSign side) stack nodes names) ≡ true
       → Primary sig stack (term_spelling left ++ ts)
-  unfolding accepts transition
-  compared_back left side [] nodes names fits h = refused h _
-  compared_back left side (t ∷ ts) nodes names fits h =
-      compared_one left side t ts nodes names (class_of t) fits refl h
+  compared_back left side ts nodes names fits h =
+      by_token sig (λ us. Primary sig stack (term_spelling left ++ us)) _ refl
+      (λ t us c. compared_one left side t us nodes names c fits) ts h
 
   marked_one : (mark t : Lexeme) (at : ℕ) (ts : List Lexeme) (nodes : ℕ) (names : SymbolTable) (c : Class)
       → class_of mark ≡ classes.Question → class_of t ≡ c
@@ -183,9 +162,8 @@ module _ (sig : List PredOf) (stack : List Frame) where
   pub marked_back : (mark : Lexeme) (at : ℕ) (ts : List Lexeme) (nodes : ℕ) (names : SymbolTable) → class_of mark
       ≡ classes.Question
       → accepts sig ts (at_place (AfterMark at) stack nodes names) ≡ true → Primary sig stack (mark ∷ ts)
-  unfolding accepts transition
-  marked_back mark at [] nodes names marks h = refused h _
-  marked_back mark at (t ∷ ts) nodes names marks h = marked_one mark t at ts nodes names (class_of t) marks refl h
+  marked_back mark at ts nodes names marks h =
+      by_token sig (λ us. Primary sig stack (mark ∷ us)) _ refl (λ t us c. marked_one mark t at us nodes names c marks) ts h
 
   -- ---- arguments
 
@@ -229,10 +207,10 @@ module _ (sig : List PredOf) (stack : List Frame) where
       → Later n → length ts ≤ suc n → FitsArgument a
       → accepts sig ts (at_place (AfterArgument call) stack nodes names) ≡ true
       → Inside sig stack (argument_spelling a ++ ts)
-  unfolding accepts transition
-  taken_back n a call [] nodes names later few fits h = refused h _
-  taken_back n a call (t ∷ ts) nodes names later few fits h =
-      taken_one n a call t ts nodes names (class_of t) later (omega (arith, few)) fits refl h
+  taken_back n a call ts nodes names later few fits h =
+      by_token sig (λ us. length us ≤ suc n → Inside sig stack (argument_spelling a ++ us)) _ refl
+      (λ t us c class moved most.
+      taken_one n a call t us nodes names c later (omega (arith, most)) fits class moved) ts h few
 
   argument_marked_one : (n : ℕ) (call : Call) (mark t : Lexeme) (at : ℕ) (ts : List Lexeme) (nodes : ℕ)
       (names : SymbolTable) (c : Class) → Later n → length ts ≤ n → class_of mark ≡ classes.Question → class_of t ≡ c
@@ -242,14 +220,6 @@ module _ (sig : List PredOf) (stack : List Frame) where
       taken_back n (Given (Named (Asked mark t))) _ ts nodes _ later (omega (arith, few)) (marks, class) h
   argument_marked_one n call mark t at ts nodes names _ later few marks class h = refused h _
 
-  argument_mark : (n : ℕ) (call : Call) (mark : Lexeme) (at : ℕ) (ts : List Lexeme) (nodes : ℕ) (names : SymbolTable)
-      → Later n → length ts ≤ suc n → class_of mark ≡ classes.Question
-      → accepts sig ts (at_place (AfterArgumentMark call at) stack nodes names) ≡ true → Inside sig stack (mark ∷ ts)
-  unfolding accepts transition
-  argument_mark n call mark at [] nodes names later few marks h = refused h _
-  argument_mark n call mark at (t ∷ ts) nodes names later few marks h =
-      argument_marked_one n call mark t at ts nodes names (class_of t) later (omega (arith, few)) marks refl h
-
   argument_one : (n : ℕ) (call : Call) (t : Lexeme) (ts : List Lexeme) (nodes : ℕ) (names : SymbolTable) (c : Class)
       → Later n → length ts ≤ suc n → class_of t ≡ c
       → if_moved (argument_move (context_at stack nodes names) call t c) (accepts sig ts) ≡ true
@@ -257,7 +227,9 @@ module _ (sig : List PredOf) (stack : List Frame) where
   argument_one n call t ts nodes names classes.Name later few class h =
       taken_back n (Given (Named (Bare t))) _ ts nodes _ later few class h
   argument_one n call t ts nodes names classes.Question later few class h =
-      argument_mark n call t t.at ts nodes names later few class h
+      by_token sig (λ us. length us ≤ suc n → Inside sig stack (t ∷ us)) _ refl
+      (λ u us c of_class moved most.
+      argument_marked_one n call t u t.at us nodes names c later (omega (arith, most)) class of_class moved) ts h few
   argument_one n call t ts nodes names (classes.Integer z) later few class h =
       taken_back n (Given (Number t z)) _ ts nodes _ later few class h
   argument_one n call t ts nodes names classes.Text later few class h =
@@ -305,10 +277,9 @@ module _ (sig : List PredOf) (stack : List Frame) where
       → IsAtomName name → class_of opening ≡ classes.OpenParen
       → accepts sig ts (at_place (FirstArgument call) stack nodes names) ≡ true
       → Primary sig stack (name ∷ opening ∷ ts)
-  unfolding accepts transition
-  first_back name opening call [] nodes names named opens h = refused h _
-  first_back name opening call (t ∷ ts) nodes names named opens h =
-      first_one name opening call t ts nodes names (class_of t) named opens refl h
+  first_back name opening call ts nodes names named opens h =
+      by_token sig (λ us. Primary sig stack (name ∷ opening ∷ us)) _ refl
+      (λ t us c. first_one name opening call t us nodes names c named opens) ts h
 
   word_one : (name : Lexeme) (at : ℕ) (text : List ℕ) (t : Lexeme) (ts : List Lexeme) (nodes : ℕ)
       (names : SymbolTable) (c : Class) → class_of name ≡ classes.Name → class_of t ≡ c
@@ -323,10 +294,9 @@ module _ (sig : List PredOf) (stack : List Frame) where
   pub word_back : (name : Lexeme) (at : ℕ) (text : List ℕ) (ts : List Lexeme) (nodes : ℕ) (names : SymbolTable)
       → class_of name ≡ classes.Name
       → accepts sig ts (at_place (AfterWord at text) stack nodes names) ≡ true → Primary sig stack (name ∷ ts)
-  unfolding accepts transition
-  word_back name at text [] nodes names named h = refused h _
-  word_back name at text (t ∷ ts) nodes names named h =
-      word_one name at text t ts nodes names (class_of t) named refl h
+  word_back name at text ts nodes names named h =
+      by_token sig (λ us. Primary sig stack (name ∷ us)) _ refl
+      (λ t us c. word_one name at text t us nodes names c named) ts h
 
   blank_one : (name : Lexeme) (at : ℕ) (t : Lexeme) (ts : List Lexeme) (nodes : ℕ) (names : SymbolTable) (c : Class)
       → class_of name ≡ classes.Blank → class_of t ≡ c
@@ -339,6 +309,5 @@ module _ (sig : List PredOf) (stack : List Frame) where
   pub blank_back : (name : Lexeme) (at : ℕ) (ts : List Lexeme) (nodes : ℕ) (names : SymbolTable) → class_of name
       ≡ classes.Blank
       → accepts sig ts (at_place (AfterBlank at) stack nodes names) ≡ true → Primary sig stack (name ∷ ts)
-  unfolding accepts transition
-  blank_back name at [] nodes names named h = refused h _
-  blank_back name at (t ∷ ts) nodes names named h = blank_one name at t ts nodes names (class_of t) named refl h
+  blank_back name at ts nodes names named h =
+      by_token sig (λ us. Primary sig stack (name ∷ us)) _ refl (λ t us c. blank_one name at t us nodes names c named) ts h

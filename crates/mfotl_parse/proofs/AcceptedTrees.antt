@@ -8,7 +8,7 @@ use Rattle.mfotl_lex.specs.Lexemes.{Lexeme}
 use Rattle.mfotl_model.specs.Formulas.{Form}
 use Rattle.mfotl_parse.specs.declared.class.Class.TheVariants as classes
 use Rattle.mfotl_parse.specs.declared.class.Operator.{Operator}
-use Rattle.mfotl_parse.specs.declared.class.Operator.TheVariants.{And, Or, Implies, Equiv, Since, Until}
+use Rattle.mfotl_parse.specs.declared.class.Operator.TheVariants.{Equiv}
 use Rattle.mfotl_parse.specs.declared.class.Quantifier.{Quantifier}
 use Rattle.mfotl_parse.specs.declared.class.Temporal.{Temporal}
 use Rattle.mfotl_parse.specs.Classes.{class_of}
@@ -19,6 +19,7 @@ use Rattle.mfotl_parse.specs.Grammar.{precedence, right_precedence, is_timed}
 use Rattle.mfotl_parse.specs.Reduction.{reduce, hold, closed}
 use Rattle.mfotl_parse.specs.States.{Frame}
 use Rattle.mfotl_parse.proofs.AcceptedIntervals.{push_ones}
+use Rattle.mfotl_parse.proofs.OperatorLevels.{levels}
 
 -- what is open, with its tokens
 pub data Held : Type 0 where
@@ -118,38 +119,10 @@ remain_ones rule vs ns h =
 
 -- ---- the rules of operators
 
-pub level_least : (o : Operator) → 1 ≤ precedence o
-level_least Equiv = omega arith
-level_least o = omega arith
-
-pub level_most : (o : Operator) → precedence o ≤ 5
-level_most Equiv = omega arith
-level_most o = omega arith
-
-tight_two : (o : Operator) → 3 ≤ right_precedence o → 3 ≤ precedence o
-tight_two Equiv h = omega (arith, h)
-tight_two o h = omega (arith, h)
-
-tight_four : (o : Operator) → 5 ≤ right_precedence o → 4 ≤ precedence o
-tight_four Equiv h = omega (arith, h)
-tight_four o h = omega (arith, h)
-
-right_most : (o : Operator) → right_precedence o ≤ 5
-right_most Equiv = omega arith
-right_most o = omega arith
-
-pub right_least : (o : Operator) → 1 ≤ right_precedence o
-right_least Equiv = omega arith
-right_least o = omega arith
-
 -- what an operator closes may stand left of it
 closes_left : (p o : Operator) → precedence p < right_precedence o → left_precedence p ≤ precedence o
-closes_left Equiv o h = level_least o
-closes_left Implies o h = tight_two o (omega (arith, h))
-closes_left Or o h = tight_two o (omega (arith, h))
-closes_left And o h = tight_four o (omega (arith, h))
-closes_left Since o h = absurd (omega (arith, h, right_most o))
-closes_left Until o h = absurd (omega (arith, h, right_most o))
+closes_left Equiv o h = (levels o).least
+closes_left p o h = let l = levels o in omega arith
 
 -- ---- closing
 

@@ -1,6 +1,6 @@
 -- No bound variable of a policy that was read is free in its formula.
-use Rattle.std.proofs.Common.{◌≡◌, ℕ, zero, suc, ◌+◌, ◌-◌, ◌<◌, ◌≤◌, ◌⊎◌, inl, inr, Bool, true, false, cond, not}
-use Rattle.std.proofs.Common.{◌||◌, nat_eq, List, [], ◌∷◌, length, Option, Some, None, refl, sym, ap, ◌∙◌, arith}
+use Rattle.std.proofs.Common.{◌≡◌, ℕ, zero, suc, ◌+◌, ◌-◌, ◌<◌, ◌≤◌, ◌⊎◌, inl, inr, Bool, true, false, cond, not, ◌||◌}
+use Rattle.std.proofs.Common.{nat_eq, List, [], ◌∷◌, length, Option, Some, None, refl, sym, ap, ◌∙◌, arith}
 use Rattle.std.proofs.lemmas.Bool.{cases_lt, lt-ltb, or_cases, and_parts, eqb-true, eq-eqb, or_right}
 use Rattle.std.proofs.lemmas.List.{length-append}
 use Rattle.std.specs.Str.{bytes_eq}
@@ -17,8 +17,8 @@ use Rattle.mfotl_parse.specs.Arguments.{call_of, blanks}
 use Rattle.mfotl_parse.specs.SortsDue.{due_sort, after_due}
 use Rattle.mfotl_parse.specs.Grammar.{WrittenTerm, Named, Number, Quoted, WrittenArgument, Given, Hidden}
 use Rattle.mfotl_parse.specs.Grammar.{WrittenArguments, LastArgument, MoreArguments, WrittenVariables, LastVariable}
-use Rattle.mfotl_parse.specs.Grammar.{MoreVariables, Tree, Truth, BareAtom, AtomOf, Comparison, Enclosed, Denied}
-use Rattle.mfotl_parse.specs.Grammar.{Timed, Quantified, Joined}
+use Rattle.mfotl_parse.specs.Grammar.{MoreVariables, Tree, Truth, BareAtom, AtomOf, Comparison, Enclosed, Denied, Timed}
+use Rattle.mfotl_parse.specs.Grammar.{Quantified, Joined}
 use Rattle.mfotl_parse.specs.Meanings.{Scope, no_scope, inside, operand_of, term_names, argument_term, argument_names}
 use Rattle.mfotl_parse.specs.Meanings.{arguments_terms, arguments_names, atom, variables_names, variables_scope}
 use Rattle.mfotl_parse.specs.Meanings.{quantify, interval_of, names_behind, value}

@@ -1,6 +1,6 @@
 -- Behind tokens that show no fault, the reader shows a fault exactly where the token or the tail is its cause.
-use Rattle.std.proofs.Common.{◌≡◌, ℕ, Bool, true, false, List, [], ◌∷◌, ◌++◌, length, Option, Some, None}
-use Rattle.std.proofs.Common.{Ok, Err, refl, ap, sym, subst, ◌∙◌}
+use Rattle.std.proofs.Common.{◌≡◌, ℕ, Bool, true, false, List, [], ◌∷◌, ◌++◌, length, Option, Some, None, Ok, Err, refl}
+use Rattle.std.proofs.Common.{ap, sym, subst, ◌∙◌}
 use Rattle.std.proofs.lemmas.List.{append_assoc}
 use Rattle.std.proofs.lemmas.Bool.{false_from_ne_true}
 use Rattle.std.specs.Prelude.{slice_get}
@@ -11,9 +11,7 @@ use Rattle.mfotl_lex.specs.Lexemes.{Lexeme}
 use Rattle.mfotl_model.specs.Formulas.{Form}
 use Rattle.mfotl_sig.specs.Preds.{PredOf}
 use Rattle.mfotl_parse.specs.declared.fault.PolicyFault.{PolicyFault}
-use Rattle.mfotl_parse.specs.declared.fault.PolicyFault.TheVariants.{Lex, Syntax, EmptyInterval, BoundRange}
-use Rattle.mfotl_parse.specs.declared.fault.PolicyFault.TheVariants.{UnknownPredicate, WrongArity, SortClash}
-use Rattle.mfotl_parse.specs.declared.fault.PolicyFault.TheVariants.{TooManyVariables, TooDeep, TooManyNodes, Memory}
+use Rattle.mfotl_parse.specs.declared.fault.PolicyFault.TheVariants.{Lex, Syntax, SortClash, TooManyVariables, Memory}
 use Rattle.mfotl_parse.specs.declared.term.Pair.{Pair}
 use Rattle.mfotl_parse.specs.Causes.{ShowsFault, IsCause, SortsClash, HasNinthVariable, IsLast}
 use Rattle.mfotl_parse.specs.Grammar.{Tree, Fits, spelling, IsFormula, BeginsFormula}
@@ -26,8 +24,7 @@ use Rattle.mfotl_parse.specs.Reduction.{reduce}
 use Rattle.mfotl_parse.specs.Shows.{Showing, silent, shown_by}
 use Rattle.mfotl_parse.specs.States.{Stage, Context, SymbolTable, Partial, AfterOperand, nothing_read}
 use Rattle.mfotl_parse.specs.SymbolTable.{uneven_pair, clash_or_pair}
-use Rattle.mfotl_parse.specs.Transitions.{Limit, Empty, Range, Unknown, Arity, Deep, Nodes, Transition, fault_of}
-use Rattle.mfotl_parse.specs.Transitions.{given}
+use Rattle.mfotl_parse.specs.Transitions.{Limit, Empty, Transition, fault_of, given}
 use Rattle.mfotl_parse.specs.Viability.{if_moved, is_whole, accepts}
 use Rattle.mfotl_parse.proofs.AcceptedLaw.{accepted_formula}
 use Rattle.mfotl_parse.proofs.FreeNames.{all_free}
@@ -50,11 +47,7 @@ place_behind (t ∷ front) later = place_behind front later
 rule_cause : (sig : List PredOf) (front : List Lexeme) (t : Lexeme) (limit : Limit) (at : ℕ)
     → ShowsFault sig front t (fault_of limit at) → IsCause sig front t (fault_of limit at)
 rule_cause sig front t Empty at s = s
-rule_cause sig front t Range at s = s
-rule_cause sig front t Unknown at s = s
-rule_cause sig front t Arity at s = s
-rule_cause sig front t Deep at s = s
-rule_cause sig front t Nodes at s = s
+rule_cause sig front t _ at s = s
 
 -- what a token shows by its move
 abbrev shown_at : ℕ → Option Transition → List PolicyFault
@@ -145,15 +138,10 @@ module _ (sig : List PredOf) (front : List Lexeme) (s : Partial) (t : Lexeme)
   unfolding step
   cause_shows (Lex fault) c = absurd c
   cause_shows (Syntax at) c = unviable (transition sig s t) at refl c
-  cause_shows (EmptyInterval at) c = shows (EmptyInterval at) c
-  cause_shows (BoundRange at) c = shows (BoundRange at) c
-  cause_shows (UnknownPredicate at) c = shows (UnknownPredicate at) c
-  cause_shows (WrongArity at) c = shows (WrongArity at) c
   cause_shows (SortClash at) c = absurd c
   cause_shows (TooManyVariables at) c = absurd c
-  cause_shows (TooDeep at) c = shows (TooDeep at) c
-  cause_shows (TooManyNodes at) c = shows (TooManyNodes at) c
   cause_shows Memory c = absurd c
+  cause_shows fault c = shows fault c
 
   step_caused : (fault : PolicyFault) → step sig s t ≡ Err fault → IsCause sig front t fault
   unfolding step
@@ -187,10 +175,8 @@ module _ (policy : PolicyOf) where
   sorted_many : (clash : Option ℕ) (uneven : Option Pair) (ninth : Option (List ℕ × ℕ)) (at : ℕ)
       → clash_or_pair clash uneven ≡ None → ninth_place ninth ≡ Some at
       → sorted clash uneven ninth policy ≡ Err (TooManyVariables at)
-  sorted_many (Some place) uneven ninth at e f = absurd cc
-  sorted_many None (Some pair) ninth at e f = absurd cc
   sorted_many None None (Some known) at e f = cc
-  sorted_many None None None at e f = absurd cc
+  sorted_many _ _ _ at e f = absurd cc
 
 module _ (sig : List PredOf) (ts : List Lexeme) (s : Partial) (ran : run (step sig) ts nothing_read ≡ Ok s) where
   module _ (tree : Tree) (fits : Fits 1 tree) (spelled : ts ≡ spelling tree) (end : ℕ) where
@@ -274,15 +260,9 @@ module _ (sig : List PredOf) (ts : List Lexeme) (s : Partial) (ran : run (step s
   last_shows : (tail : Tail LexFault) (fault : PolicyFault) → IsLast sig ts tail fault → at_tail tail s ≡ Err fault
   last_shows tail (Lex fault) c = ap (λ x. at_tail x s) c
   last_shows tail (Syntax at) c = too_early tail at c
-  last_shows tail (EmptyInterval at) c = absurd c
-  last_shows tail (BoundRange at) c = absurd c
-  last_shows tail (UnknownPredicate at) c = absurd c
-  last_shows tail (WrongArity at) c = absurd c
   last_shows tail (SortClash at) c = clashes tail at c
   last_shows tail (TooManyVariables at) c = ninth tail at c
-  last_shows tail (TooDeep at) c = absurd c
-  last_shows tail (TooManyNodes at) c = absurd c
-  last_shows tail Memory c = absurd c
+  last_shows tail _ c = absurd c
 
 pub follows : (sig : List PredOf)
     → FollowsGrammar (step sig) nothing_read at_tail BeginsFormula (IsCause sig) (IsLast sig)

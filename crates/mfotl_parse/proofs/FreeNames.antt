@@ -22,9 +22,8 @@ use Rattle.mfotl_parse.specs.Occurrences.{Occurrence, is_among, free_of, free_of
 use Rattle.mfotl_parse.specs.Occurrences.{free_of_arguments, names_bound, free_in, with_first, first_ones}
 use Rattle.mfotl_parse.specs.Occurrences.{free_variables, name_of, place_of_variable, place_of}
 use Rattle.mfotl_parse.specs.States.{SymbolTable, no_names}
-use Rattle.mfotl_parse.specs.SymbolTable.{free_place, with_free, occurring, bound_more, sort_of}
-use Rattle.mfotl_parse.specs.SymbolTable.{clashed, agreed, occurred, require_sort, constrain_term}
-use Rattle.mfotl_parse.specs.SymbolTable.{with_comparison, inner_or}
+use Rattle.mfotl_parse.specs.SymbolTable.{free_place, with_free, occurring, bound_more, sort_of, clashed, agreed}
+use Rattle.mfotl_parse.specs.SymbolTable.{occurred, require_sort, constrain_term, with_comparison, inner_or}
 use Rattle.mfotl_parse.specs.WellSorted.{sort_of_constant, same_sort}
 
 -- sorts change no names

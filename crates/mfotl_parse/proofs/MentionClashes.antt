@@ -1,6 +1,6 @@
 -- The reader's symbol table tells a clash of sorts where the places in the text do.
-use Rattle.std.proofs.Common.{◌≡◌, ℕ, ◌+◌, Bool, true, false, cond, not, List, [], ◌∷◌, Option}
-use Rattle.std.proofs.Common.{Some, None, refl, sym, ap, ◌∙◌}
+use Rattle.std.proofs.Common.{◌≡◌, ℕ, ◌+◌, Bool, true, false, cond, not, List, [], ◌∷◌, Option, Some, None, refl, sym}
+use Rattle.std.proofs.Common.{ap, ◌∙◌}
 use Rattle.std.specs.List.{list_any}
 use Rattle.std.specs.Option.{option_map}
 use Rattle.std.specs.Prelude.{◌||◌, ◌&&◌, find}
@@ -11,13 +11,11 @@ use Rattle.mfotl_parse.specs.declared.term.Pair.{Pair}
 use Rattle.mfotl_parse.specs.Grammar.{Tree}
 use Rattle.mfotl_parse.specs.GrammarLaws.{ClashesAgree}
 use Rattle.mfotl_parse.specs.Meanings.{all_names}
-use Rattle.mfotl_parse.specs.Mentions.{Binding, SortMention, Occurs, Stands, Compares}
-use Rattle.mfotl_parse.specs.Mentions.{quantified_count}
-use Rattle.mfotl_parse.specs.Mentions.{mentions, same_binding, ask_other, place_of_mention}
-use Rattle.mfotl_parse.specs.Mentions.{sorts_apart, is_of, is_uneven, first_uneven, or_else, sort_clash}
+use Rattle.mfotl_parse.specs.Mentions.{Binding, SortMention, Occurs, Stands, Compares, quantified_count, mentions}
+use Rattle.mfotl_parse.specs.Mentions.{same_binding, ask_other, place_of_mention, sorts_apart, is_of, is_uneven}
+use Rattle.mfotl_parse.specs.Mentions.{first_uneven, or_else, sort_clash}
 use Rattle.mfotl_parse.specs.States.{SymbolTable}
-use Rattle.mfotl_parse.specs.SymbolTable.{sort_of}
-use Rattle.mfotl_parse.specs.SymbolTable.{differ, uneven_pair, clash_or_pair}
+use Rattle.mfotl_parse.specs.SymbolTable.{sort_of, differ, uneven_pair, clash_or_pair}
 use Rattle.mfotl_parse.specs.WellSorted.{same_sort}
 use Rattle.mfotl_parse.proofs.MentionSteps.{refers_sort, given_to, PairsOf, Follows}
 use Rattle.mfotl_parse.proofs.MentionTrees.{all_follow}

@@ -1,6 +1,6 @@
 -- Each step of the reader's symbol table gives to sorts what a mention in the text asks.
-use Rattle.std.proofs.Common.{◌≡◌, ℕ, suc, Bool, true, false, cond, not, List, [], ◌∷◌, ◌++◌, length, Option}
-use Rattle.std.proofs.Common.{Some, None, refl, sym, ap, subst, ◌∙◌, arith}
+use Rattle.std.proofs.Common.{◌≡◌, ℕ, suc, Bool, true, false, cond, not, List, [], ◌∷◌, ◌++◌, length, Option, Some}
+use Rattle.std.proofs.Common.{None, refl, sym, ap, subst, ◌∙◌, arith}
 use Rattle.std.proofs.lemmas.Bool.{eq-eqb, eqb-true}
 use Rattle.std.proofs.lemmas.List.{append-nil, append_assoc, length-append, length-set}
 use Rattle.std.proofs.lemmas.List.Folds.{list_any-append}
@@ -14,9 +14,8 @@ use Rattle.mfotl_parse.specs.Mentions.{Binding, Unbound, BoundAs, same_binding, 
 use Rattle.mfotl_parse.specs.Mentions.{asks_other, ask_other, clashes, place_of_mention, first_clash, or_else}
 use Rattle.mfotl_parse.specs.States.{SymbolTable}
 use Rattle.mfotl_parse.specs.SymbolTable.{free_place, bound_or_free, free_or_new, with_free, occurring, bound_more}
-use Rattle.mfotl_parse.specs.SymbolTable.{given_at}
-use Rattle.mfotl_parse.specs.SymbolTable.{sort_of, with_sort, earlier_clash, clashed, agreed, occurred, require_sort}
-use Rattle.mfotl_parse.specs.SymbolTable.{differ}
+use Rattle.mfotl_parse.specs.SymbolTable.{given_at, sort_of, with_sort, earlier_clash, clashed, agreed, occurred}
+use Rattle.mfotl_parse.specs.SymbolTable.{require_sort, differ}
 use Rattle.mfotl_parse.specs.WellSorted.{same_sort}
 use Rattle.mfotl_parse.proofs.NamesOrder.{HasPlace, never_first, same_sorts}
 use Rattle.mfotl_parse.proofs.PlaceLemmas.{place_of_name, stays_found, found_last, same_names, name_is, one_name}

@@ -1,6 +1,6 @@
 -- Behind a written formula the reader's symbol table says of sorts what the formula's places in the text do.
-use Rattle.std.proofs.Common.{◌≡◌, ℕ, suc, ◌+◌, Bool, true, false, cond, List, [], ◌∷◌, ◌++◌, Option}
-use Rattle.std.proofs.Common.{Some, None, refl, sym, ap, subst, arith}
+use Rattle.std.proofs.Common.{◌≡◌, ℕ, suc, ◌+◌, Bool, true, false, cond, List, [], ◌∷◌, ◌++◌, Option, Some, None, refl}
+use Rattle.std.proofs.Common.{sym, ap, subst, arith}
 use Rattle.std.proofs.lemmas.List.{append-nil, append_assoc}
 use Rattle.std.specs.Str.{bytes_eq}
 use Rattle.mfotl_model.specs.declared.policy.Sort.{Sort}
@@ -15,29 +15,26 @@ use Rattle.mfotl_parse.specs.Grammar.{LastVariable, MoreVariables, Tree, Truth, 
 use Rattle.mfotl_parse.specs.Grammar.{Denied, Timed, Quantified, Joined}
 use Rattle.mfotl_parse.specs.Meanings.{Scope, inside, operand_of, term_names, argument_names, arguments_names}
 use Rattle.mfotl_parse.specs.Meanings.{variables_names, variables_scope, names_behind, no_scope, all_names}
-use Rattle.mfotl_parse.specs.Mentions.{Binding, Unbound, BoundAs, Around, binding_of, SortMention}
-use Rattle.mfotl_parse.specs.Mentions.{term_mention, argument_mention, argument_mentions}
-use Rattle.mfotl_parse.specs.Mentions.{comparison_mention, inside_variables, quantified_count, places_of, mentions_in}
-use Rattle.mfotl_parse.specs.Mentions.{mentions}
+use Rattle.mfotl_parse.specs.Mentions.{Binding, Unbound, BoundAs, Around, binding_of, SortMention, term_mention}
+use Rattle.mfotl_parse.specs.Mentions.{argument_mention, argument_mentions, comparison_mention, inside_variables}
+use Rattle.mfotl_parse.specs.Mentions.{quantified_count, places_of, mentions_in, mentions}
 use Rattle.mfotl_parse.specs.Occurrences.{name_of, place_of_variable, place_of, hidden_count, blank_count}
 use Rattle.mfotl_parse.specs.Occurrences.{variable_count}
 use Rattle.mfotl_parse.specs.States.{SymbolTable, no_names}
-use Rattle.mfotl_parse.specs.SymbolTable.{bound_or_free, bound_more, inner_or, constrain_term, with_comparison}
-use Rattle.mfotl_parse.specs.SymbolTable.{differ}
-use Rattle.mfotl_parse.proofs.NamesOrder.{Inside, inside_grows, inside_all, resolved_place, argument_grows}
-use Rattle.mfotl_parse.proofs.NamesOrder.{tree_grows, HasPlace}
-use Rattle.mfotl_parse.proofs.MentionSteps.{Refers, given_to, Follows, from_scope}
-use Rattle.mfotl_parse.proofs.MentionSteps.{met_refers, name_refers, met_follows, stands, occurs, blank, compares}
-use Rattle.mfotl_parse.proofs.MentionSteps.{bound}
+use Rattle.mfotl_parse.specs.SymbolTable.{bound_or_free, bound_more, inner_or, constrain_term, with_comparison, differ}
+use Rattle.mfotl_parse.proofs.NamesOrder.{Inside, inside_grows, inside_all, resolved_place, argument_grows, tree_grows}
+use Rattle.mfotl_parse.proofs.NamesOrder.{HasPlace}
+use Rattle.mfotl_parse.proofs.MentionSteps.{Refers, given_to, Follows, from_scope, met_refers, name_refers, met_follows}
+use Rattle.mfotl_parse.proofs.MentionSteps.{stands, occurs, blank, compares, bound}
 
 -- a scope's names are bound as those around
 abbrev Binds : Scope → Around → Type 0
 Binds scope around = (name : List ℕ) → from_scope (scope name) name ≡ binding_of name around
 
 -- the same list, and the same count
-follows_as : (ms later : List SortMention) (i j : ℕ) (n : SymbolTable) → ms ≡ later → i ≡ j → Follows ms i n
+follows_as : {ms later : List SortMention} {i j : ℕ} {n : SymbolTable} → ms ≡ later → i ≡ j → Follows ms i n
     → Follows later j n
-follows_as ms later i j n e g f =
+follows_as {later = later} {i = i} {n = n} e g f =
     subst (λ (k : ℕ). Follows later k n) g (subst (λ (all : List SortMention). Follows all i n) e f)
 
 -- ---- terms
@@ -87,9 +84,9 @@ module _ (scope : Scope) (around : Around) (binds : Binds scope around) where
       → Follows (before ++ argument_mention a sort around count ∷ []) (count + hidden_count a)
       (argument_names a sort scope n)
   argument_follows (Given t) sort before count n within f =
-      follows_as _ _ count (count + 0) _ refl (omega arith) (term_follows t sort before count n within f)
+      follows_as refl (omega arith) (term_follows t sort before count n within f)
   argument_follows (Hidden token) sort before count n within f =
-      follows_as _ _ (suc count) (count + 1) _ refl (omega arith) (blank before count n f token.at sort)
+      follows_as refl (omega arith) (blank before count n f token.at sort)
 
   arguments_follow : (xs : WrittenArguments) (places : List Sort) (before : List SortMention) (count : ℕ)
       (n : SymbolTable) → Inside scope n → Follows before count n
@@ -101,10 +98,7 @@ module _ (scope : Scope) (around : Around) (binds : Binds scope around) where
       let between = argument_names a (due_sort places) scope n in
       let one = argument_mention a (due_sort places) around count in
       let later = argument_mentions rest (after_due places) around (count + hidden_count a) in
-      let same : count + hidden_count a + blank_count rest ≡ count + (hidden_count a + blank_count rest) = omega
-      arith in
-      follows_as ((before ++ one ∷ []) ++ later) (before ++ one ∷ later) _ _ _ (append_assoc before (one ∷ []) later)
-      same
+      follows_as (append_assoc before (one ∷ []) later) (omega arith)
       (arguments_follow rest (after_due places) (before ++ one ∷ []) (count + hidden_count a) between
       (inside_grows scope n between within (argument_grows a (due_sort places) scope n))
       (argument_follows a (due_sort places) before count n within f))
@@ -164,10 +158,9 @@ variables_bind (MoreVariables v comma rest) before count n scope around f binds 
 variables_follow : (vs : WrittenVariables) (before : List SortMention) (count : ℕ) (n : SymbolTable)
     → Follows before count n → Follows before (count + variable_count vs) (variables_names vs n)
 variables_follow (LastVariable v) before count n f =
-    follows_as before before (suc count) (count + 1) _ refl (omega arith) (bound before count n f)
+    follows_as refl (omega arith) (bound before count n f)
 variables_follow (MoreVariables v comma rest) before count n f =
-    let same : suc count + variable_count rest ≡ count + suc (variable_count rest) = omega arith in
-    follows_as before before _ _ _ refl same
+    follows_as refl (omega arith)
     (variables_follow rest before (suc count) (bound_more None n) (bound before count n f))
 
 -- ---- formulas
@@ -182,16 +175,16 @@ module _ (sig : List PredOf) where
       → Follows (before ++ mentions_in sig tree around count) (count + quantified_count tree)
       (names_behind sig tree scope n)
   tree_follows (Truth token value) scope around before count n binds within f =
-      follows_as before (before ++ []) count (count + 0) n (sym (append-nil before)) (omega arith) f
+      follows_as (sym (append-nil before)) (omega arith) f
   tree_follows (BareAtom name opening closing) scope around before count n binds within f =
-      follows_as before (before ++ []) count (count + 0) n (sym (append-nil before)) (omega arith) f
+      follows_as (sym (append-nil before)) (omega arith) f
   tree_follows (AtomOf name opening arguments closing) scope around before count n binds within f =
-      follows_as _ _ _ _ _
+      follows_as
       (ap (λ (places : List Sort). before ++ argument_mentions arguments places around count)
       (call_places (named name.text sig))) refl
       (arguments_follow scope around binds arguments (call_of (named name.text sig) 0).rest before count n within f)
   tree_follows (Comparison left token sign right) scope around before count n binds within f =
-      follows_as _ _ count (count + 0) _ refl (omega arith)
+      follows_as refl (omega arith)
       (sides_follow scope around binds left right token.at before count n within f)
   tree_follows (Enclosed opening body closing) scope around before count n binds within f =
       tree_follows body scope around before count n binds within f
@@ -200,9 +193,7 @@ module _ (sig : List PredOf) where
   tree_follows (Timed token operator interval body) scope around before count n binds within f =
       tree_follows body scope around before count n binds within f
   tree_follows (Quantified token quantifier variables dot body) scope around before count n binds within f =
-      let same : count + variable_count variables + quantified_count body
-      ≡ count + (variable_count variables + quantified_count body) = omega arith in
-      follows_as _ _ _ _ _ refl same
+      follows_as refl (omega arith)
       (tree_follows body (variables_scope variables n scope) (inside_variables variables count around) before
       (count + variable_count variables) (variables_names variables n)
       (variables_bind variables before count n scope around f binds) (inside_all variables scope n within)
@@ -211,9 +202,7 @@ module _ (sig : List PredOf) where
       let between = names_behind sig left scope n in
       let first = mentions_in sig left around count in
       let later = mentions_in sig right around (count + quantified_count left) in
-      let same : count + quantified_count left + quantified_count right
-      ≡ count + (quantified_count left + quantified_count right) = omega arith in
-      follows_as ((before ++ first) ++ later) (before ++ (first ++ later)) _ _ _ (append_assoc before first later) same
+      follows_as (append_assoc before first later) (omega arith)
       (tree_follows right scope around (before ++ first) (count + quantified_count left) between binds
       (inside_grows scope n between within (tree_grows sig left scope n))
       (tree_follows left scope around before count n binds within f))

@@ -1,6 +1,6 @@
 -- How the names that were met grow: what was given stays.
-use Rattle.std.proofs.Common.{◌≡◌, ℕ, zero, suc, ◌<◌, ◌≤◌, Bool, true, false, cond, List, [], ◌∷◌, ◌++◌, length}
-use Rattle.std.proofs.Common.{Option, Some, None, refl, sym, ap, ◌∙◌, arith}
+use Rattle.std.proofs.Common.{◌≡◌, ℕ, zero, suc, ◌<◌, ◌≤◌, Bool, true, false, cond, List, [], ◌∷◌, ◌++◌, length, Option}
+use Rattle.std.proofs.Common.{Some, None, refl, sym, ap, ◌∙◌, arith}
 use Rattle.std.proofs.lemmas.List.{append-nil, append_assoc, length-append, length-set}
 use Rattle.std.proofs.lemmas.List.Quantifiers.{position-Some}
 use Rattle.std.specs.Prelude.{slice_get, slice_set}
@@ -17,14 +17,13 @@ use Rattle.mfotl_parse.specs.Arguments.{call_of}
 use Rattle.mfotl_parse.specs.SortsDue.{due_sort, after_due}
 use Rattle.mfotl_parse.specs.Grammar.{WrittenTerm, Named, Number, Quoted, WrittenArgument, Given, Hidden}
 use Rattle.mfotl_parse.specs.Grammar.{WrittenArguments, LastArgument, MoreArguments, WrittenVariables, LastVariable}
-use Rattle.mfotl_parse.specs.Grammar.{MoreVariables, Tree, Truth, BareAtom, AtomOf, Comparison, Enclosed, Denied}
-use Rattle.mfotl_parse.specs.Grammar.{Timed, Quantified, Joined}
+use Rattle.mfotl_parse.specs.Grammar.{MoreVariables, Tree, Truth, BareAtom, AtomOf, Comparison, Enclosed, Denied, Timed}
+use Rattle.mfotl_parse.specs.Grammar.{Quantified, Joined}
 use Rattle.mfotl_parse.specs.Meanings.{Scope, inside, operand_of, term_names, argument_names, arguments_names}
 use Rattle.mfotl_parse.specs.Meanings.{variables_names, variables_scope, names_behind}
 use Rattle.mfotl_parse.specs.Occurrences.{name_of, place_of_variable, place_of}
 use Rattle.mfotl_parse.specs.SymbolTable.{free_place, bound_or_free, free_or_new, with_free, occurring, bound_more}
-use Rattle.mfotl_parse.specs.SymbolTable.{given_at}
-use Rattle.mfotl_parse.specs.SymbolTable.{sort_of, with_sort, earlier_clash, clashed, agreed, occurred}
+use Rattle.mfotl_parse.specs.SymbolTable.{given_at, sort_of, with_sort, earlier_clash, clashed, agreed, occurred}
 use Rattle.mfotl_parse.specs.SymbolTable.{require_sort, constrain_term, with_comparison, inner_or}
 use Rattle.mfotl_parse.specs.States.{SymbolTable}
 use Rattle.mfotl_parse.specs.WellSorted.{sort_of_constant, same_sort}
@@ -40,16 +39,22 @@ pub record Grows (n m : SymbolTable) : Type 0 where
   -- each free variable keeps a place for its sort
   pub sized : length n.free_sorts ≡ length n.free → length m.free_sorts ≡ length m.free
 
-pub grows_not : (n : SymbolTable) → Grows n n
-grows_not n = record {
-  sorts = λ v s e. e;
-  clash = λ e. e;
-  free = omega arith;
-  bound = omega arith;
-  more = [];
-  pairs = sym (append-nil n.pairs);
-  sized = λ e. e;
+-- with the same free variables
+grows_by : (n m : SymbolTable) → ((v : Variable) (s : Sort) → sort_of v n ≡ Some s → sort_of v m ≡ Some s)
+    → (m.clash ≡ None → n.clash ≡ None) → m.free ≡ n.free → length m.free_sorts ≡ length n.free_sorts
+    → length n.bound_sorts ≤ length m.bound_sorts → (more : List Pair) → m.pairs ≡ n.pairs ++ more → Grows n m
+grows_by n m sorts clash same sized bound more pairs = record {
+  sorts = sorts;
+  clash = clash;
+  free = omega (arith, ap length same);
+  bound = bound;
+  more = more;
+  pairs = pairs;
+  sized = λ e. sized ∙ e ∙ ap length (sym same);
 }
+
+pub grows_not : (n : SymbolTable) → Grows n n
+grows_not n = grows_by n n (λ v s e. e) (λ e. e) refl refl (omega arith) [] (sym (append-nil n.pairs))
 
 pub grows_then : (n m k : SymbolTable) → Grows n m → Grows m k → Grows n k
 grows_then n m k g h = record {
@@ -111,44 +116,26 @@ met_grows None name at n = by_place (free_place name n)
     }
 
 pub bound_grows : (sort : Option Sort) (n : SymbolTable) → Grows n (bound_more sort n)
-bound_grows sort n = record {
-  sorts = λ v s e. by_variable v s e;
-  clash = λ e. e;
-  free = omega arith;
-  bound = omega (arith, length-append n.bound_sorts (sort ∷ []));
-  more = [];
-  pairs = sym (append-nil n.pairs);
-  sized = λ e. e;
-}
+bound_grows sort n =
+    grows_by n _ by_variable (λ e. e) refl refl (omega (arith, length-append n.bound_sorts (sort ∷ []))) []
+    (sym (append-nil n.pairs))
   where
     by_variable : (v : Variable) (s : Sort) → sort_of v n ≡ Some s → sort_of v (bound_more sort n) ≡ Some s
     by_variable (variables.Free k) s e = e
     by_variable (variables.Bound k) s e = given_more n.bound_sorts sort k s e
 
 sort_grows : (v : Variable) (sort : Sort) (n : SymbolTable) → sort_of v n ≡ None → Grows n (with_sort v sort n)
-sort_grows (variables.Free k) sort n none = record {
-  sorts = λ v s e. by_variable v s e;
-  clash = λ e. e;
-  free = omega arith;
-  bound = omega arith;
-  more = [];
-  pairs = sym (append-nil n.pairs);
-  sized = λ e. length-set n.free_sorts k (Some sort) ∙ e;
-}
+sort_grows (variables.Free k) sort n none =
+    grows_by n _ by_variable (λ e. e) refl (length-set n.free_sorts k (Some sort)) (omega arith) []
+    (sym (append-nil n.pairs))
   where
     by_variable : (v : Variable) (s : Sort) → sort_of v n ≡ Some s → sort_of v (with_sort (variables.Free k) sort n)
         ≡ Some s
     by_variable (variables.Free j) s e = given_set n.free_sorts k j (Some sort) s none e
     by_variable (variables.Bound j) s e = e
-sort_grows (variables.Bound k) sort n none = record {
-  sorts = λ v s e. by_variable v s e;
-  clash = λ e. e;
-  free = omega arith;
-  bound = omega (arith, length-set n.bound_sorts k (Some sort));
-  more = [];
-  pairs = sym (append-nil n.pairs);
-  sized = λ e. e;
-}
+sort_grows (variables.Bound k) sort n none =
+    grows_by n _ by_variable (λ e. e) refl refl (omega (arith, length-set n.bound_sorts k (Some sort))) []
+    (sym (append-nil n.pairs))
   where
     by_variable : (v : Variable) (s : Sort) → sort_of v n ≡ Some s → sort_of v (with_sort (variables.Bound k) sort n)
         ≡ Some s
@@ -160,15 +147,9 @@ never_first (Some place) at e = absurd cc
 never_first None at e = absurd cc
 
 clash_grows : (at : ℕ) (n : SymbolTable) → Grows n (clashed at n)
-clash_grows at n = record {
-  sorts = λ v s e. by_variable v s e;
-  clash = λ e. absurd (never_first n.clash at e);
-  free = omega arith;
-  bound = omega arith;
-  more = [];
-  pairs = sym (append-nil n.pairs);
-  sized = λ e. e;
-}
+clash_grows at n =
+    grows_by n _ by_variable (λ e. absurd (never_first n.clash at e)) refl refl (omega arith) []
+    (sym (append-nil n.pairs))
   where
     by_variable : (v : Variable) (s : Sort) → sort_of v n ≡ Some s → sort_of v (clashed at n) ≡ Some s
     by_variable (variables.Free j) s e = e
@@ -193,15 +174,7 @@ placed_grows (operands.Variable v) at sort n = occurs_grows v at sort n
 placed_grows (operands.Constant value) at sort n = agreed_grows (sort_of_constant value) at sort n
 
 pair_grows : (pair : Pair) (n : SymbolTable) → Grows n (record n { pairs = n.pairs ++ pair ∷ [] })
-pair_grows pair n = record {
-  sorts = λ v s e. by_variable v s e;
-  clash = λ e. e;
-  free = omega arith;
-  bound = omega arith;
-  more = pair ∷ [];
-  pairs = refl;
-  sized = λ e. e;
-}
+pair_grows pair n = grows_by n _ by_variable (λ e. e) refl refl (omega arith) (pair ∷ []) refl
   where
     by_variable : (v : Variable) (s : Sort) → sort_of v n ≡ Some s
         → sort_of v (record n { pairs = n.pairs ++ pair ∷ [] }) ≡ Some s

@@ -1,6 +1,6 @@
 -- The laws of `specs/GrammarLaws.antt`.
-use Rattle.std.proofs.Common.{◌≡◌, ◌≢◌, ℕ, ◌+◌, ◌≤◌, true, false, Bool, List, [], ◌∷◌, ◌++◌, length, Option, Some}
-use Rattle.std.proofs.Common.{None, Result, Ok, Err, IfOk, IfErr, refl, ap, sym, ◌∙◌, inl, inr, arith}
+use Rattle.std.proofs.Common.{◌≡◌, ◌≢◌, ℕ, ◌+◌, ◌≤◌, true, false, Bool, List, [], ◌∷◌, ◌++◌, length, Option, Some, None}
+use Rattle.std.proofs.Common.{Result, Ok, Err, IfOk, IfErr, refl, ap, sym, ◌∙◌, inl, inr, arith}
 use Rattle.std.proofs.lemmas.Option.{slice_get_cases, slice_get_past}
 use Rattle.std.specs.Prelude.{slice_get}
 use Rattle.mfotl_lex.specs.declared.fault.LexFault.{LexFault}
@@ -27,8 +27,7 @@ use Rattle.mfotl_parse.specs.GrammarLaws.{ExactLex, StaysShown}
 use Rattle.mfotl_parse.specs.Limits.{max_free}
 use Rattle.mfotl_parse.specs.Meanings.{no_scope, all_names, value, node_count, KeepsRules, IsValue, policy_of}
 use Rattle.mfotl_parse.specs.Reading.{PolicyOf, step, sorted, checked_at_end, closed_at_end, ended_at, is_closed}
-use Rattle.mfotl_parse.specs.Reading.{at_tail, text_of}
-use Rattle.mfotl_parse.specs.Reading.{reading_on, reading}
+use Rattle.mfotl_parse.specs.Reading.{at_tail, text_of, reading_on, reading}
 use Rattle.mfotl_parse.specs.Occurrences.{free_variables}
 use Rattle.mfotl_parse.specs.Reduction.{reduce}
 use Rattle.mfotl_parse.specs.States.{no_names, depth, Stage, Context, SymbolTable, Partial, AfterOperand, nothing_read}
@@ -45,8 +44,7 @@ use Rattle.mfotl_parse.proofs.SpelledMoves.{at_place}
 use Rattle.mfotl_parse.proofs.TracedMoves.{trace}
 use Rattle.mfotl_parse.proofs.TracedTrees.{shows_whole}
 use Rattle.mfotl_parse.proofs.ViabilityLemmas.{completes}
-use Rattle.mfotl_parse.proofs.WholeTrees.{whole, viable, begins, read_viable, whole_formula, rules_kept}
-use Rattle.mfotl_parse.proofs.WholeTrees.{finished_by}
+use Rattle.mfotl_parse.proofs.WholeTrees.{whole, viable, begins, read_viable, whole_formula, rules_kept, finished_by}
 
 -- ---- what is read, and what is spelled
 
@@ -78,10 +76,8 @@ record Unrefused (clash : Option ℕ) (uneven : Option Pair) (ninth : Option (Li
 
 unrefused : (clash : Option ℕ) (uneven : Option Pair) (ninth : Option (List ℕ × ℕ)) (policy other : PolicyOf)
     → sorted clash uneven ninth policy ≡ Ok other → Unrefused clash uneven ninth policy other
-unrefused (Some place) uneven ninth policy other e = absurd cc
-unrefused None (Some pair) ninth policy other e = absurd cc
-unrefused None None (Some known) policy other e = absurd cc
 unrefused None None None policy other e = record { unclashed = refl; even = refl; few = refl; same = cc }
+unrefused _ _ _ policy other e = absurd cc
 
 at_most : (free : List (List ℕ × ℕ)) → slice_get free max_free ≡ None → length free ≤ max_free
 at_most free e = elim ((slice_get_cases free max_free).1) [ inl some ↦ absurd (cc (some.2, e)) | inr past ↦ past.0 ]

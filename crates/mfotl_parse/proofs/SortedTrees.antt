@@ -23,27 +23,23 @@ use Rattle.mfotl_parse.specs.declared.term.Variable.TheVariants as variables
 use Rattle.mfotl_parse.specs.Arguments.{call_of, blanks}
 use Rattle.mfotl_parse.specs.Grammar.{WrittenTerm, Named, Number, Quoted, WrittenArgument, Given, Hidden}
 use Rattle.mfotl_parse.specs.Grammar.{WrittenArguments, LastArgument, MoreArguments, WrittenVariables, LastVariable}
-use Rattle.mfotl_parse.specs.Grammar.{MoreVariables, Tree, Truth, BareAtom, AtomOf, Comparison, Enclosed, Denied}
-use Rattle.mfotl_parse.specs.Grammar.{Timed, Quantified, Joined}
+use Rattle.mfotl_parse.specs.Grammar.{MoreVariables, Tree, Truth, BareAtom, AtomOf, Comparison, Enclosed, Denied, Timed}
+use Rattle.mfotl_parse.specs.Grammar.{Quantified, Joined}
 use Rattle.mfotl_parse.specs.Meanings.{Scope, inside, operand_of, term_names, argument_term, argument_names}
 use Rattle.mfotl_parse.specs.Meanings.{arguments_terms, arguments_names, argument_count, atom, variables_names}
-use Rattle.mfotl_parse.specs.Meanings.{variables_scope, quantify, interval_of, names_behind, value, HasArity}
-use Rattle.mfotl_parse.specs.Meanings.{PartsKeep}
+use Rattle.mfotl_parse.specs.Meanings.{variables_scope, quantify, interval_of, names_behind, value, HasArity, PartsKeep}
 use Rattle.mfotl_parse.specs.Occurrences.{name_of, place_of_variable, place_of}
-use Rattle.mfotl_parse.specs.SymbolTable.{number_of, bound_or_free, bound_more, given_at, sort_of}
-use Rattle.mfotl_parse.specs.SymbolTable.{require_sort, constrain_term, with_comparison}
-use Rattle.mfotl_parse.specs.SymbolTable.{term_of, differ, uneven_pair}
+use Rattle.mfotl_parse.specs.SymbolTable.{number_of, bound_or_free, bound_more, given_at, sort_of, require_sort}
+use Rattle.mfotl_parse.specs.SymbolTable.{constrain_term, with_comparison, term_of, differ, uneven_pair}
 use Rattle.mfotl_parse.specs.Operands.{truth}
 use Rattle.mfotl_parse.specs.Reduction.{momentary, operator_form, quantified}
 use Rattle.mfotl_parse.specs.States.{SymbolTable}
 use Rattle.mfotl_parse.specs.WellSorted.{Sorting, sort_of_constant, same_sort, HasSort, HaveSorts, SidesAgree}
 use Rattle.mfotl_parse.specs.WellSorted.{FitsSorts}
 use Rattle.mfotl_parse.specs.Limits.{max_free}
-use Rattle.mfotl_parse.proofs.NamesOrder.{Grows, grows_then, given_last, placed_grows}
-use Rattle.mfotl_parse.proofs.NamesOrder.{compared_grows, term_grows, argument_grows, arguments_grow, variables_grow}
-use Rattle.mfotl_parse.proofs.NamesOrder.{tree_grows, HasPlace, Inside, inside_grows, inside_all, resolved_place}
-use Rattle.mfotl_parse.proofs.NamesOrder.{agreed_sort}
-use Rattle.mfotl_parse.proofs.NamesOrder.{occurs_sort}
+use Rattle.mfotl_parse.proofs.NamesOrder.{Grows, grows_then, given_last, placed_grows, compared_grows, term_grows}
+use Rattle.mfotl_parse.proofs.NamesOrder.{argument_grows, arguments_grow, variables_grow, tree_grows, HasPlace, Inside}
+use Rattle.mfotl_parse.proofs.NamesOrder.{inside_grows, inside_all, resolved_place, agreed_sort, occurs_sort}
 
 -- the sorts that these names give, by the variables' numbers
 abbrev pub given_by : SymbolTable → Sorting
@@ -250,20 +246,12 @@ module _ (sig : List PredOf) (last : SymbolTable) (clash : last.clash ≡ None) 
   moment_sorted : (o : Temporal) (i : Interval) (f : Form) → FitsSorts sig (given_by last) f
       → FitsSorts sig (given_by last) (momentary o i f)
   moment_sorted temporals.Previous i f h = h
-  moment_sorted temporals.Next i f h = h
-  moment_sorted temporals.Once i f h = h
-  moment_sorted temporals.Historically i f h = h
-  moment_sorted temporals.Eventually i f h = h
-  moment_sorted temporals.Always i f h = h
+  moment_sorted _ i f h = h
 
   joined_sorted : (o : Operator) (i : Interval) (f g : Form) → FitsSorts sig (given_by last) f
       → FitsSorts sig (given_by last) g → FitsSorts sig (given_by last) (operator_form o i f g)
   joined_sorted operators.And i f g h k = (h, k)
-  joined_sorted operators.Or i f g h k = (h, k)
-  joined_sorted operators.Implies i f g h k = (h, k)
-  joined_sorted operators.Equiv i f g h k = (h, k)
-  joined_sorted operators.Since i f g h k = (h, k)
-  joined_sorted operators.Until i f g h k = (h, k)
+  joined_sorted _ i f g h k = (h, k)
 
   truth_sorted : (which : Bool) → FitsSorts sig (given_by last) (truth which)
   truth_sorted true = tt

@@ -20,12 +20,14 @@ use Rattle.mfotl_parse.specs.Lookahead.{maybe_move, maybe_number_move}
 use Rattle.mfotl_parse.specs.Operators.{joined_move, enclosed_move, around, deepening, now_behind}
 use Rattle.mfotl_parse.specs.Reading.{transition}
 use Rattle.mfotl_parse.specs.Reduction.{Reduced, reduce, hold, closed, operator_form}
-use Rattle.mfotl_parse.specs.States.{Frame, Parens, Left, depth, SymbolTable, Stage, Context, Partial, ExpectOperand}
+use Rattle.mfotl_parse.specs.States.{Frame, Parens, Left, depth, SymbolTable, Stage, Partial, ExpectOperand}
 use Rattle.mfotl_parse.specs.States.{AfterTemporal, AfterOperand, ExpectSign, AfterParen, AfterParenNumber}
 use Rattle.mfotl_parse.specs.Limits.{max_levels}
 use Rattle.mfotl_parse.specs.Grammar.{precedence, right_precedence, is_timed, deepens}
-use Rattle.mfotl_parse.proofs.SpelledMoves.{at_place, behind_move, then_moves, moves, move_is, moves_one, moves_both}
-use Rattle.mfotl_parse.proofs.SpelledMoves.{AreKept, Exactly, kept_both, kept_front, kept_back, no_move, same_next}
+use Rattle.mfotl_parse.specs.declared.term.Side.{Side}
+use Rattle.mfotl_parse.proofs.SpelledMoves.{at_place, context_at, behind_move, then_moves, moves, move_is, moves_one}
+use Rattle.mfotl_parse.proofs.SpelledMoves.{moves_both, AreKept, Exactly, kept_both, kept_front, kept_back, no_move}
+use Rattle.mfotl_parse.proofs.SpelledMoves.{same_next}
 use Rattle.mfotl_parse.proofs.StackLemmas.{reduce_loose, reduce_tight}
 
 -- Tokens are read as an operand: they lead to an operand and frames that are, once all is closed that holds
@@ -182,11 +184,15 @@ module _ (sig : List PredOf) where
 
 -- ---- behind a temporal operator an operand is read as anywhere
 
+-- an Integer as a comparison's left side
+abbrev pub number_side : ℕ → ℤ → Side
+number_side at z = record { at = at; operand = operands.Constant (values.Int z) }
+
 abbrev pub IsHave : Stage → Type 0
 IsHave (AfterOperand f) = Unit {0}
 IsHave _ = ⊥
 
-not_have : {first rules : List Rule} {p q : Partial} → (IsHave p.now → ⊥) → goes first p ≡ goes rules q
+pub not_have : {first rules : List Rule} {p q : Partial} → (IsHave p.now → ⊥) → goes first p ≡ goes rules q
     → IsHave q.now → ⊥
 not_have never e h = never (subst (λ (x : Partial). IsHave x.now) (sym (same_next e)) h)
 
@@ -203,29 +209,20 @@ first_first rule q r (Some m) f = by_rest (f m.next)
     by_rest None = refl
     by_rest (Some n) = refl
 
-nothing_leads : {rules : List Rule} {q : Partial} → None ≡ goes rules q → (P : Type 0) → P
-nothing_leads e P = absurd (no_move e)
-
 module _ (sig : List PredOf) (stack : List Frame) (nodes : ℕ) (names : SymbolTable) where
-  abbrev here : Context
-  here = record { stack = stack; nodes = nodes; names = names }
-
-  abbrev inside : Context
-  inside = record { stack = Parens ∷ stack; nodes = nodes; names = names }
-
   -- a sign behind the Integer behind the `(`
   after_number : (at number_at : ℕ) (z : ℤ) (q0 r0 : Partial) (t : Lexeme) (ts : List Lexeme) (rules : List Rule)
       (q : Partial) (c : Class)
       → behind_move (record { rules = within_depth at stack ∷ []; next = q0 })
-      (then_moves (compared_move inside (record { at = number_at; operand = operands.Constant (values.Int z) }) t c)
+      (then_moves (compared_move (context_at (Parens ∷ stack) nodes names) (number_side number_at z) t c)
       (moves sig ts)) ≡ goes rules q
       → behind_move (record { rules = []; next = r0 })
-      (then_moves (maybe_number_move here at number_at z t c) (moves sig ts)) ≡ goes rules q
+      (then_moves (maybe_number_move (context_at stack nodes names) at number_at z t c) (moves sig ts)) ≡ goes rules q
   after_number at number_at z q0 r0 t ts rules q (classes.Sign sign) h =
       first_first (within_depth at stack) q0 r0
-      (signed inside (record { at = number_at; operand = operands.Constant (values.Int z) }) t.at sign)
+      (signed (context_at (Parens ∷ stack) nodes names) (number_side number_at z) t.at sign)
       (moves sig ts) ∙ h
-  after_number at number_at z q0 r0 t ts rules q _ h = nothing_leads h _
+  after_number at number_at z q0 r0 t ts rules q _ h = absurd (no_move h)
 
   behind_nothing : (r0 : Partial) (o : Option Transition) → behind_move (record { rules = []; next = r0 }) o ≡ o
   behind_nothing r0 None = refl
@@ -236,13 +233,9 @@ module _ (sig : List PredOf) (stack : List Frame) (nodes : ℕ) (names : SymbolT
       → IsHave q.now
       → behind_move (record { rules = within_depth at stack ∷ []; next = q0 })
       (moves sig ts
-      (record {
-        context = inside;
-        now = ExpectSign
-            (record { at = number_at; operand = operands.Constant (values.Int z) });
-      })) ≡ goes rules q
+      (at_place (ExpectSign (number_side number_at z)) (Parens ∷ stack) nodes names)) ≡ goes rules q
       → behind_move (record { rules = []; next = r0 })
-      (moves sig ts (record { context = here; now = AfterParenNumber at number_at z })) ≡ goes rules q
+      (moves sig ts (at_place (AfterParenNumber at number_at z) stack nodes names)) ≡ goes rules q
   unfolding moves transition
   number_too at number_at z q0 r0 [] rules q have h = absurd (not_have (λ n. n) h have)
   number_too at number_at z q0 r0 (t ∷ ts) rules q have h =
@@ -252,39 +245,35 @@ module _ (sig : List PredOf) (stack : List Frame) (nodes : ℕ) (names : SymbolT
   after_open : (at : ℕ) (q0 r0 : Partial) (t : Lexeme) (ts : List Lexeme) (rules : List Rule) (q : Partial)
       (c : Class) → IsHave q.now
       → behind_move (record { rules = within_depth at stack ∷ []; next = q0 })
-      (then_moves (operand_move inside t c) (moves sig ts)) ≡ goes rules q
-      → behind_move (record { rules = []; next = r0 }) (then_moves (maybe_move here at t c) (moves sig ts))
+      (then_moves (operand_move (context_at (Parens ∷ stack) nodes names) t c) (moves sig ts)) ≡ goes rules q
+      → behind_move (record { rules = []; next = r0 }) (then_moves (maybe_move (context_at stack nodes names) at t c) (moves sig ts))
       ≡ goes rules q
   after_open at q0 r0 t ts rules q (classes.Integer z) have h =
-      let there : Partial = record {
-        context = inside;
-        now = ExpectSign
-            (record { at = t.at; operand = operands.Constant (values.Int z) });
-      } in
-      let number : Partial = record { context = here; now = AfterParenNumber at t.at z } in
+      let there : Partial = at_place (ExpectSign (number_side t.at z)) (Parens ∷ stack) nodes names in
+      let number : Partial = at_place (AfterParenNumber at t.at z) stack nodes names in
       ap (behind_move (record { rules = []; next = r0 })) (behind_nothing number (moves sig ts number))
       ∙ number_too at t.at z q0 r0 ts rules q have
       (ap (behind_move (record { rules = within_depth at stack ∷ []; next = q0 }))
       (sym (behind_nothing there (moves sig ts there))) ∙ h)
   after_open at q0 r0 t ts rules q c have h =
-      first_first (within_depth at stack) q0 r0 (operand_move inside t c) (moves sig ts) ∙ h
+      first_first (within_depth at stack) q0 r0 (operand_move (context_at (Parens ∷ stack) nodes names) t c) (moves sig ts) ∙ h
 
   open_too : (at : ℕ) (q0 r0 : Partial) (ts : List Lexeme) (rules : List Rule) (q : Partial) → IsHave q.now
       → behind_move (record { rules = within_depth at stack ∷ []; next = q0 })
-      (moves sig ts (record { context = inside; now = ExpectOperand })) ≡ goes rules q
+      (moves sig ts (at_place ExpectOperand (Parens ∷ stack) nodes names)) ≡ goes rules q
       → behind_move (record { rules = []; next = r0 })
-      (moves sig ts (record { context = here; now = AfterParen at })) ≡ goes rules q
+      (moves sig ts (at_place (AfterParen at) stack nodes names)) ≡ goes rules q
   unfolding moves transition
   open_too at q0 r0 [] rules q have h = absurd (not_have (λ n. n) h have)
   open_too at q0 r0 (t ∷ ts) rules q have h = after_open at q0 r0 t ts rules q (class_of t) have h
 
   after_fresh : (t : Lexeme) (ts : List Lexeme) (rules : List Rule) (q : Partial) (c : Class) → IsHave q.now
-      → then_moves (operand_move here t c) (moves sig ts) ≡ goes rules q
-      → then_moves (fresh_move here t c) (moves sig ts) ≡ goes rules q
-  after_fresh t ts rules q classes.OpenBracket have h = nothing_leads h _
+      → then_moves (operand_move (context_at stack nodes names) t c) (moves sig ts) ≡ goes rules q
+      → then_moves (fresh_move (context_at stack nodes names) t c) (moves sig ts) ≡ goes rules q
+  after_fresh t ts rules q classes.OpenBracket have h = absurd (no_move h)
   after_fresh t ts rules q classes.OpenParen have h =
-      open_too t.at (record { context = inside; now = ExpectOperand })
-      (record { context = here; now = AfterParen t.at }) ts rules q have h
+      open_too t.at (at_place ExpectOperand (Parens ∷ stack) nodes names)
+      (at_place (AfterParen t.at) stack nodes names) ts rules q have h
   after_fresh t ts rules q c have h = h
 
   pub fresh_too : (ts : List Lexeme) (rules : List Rule) (q : Partial) → IsHave q.now

@@ -7,11 +7,14 @@ use Rattle.mfotl_parse.specs.declared.class.Class.{Class}
 use Rattle.mfotl_parse.specs.Classes.{class_of}
 use Rattle.mfotl_parse.specs.Transitions.{Rule, Transition, goes}
 use Rattle.mfotl_parse.specs.Reading.{transition_at, transition}
-use Rattle.mfotl_parse.specs.States.{Frame, SymbolTable, Stage, Partial}
+use Rattle.mfotl_parse.specs.States.{Frame, SymbolTable, Stage, Context, Partial}
 use Rattle.mfotl_parse.specs.Limits.{max_levels}
 
 abbrev pub at_place : Stage → List Frame → ℕ → SymbolTable → Partial
 at_place now stack nodes names = record { context = record { stack = stack; nodes = nodes; names = names }; now = now }
+
+abbrev pub context_at : List Frame → ℕ → SymbolTable → Context
+context_at stack nodes names = record { stack = stack; nodes = nodes; names = names }
 
 abbrev pub behind_move : Transition → Option Transition → Option Transition
 behind_move m None = None

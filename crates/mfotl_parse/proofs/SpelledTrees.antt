@@ -7,89 +7,63 @@ use Rattle.std.specs.Prelude.{cond}
 use Rattle.mfotl_lex.specs.Lexemes.{Lexeme}
 use Rattle.mfotl_model.specs.declared.interval.Interval.{Interval}
 use Rattle.mfotl_model.specs.Formulas.{Form}
-use Rattle.mfotl_sig.specs.Preds.{PredOf}
+use Rattle.mfotl_sig.specs.Preds.{PredOf, named}
 use Rattle.mfotl_parse.specs.declared.class.Class.{Class}
 use Rattle.mfotl_parse.specs.declared.class.Class.TheVariants as classes
 use Rattle.mfotl_parse.specs.declared.class.Operator.{Operator}
-use Rattle.mfotl_parse.specs.declared.class.Operator.TheVariants.{And, Or, Implies, Equiv, Since, Until}
+use Rattle.mfotl_parse.specs.declared.class.Operator.TheVariants.{Equiv}
 use Rattle.mfotl_parse.specs.declared.class.Quantifier.{Quantifier}
 use Rattle.mfotl_parse.specs.Classes.{class_of}
-use Rattle.mfotl_parse.specs.Grammar.{WrittenVariable, Bare, Asked, WrittenVariables, LastVariable, MoreVariables}
-use Rattle.mfotl_parse.specs.Grammar.{WrittenInterval, Omitted, Tree, Truth, BareAtom, AtomOf, Comparison, Enclosed}
-use Rattle.mfotl_parse.specs.Grammar.{Denied, Timed, Quantified, Joined, variable_spelling, variables_spelling}
-use Rattle.mfotl_parse.specs.Grammar.{interval_spelling, spelling, FitsVariable, FitsVariables, FitsOperator, Fits}
-use Rattle.mfotl_parse.specs.Grammar.{left_precedence, is_shut, precedence, right_precedence, is_timed, deepens}
-use Rattle.mfotl_parse.specs.Intervals.{any_distance, framed}
+use Rattle.mfotl_parse.specs.Grammar.{WrittenVariable, Bare, Asked, WrittenVariables, LastVariable, MoreVariables, Tree}
+use Rattle.mfotl_parse.specs.Grammar.{Truth, BareAtom, AtomOf, Comparison, Enclosed, Denied, Timed, Quantified, Joined}
+use Rattle.mfotl_parse.specs.Grammar.{variable_spelling, variables_spelling, interval_spelling, spelling, FitsVariable}
+use Rattle.mfotl_parse.specs.Grammar.{FitsVariables, Fits, left_precedence, is_shut, precedence, right_precedence}
+use Rattle.mfotl_parse.specs.Grammar.{is_timed, deepens}
+use Rattle.mfotl_parse.specs.Intervals.{any_distance}
 use Rattle.mfotl_parse.specs.Meanings.{Scope, variables_names, variables_scope, quantify, interval_of, names_behind}
-use Rattle.mfotl_parse.specs.Meanings.{value, node_count, right_levels, nesting, IntervalKeeps}
-use Rattle.mfotl_parse.specs.Occurrences.{variable_count}
-use Rattle.mfotl_parse.specs.Meanings.{PartsKeep}
-use Rattle.mfotl_parse.specs.Occurrences.{name_of}
+use Rattle.mfotl_parse.specs.Meanings.{value, node_count, right_levels, nesting, IntervalKeeps, PartsKeep, HasArity}
+use Rattle.mfotl_parse.specs.Meanings.{argument_count}
+use Rattle.mfotl_parse.specs.Occurrences.{variable_count, blank_count, name_of, place_of_variable}
+use Rattle.mfotl_parse.specs.Reading.{transition}
+use Rattle.mfotl_parse.specs.Shows.{variable_shown}
 use Rattle.mfotl_parse.specs.Transitions.{Rule, goes, within_nodes, within_depth}
 use Rattle.mfotl_parse.specs.SymbolTable.{binder_of, bound_more}
 use Rattle.mfotl_parse.specs.Operands.{truth}
 use Rattle.mfotl_parse.specs.Quantifiers.{bound_move}
-use Rattle.mfotl_parse.specs.Operators.{deepening, now_behind}
-use Rattle.mfotl_parse.specs.States.{Frame, Parens, Negation, Moment, Binding, Left, depth, SymbolTable, Stage}
-use Rattle.mfotl_parse.specs.States.{Partial, ExpectOperand, AfterTemporal, ExpectVariable, AfterVariableMark}
-use Rattle.mfotl_parse.specs.States.{AfterVariable}
+use Rattle.mfotl_parse.specs.Operators.{deepening}
+use Rattle.mfotl_parse.specs.States.{Frame, Parens, Negation, Moment, Binding, Left, depth, SymbolTable, Stage, Partial}
+use Rattle.mfotl_parse.specs.States.{ExpectOperand, AfterTemporal, ExpectVariable, AfterVariable}
 use Rattle.mfotl_parse.specs.Limits.{max_levels, max_nodes}
-use Rattle.mfotl_parse.proofs.SpelledMoves.{at_place, moves, moves_both, AreKept, kept_both}
+use Rattle.mfotl_parse.proofs.OperatorLevels.{levels}
+use Rattle.mfotl_parse.proofs.SpelledMoves.{at_place, context_at, moves, moves_both, AreKept}
 use Rattle.mfotl_parse.proofs.SpelledForms.{Takes, IsLoose, takes_whole, takes_behind, takes_closed, takes_less}
 use Rattle.mfotl_parse.proofs.SpelledForms.{takes_enclosed, takes_joined}
-use Rattle.mfotl_parse.proofs.SpelledParts.{scope_of, context_at, one, first, node_fits, node_fitted, takes_bare}
-use Rattle.mfotl_parse.proofs.SpelledParts.{takes_atom, takes_comparison, takes_timed, arguments_nodes}
-use Rattle.mfotl_parse.proofs.SpelledParts.{arguments_nodes_are}
+use Rattle.mfotl_parse.proofs.SpelledParts.{scope_of, one, node_fits, node_fitted, bare_atom_leads, atom_leads}
+use Rattle.mfotl_parse.proofs.SpelledParts.{bare_exactly, atom_exactly, comparison_leads, takes_interval}
+use Rattle.mfotl_parse.proofs.SpelledParts.{arguments_nodes, arguments_nodes_are}
+use Rattle.mfotl_parse.proofs.TracedMoves.{trace, Leads}
 
 -- frames on the edge of a tree of this rule hold more tightly than what lies below
 abbrev pub Reaches : ℕ → ℕ → Type 0
 Reaches rule edge = (edge ≤ 6) × ((o : Operator) → rule ≤ precedence o → edge ≤ right_precedence o)
 
-level_most : (o : Operator) → suc (precedence o) ≤ 6
-level_most Equiv = omega arith
-level_most o = omega arith
-
-holds_some : (o : Operator) → 2 ≤ right_precedence o
-holds_some Equiv = omega arith
-holds_some o = omega arith
-
-holds_four : (o : Operator) → 3 ≤ precedence o → 4 ≤ right_precedence o
-holds_four Equiv h = omega (arith, h)
-holds_four o h = omega (arith, h)
-
-holds_five : (o : Operator) → 4 ≤ precedence o → 5 ≤ right_precedence o
-holds_five Equiv h = omega (arith, h)
-holds_five o h = omega (arith, h)
-
 -- a left operand's frames are closed by its operator
 apart : (o p : Operator) → left_precedence o ≤ precedence p → suc (precedence o) ≤ right_precedence p
-apart Equiv p h = holds_some p
-apart Implies p h = omega (arith, holds_four p h)
-apart Or p h = holds_four p h
-apart And p h = holds_five p h
-apart Since p h = absurd (omega (arith, h, level_most p))
-apart Until p h = absurd (omega (arith, h, level_most p))
+apart Equiv p h = (levels p).right_least
+apart o p h = let l = levels p in omega arith
 
 pub left_reaches : (o : Operator) → Reaches (left_precedence o) (suc (precedence o))
-left_reaches o = (level_most o, λ p h. apart o p h)
-
-level_right : (o : Operator) → precedence o ≤ right_precedence o
-level_right Equiv = omega arith
-level_right o = omega arith
+left_reaches o = (omega (arith, (levels o).most), λ p h. apart o p h)
 
 pub right_reaches : (o : Operator) (rule edge : ℕ) → rule ≤ precedence o → Reaches rule edge
     → Reaches (right_precedence o) edge
-right_reaches o rule edge h r = (r.0, λ p k. omega (arith, r.1 o h, k, level_right p))
+right_reaches o rule edge h r = (r.0, λ p k. omega (arith, r.1 o h, k, (levels p).right))
 
 pub unary_reaches : (rule edge : ℕ) → Reaches rule edge → Reaches 6 edge
-unary_reaches rule edge r = (r.0, λ p k. absurd (omega (arith, k, level_most p)))
+unary_reaches rule edge r = (r.0, λ p k. absurd (omega (arith, k, (levels p).most)))
 
 pub one_reaches : (edge : ℕ) → edge ≤ 1 → Reaches 1 edge
-one_reaches edge h = (omega (arith, h), λ p k. omega (arith, h, k, level_right p))
-
-pub level_left : (o : Operator) → precedence o ≤ left_precedence o
-level_left Equiv = omega arith
-level_left o = omega arith
+one_reaches edge h = (omega (arith, h), λ p k. omega (arith, h, k, (levels p).right))
 
 pub looser : (rule more : ℕ) (stack : List Frame) → rule ≤ more → IsLoose rule stack → IsLoose more stack
 looser rule more [] h k = tt
@@ -119,36 +93,23 @@ module _ (sig : List PredOf) where
 
   -- ---- quantified variables
 
-  variable_rules : List Frame → WrittenVariable → ℕ → List Rule
-  variable_rules stack (Bare name) nodes = within_depth name.at stack ∷ within_nodes name.at nodes ∷ []
-  variable_rules stack (Asked mark name) nodes = within_depth mark.at stack ∷ within_nodes mark.at nodes ∷ []
+  prefix_kept : (stack : List Frame) (at nodes : ℕ) → depth stack < max_levels → nodes < max_nodes
+      → AreKept (within_depth at stack ∷ within_nodes at nodes ∷ [])
+  prefix_kept stack at nodes h k = (depth_fits stack at h, (node_fits nodes at k, tt))
 
-  variable_kept : (stack : List Frame) (v : WrittenVariable) (nodes : ℕ) → depth stack < max_levels
-      → nodes < max_nodes → AreKept (variable_rules stack v nodes)
-  unfolding variable_rules
-  variable_kept stack (Bare name) nodes h k = (depth_fits stack name.at h, (node_fits nodes name.at k, tt))
-  variable_kept stack (Asked mark name) nodes h k = (depth_fits stack mark.at h, (node_fits nodes mark.at k, tt))
+  abbrev pub variable_rules : List Frame → WrittenVariable → ℕ → List Rule
+  variable_rules stack v nodes =
+      within_depth (place_of_variable v) stack ∷ within_nodes (place_of_variable v) nodes ∷ []
 
-  variable_fitted : (stack : List Frame) (v : WrittenVariable) (nodes : ℕ)
-      → AreKept (variable_rules stack v nodes ++ []) → depth stack < max_levels
-  unfolding variable_rules
-  variable_fitted stack (Bare name) nodes k = depth_fitted stack name.at k.0
-  variable_fitted stack (Asked mark name) nodes k = depth_fitted stack mark.at k.0
-
-  variable_read : (q : Quantifier) (v : WrittenVariable) (stack : List Frame) (nodes : ℕ) (names : SymbolTable)
+  pub variable_leads : (q : Quantifier) (v : WrittenVariable) (stack : List Frame) (nodes : ℕ) (names : SymbolTable)
       → FitsVariable v
-      → moves sig (variable_spelling v) (at_place (ExpectVariable q) stack nodes names)
-      ≡ goes (variable_rules stack v nodes)
+      → Leads sig (variable_spelling v) (at_place (ExpectVariable q) stack nodes names)
       (at_place (AfterVariable q) (Binding q (length names.bound_sorts) (name_of v) ∷ stack) (suc nodes)
-      (bound_more None names))
-  unfolding variable_rules
-  variable_read q (Bare name) stack nodes names fits =
-      one sig (at_place (ExpectVariable q) stack nodes names) _ name classes.Name _ fits refl
-  variable_read q (Asked mark name) stack nodes names fits =
-      first sig (at_place (ExpectVariable q) stack nodes names)
-      (at_place (AfterVariableMark q mark.at) stack (suc nodes) names) _ mark
-      (name ∷ []) classes.Question _ [] fits.0 refl
-      (one sig (at_place (AfterVariableMark q mark.at) stack (suc nodes) names) _ name classes.Name [] fits.1 refl)
+      (bound_more None names)) (variable_rules stack v nodes) (variable_shown v (depth stack) nodes)
+  unfolding moves trace transition
+  variable_leads q (Bare name) stack nodes names fits = record { moved = rw fits; shows = rw fits }
+  variable_leads q (Asked mark name) stack nodes names fits =
+      record { moved = rw (fits.0, fits.1); shows = rw (fits.0, fits.1) }
 
   -- a variable and the mark behind it
   bound_read : (q : Quantifier) (v : WrittenVariable) (mark : Lexeme) (now : Stage) (c : Class) (stack : List Frame)
@@ -158,11 +119,11 @@ module _ (sig : List PredOf) where
       ≡ goes [] (at_place now (Binding q (length names.bound_sorts) (name_of v) ∷ stack) (suc nodes)
       (bound_more None names))
       → moves sig (variable_spelling v ++ mark ∷ []) (at_place (ExpectVariable q) stack nodes names)
-      ≡ goes (variable_rules stack v nodes ++ [])
+      ≡ goes (variable_rules stack v nodes)
       (at_place now (Binding q (length names.bound_sorts) (name_of v) ∷ stack) (suc nodes) (bound_more None names))
   bound_read q v mark now c stack nodes names fits class e =
       moves_both sig (variable_spelling v) (mark ∷ []) _ _ _ (variable_rules stack v nodes) []
-      (variable_read q v stack nodes names fits)
+      (variable_leads q v stack nodes names fits).moved
       (one sig (at_place (AfterVariable q) (Binding q (length names.bound_sorts) (name_of v) ∷ stack) (suc nodes)
       (bound_more None names)) _ mark c [] class e)
 
@@ -193,12 +154,11 @@ module _ (sig : List PredOf) where
       takes_as _ _ _ _ _ _ _ _ _ _ _ (append_assoc (variable_spelling x) (dot ∷ []) ts) (omega arith) (λ k. k)
       (λ d k. k)
       (takes_behind sig (at_place (ExpectVariable q) stack nodes names) _
-      (variable_spelling x ++ dot ∷ []) ts stack edge _ _ _ _ _ (variable_rules stack x nodes ++ [])
+      (variable_spelling x ++ dot ∷ []) ts stack edge _ _ _ _ _ (variable_rules stack x nodes)
       (bound_read q x dot ExpectOperand classes.Dot stack nodes names fits class refl)
-      (λ k. kept_both (variable_rules stack x nodes) []
-      (variable_kept stack x nodes (omega (arith, k.1)) (omega (arith, k.0))) tt)
+      (λ k. prefix_kept stack (place_of_variable x) nodes (omega (arith, k.1)) (omega (arith, k.0)))
       (λ k. (omega (arith, k.0), omega (arith, k.1), k.2))
-      (λ d a. omega (arith, variable_fitted stack x nodes a))
+      (λ d a. omega (arith, depth_fitted stack (place_of_variable x) a.0))
       (λ d a k. (omega (arith, k.0), omega (arith, k.1), k.2)) inner)
   takes_variables q
       (MoreVariables x comma rest) dot ts edge v others count deep parts stack nodes names low fits class body =
@@ -211,36 +171,14 @@ module _ (sig : List PredOf) where
       ∙ sym (append_assoc (variable_spelling x) (comma ∷ variables_spelling rest) (dot ∷ ts)))
       (omega arith) (λ k. k) (λ d k. k)
       (takes_behind sig (at_place (ExpectVariable q) stack nodes names) _ (variable_spelling x ++ comma ∷ [])
-      (variables_spelling rest ++ dot ∷ ts) stack edge _ _ _ _ _ (variable_rules stack x nodes ++ [])
+      (variables_spelling rest ++ dot ∷ ts) stack edge _ _ _ _ _ (variable_rules stack x nodes)
       (bound_read q x comma (ExpectVariable q) classes.Comma stack nodes names fits.0 fits.1 refl)
-      (λ k. kept_both (variable_rules stack x nodes) []
-      (variable_kept stack x nodes (omega (arith, k.1)) (omega (arith, k.0))) tt)
+      (λ k. prefix_kept stack (place_of_variable x) nodes (omega (arith, k.1)) (omega (arith, k.0)))
       (λ k. (omega (arith, k.0), omega (arith, k.1), k.2))
-      (λ d a. omega (arith, variable_fitted stack x nodes a))
+      (λ d a. omega (arith, depth_fitted stack (place_of_variable x) a.0))
       (λ d a k. (omega (arith, k.0), omega (arith, k.1), k.2)) inner)
 
   -- ---- operators
-
-  no_interval_keeps : (interval : WrittenInterval) → interval ≡ Omitted → IntervalKeeps interval
-  no_interval_keeps interval omitted = subst IntervalKeeps (sym omitted) tt
-
-  takes_interval : (timed : Bool) (interval : WrittenInterval) (frame : Interval → Frame) (base lower : List Frame)
-      (ts : List Lexeme) (nodes edge more : ℕ) (names others : SymbolTable) (v : Form) (keeps : Type 0)
-      → FitsOperator timed interval → ((i : Interval) → framed i (frame any_distance) ≡ frame i)
-      → Takes sig (at_place ExpectOperand
-      (frame (interval_of interval) ∷ base) nodes names) ts lower edge v more others keeps
-      → Takes sig (at_place (now_behind timed) (frame any_distance ∷ base) nodes names)
-      (interval_spelling interval ++ ts) lower edge v more others (IntervalKeeps interval × keeps)
-  takes_interval true interval frame base lower ts nodes edge more names others v keeps fits frames t =
-      takes_timed sig interval frame base lower ts nodes edge more names others v keeps fits frames t
-  takes_interval false interval frame base lower ts nodes edge more names others v keeps omitted frames t =
-      takes_less sig _ (interval_spelling interval ++ ts) lower edge edge v more others keeps
-      (IntervalKeeps interval × keeps) (omega arith) (λ k. k.1) (λ d k. (no_interval_keeps interval omitted, k))
-      (subst (λ (i : WrittenInterval). Takes sig (at_place ExpectOperand (frame any_distance ∷ base) nodes names)
-      (interval_spelling i ++ ts) lower edge v more others keeps) (sym omitted)
-      (subst (λ (i : WrittenInterval). Takes sig
-      (at_place ExpectOperand
-      (frame (interval_of i) ∷ base) nodes names) ts lower edge v more others keeps) omitted t))
 
   joins_kept : (deep : Bool) (at nodes inner : ℕ) (stack : List Frame)
       → depth stack + right_levels deep inner ≤ max_levels → nodes < max_nodes
@@ -264,10 +202,6 @@ module _ (sig : List PredOf) where
   right_fits true inner levels h = omega (arith, h)
   right_fits false inner levels h = omega (arith, h)
 
-  prefix_kept : (stack : List Frame) (at nodes : ℕ) → depth stack < max_levels → nodes < max_nodes
-      → AreKept (within_depth at stack ∷ within_nodes at nodes ∷ [])
-  prefix_kept stack at nodes h k = (depth_fits stack at h, (node_fits nodes at k, tt))
-
   -- a tree that fits is read, with any frames below that are loose enough
   pub reads : (tree : Tree) (rule edge : ℕ) → Fits rule tree → Reaches rule edge → (is_shut tree ≡ false → edge ≤ 1)
       → (stack : List Frame) (nodes : ℕ) (names : SymbolTable) → IsLoose rule stack
@@ -287,16 +221,23 @@ module _ (sig : List PredOf) where
   reads (BareAtom name opening closing) rule edge fits reach ends stack nodes names loose =
       takes_as _ _ _ _ _ _ (suc nodes) _ _ _ _ refl (omega arith) (λ k. (omega (arith, k.0), k.2))
       (λ d k. (omega (arith, k.0), omega (arith, d), k.1))
-      (takes_bare sig name opening closing stack nodes edge names fits.0 fits.1 fits.2)
+      (takes_whole sig _ _ stack edge _ (suc nodes) names ((nodes < max_nodes) × HasArity (named name.text sig) 0) _
+      (bare_atom_leads sig name opening closing stack nodes names fits.0 fits.1 fits.2).moved
+      (bare_exactly sig (named name.text sig) name.at closing.at nodes (depth stack)))
   reads (AtomOf name opening arguments closing) rule edge fits reach ends stack nodes names loose =
       takes_as _ _ _ _ _ _ (arguments_nodes sig arguments (suc nodes)) _ _ _ _ refl
       (omega (arith, arguments_nodes_are sig arguments (suc nodes))) (λ k. (omega (arith, k.0), k.2))
       (λ d k. (omega (arith, k.0), omega (arith, d), k.1))
-      (takes_atom sig name opening arguments closing stack nodes edge names fits.0 fits.1 fits.2 fits.3)
+      (takes_whole sig _ _ stack edge _ _ _
+      ((nodes + suc (blank_count arguments) ≤ max_nodes) × HasArity (named name.text sig) (argument_count arguments)) _
+      (atom_leads sig name opening arguments closing stack nodes names fits.0 fits.1 fits.2 fits.3).moved
+      (atom_exactly sig (named name.text sig) arguments name.at closing.at nodes (depth stack)))
   reads (Comparison left token sign right) rule edge fits reach ends stack nodes names loose =
       takes_as _ _ _ _ _ _ (suc nodes) _ _ _ _ refl (omega arith) (λ k. omega (arith, k.0))
       (λ d k. (omega (arith, k), omega (arith, d), tt))
-      (takes_comparison sig left token sign right stack nodes edge names fits.0 fits.1 fits.2)
+      (takes_whole sig _ _ stack edge _ (suc nodes) _ (nodes < max_nodes) (within_nodes token.at nodes ∷ [])
+      (comparison_leads sig left token sign right stack nodes names fits.0 fits.1 fits.2).moved
+      (λ k. (node_fits nodes token.at k, tt), λ d a. node_fitted nodes token.at a.0))
   reads (Enclosed opening body closing) rule edge fits reach ends stack nodes names loose =
       let inner = reads body 1 1 fits.1 (one_reaches 1 (omega arith)) (λ e. omega arith) (Parens ∷ stack) nodes names
       (omega arith) in
@@ -329,7 +270,7 @@ module _ (sig : List PredOf) where
       let inner = reads body 6 edge fits.2 (unary_reaches rule edge reach) ends (Moment operator i ∷ stack)
       (suc nodes) names (omega arith) in
       let whole = takes_closed sig _ (spelling body) (Moment operator i) stack edge _ _ _ _ reach.0 inner in
-      let behind = takes_timed sig interval frame stack stack (spelling body) (suc nodes) edge _ names _ _ _ fits.1
+      let behind = takes_interval sig true interval frame stack stack (spelling body) (suc nodes) edge _ names _ _ _ fits.1
       (λ j. refl) whole in
       takes_as _ _ _ _ _ _ (suc nodes + node_count body) _ _ _ _ refl (omega arith) (λ k. k) (λ d k. k)
       (takes_behind sig (at_place ExpectOperand stack nodes names)
@@ -367,12 +308,12 @@ module _ (sig : List PredOf) where
       let after = names_behind sig right scope between in
       let before = reads left (left_precedence operator) (suc (precedence operator)) fits.1 (left_reaches operator)
       (λ e. absurd (cc (e, fits.2))) stack nodes names
-      (looser rule (left_precedence operator) stack (omega (arith, fits.0, level_left operator)) loose) in
+      (looser rule (left_precedence operator) stack (omega (arith, fits.0, (levels operator).left)) loose) in
       let inner : Takes sig (at_place ExpectOperand (Left operator i v ∷ stack) (suc middle) between)
       (spelling right) (Left operator i v ∷ stack) edge w (suc middle + node_count right) after later =
       reads right (right_precedence operator) edge fits.5 (right_reaches operator rule edge fits.0 reach) ends
       (Left operator i v ∷ stack) (suc middle) between (omega arith) in
-      let behind = takes_interval (is_timed operator) interval frame stack (Left operator i v ∷ stack)
+      let behind = takes_interval sig (is_timed operator) interval frame stack (Left operator i v ∷ stack)
       (spelling right) (suc middle) edge (suc middle + node_count right) between after w later fits.4
       (λ j. refl) inner in
       let both = takes_joined sig (at_place ExpectOperand stack nodes names) (spelling left)

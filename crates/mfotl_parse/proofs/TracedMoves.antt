@@ -1,6 +1,5 @@
 -- What each of some tokens shows, by the reader's moves.
-use Rattle.std.proofs.Common.{◌≡◌, ℕ, Bool, true, false, List, [], ◌∷◌, ◌++◌, Option, Some, None, refl, ap, sym, subst}
-use Rattle.std.proofs.Common.{◌∙◌}
+use Rattle.std.proofs.Common.{◌≡◌, ℕ, Bool, true, false, List, [], ◌∷◌, ◌++◌, Option, Some, None, refl, ap, sym, ◌∙◌}
 use Rattle.mfotl_lex.specs.Lexemes.{Lexeme}
 use Rattle.mfotl_sig.specs.Preds.{PredOf}
 use Rattle.mfotl_parse.specs.declared.class.Class.{Class}
@@ -30,9 +29,9 @@ unfoldable pub trace : List PredOf → List Lexeme → Partial → Showing
 trace sig [] p = []
 trace sig (t ∷ ts) p = traced t.at (transition sig p t) (trace sig ts)
 
--- tokens lead from here to there, and show these faults
-pub record Leads (sig : List PredOf) (ts : List Lexeme) (p q : Partial) (shown : Showing) : Type 0 where
-  pub rules : List Rule
+-- tokens lead from here to there by these rules, and show these faults
+pub record Leads (sig : List PredOf) (ts : List Lexeme) (p q : Partial) (rules : List Rule)
+    (shown : Showing) : Type 0 where
   pub moved : moves sig ts p ≡ goes rules q
   pub shows : trace sig ts p ≡ shown
 
@@ -58,47 +57,6 @@ module _ (sig : List PredOf) where
       ∙ ap (λ (x : Showing). broken c.own ∷ x) (trace_both a b c.between q c.later c.rest)
       ∙ ap (λ (x : Showing). x ++ trace sig b q) (sym (trace_move t a p c.between c.own c.first))
 
-  pub leads_move : (t : Lexeme) (p q : Partial) (rules : List Rule) → transition sig p t ≡ goes rules q
-      → Leads sig (t ∷ []) p q (broken rules ∷ [])
-  unfolding trace
-  leads_move t p q rules e =
-      record { rules = rules; moved = moves_one sig t p q rules e; shows = trace_move t [] p q rules e }
-
-  pub leads_one : (t : Lexeme) (c : Class) (p q : Partial) (rules : List Rule)
-      → class_of t ≡ c → transition_at p.now sig p.context t c ≡ goes rules q
-      → Leads sig (t ∷ []) p q (broken rules ∷ [])
-  leads_one t c p q rules class e = leads_move t p q rules (move_is sig p t c class ∙ e)
-
-  -- some tokens, and then others
-  pub leads_then : (a b : List Lexeme) (p q : Partial) (x : Showing) → Leads sig a p q x → trace sig (a ++ b) p ≡ x
-      ++ trace sig b q
-  leads_then a b p q x l = trace_both a b p q l.rules l.moved ∙ ap (λ (s : Showing). s ++ trace sig b q) l.shows
-
-  pub leads_both : (a b : List Lexeme) (p q r : Partial) (x y : Showing) → Leads sig a p q x → Leads sig b q r y
-      → Leads sig (a ++ b) p r (x ++ y)
-  leads_both a b p q r x y l k =
-      record {
-        rules = l.rules ++ k.rules;
-        moved = moves_both sig a b p q r l.rules k.rules l.moved k.moved;
-        shows = leads_then a b p q x l ∙ ap (λ (s : Showing). x ++ s) k.shows;
-      }
-
-  pub leads_first : (t : Lexeme) (ts : List Lexeme) (c : Class) (p q r : Partial) (rules : List Rule) (y : Showing)
-      → class_of t ≡ c → transition_at p.now sig p.context t c ≡ goes rules q → Leads sig ts q r y
-      → Leads sig (t ∷ ts) p r (broken rules ∷ y)
-  leads_first t ts c p q r rules y class e k =
-      leads_both (t ∷ []) ts p q r (broken rules ∷ []) y (leads_one t c p q rules class e) k
-
-  pub leads_none : (p : Partial) → Leads sig [] p p []
-  unfolding trace moves
-  leads_none p = record { rules = []; moved = refl; shows = refl }
-
-  -- the same tokens, and the same faults
-  pub leads_as : (a b : List Lexeme) (p q : Partial) (x y : Showing) → a ≡ b → x ≡ y → Leads sig a p q x
-      → Leads sig b p q y
-  leads_as a b p q x y spelled shown l =
-      subst (λ (ts : List Lexeme). Leads sig ts p q y) spelled (subst (λ (s : Showing). Leads sig a p q s) shown l)
-
   -- an operand that begins with no bracket is read alike where an interval may stand
   fresh_same : (p : Context) (t : Lexeme) (c : Class) → (c ≡ classes.OpenBracket → ⊥) → (c ≡ classes.OpenParen → ⊥)
       → fresh_move p t c ≡ operand_move p t c
@@ -118,3 +76,32 @@ module _ (sig : List PredOf) where
       let want = move_is sig (at_place ExpectOperand stack nodes names) t c class in
       ap (λ (m : Option Transition). traced t.at m (trace sig ts))
       (fresh ∙ fresh_same here t c square round ∙ sym want)
+
+module _ {sig : List PredOf} where
+  pub leads_move : {p q : Partial} {rules : List Rule} (t : Lexeme) → transition sig p t ≡ goes rules q
+      → Leads sig (t ∷ []) p q rules (broken rules ∷ [])
+  unfolding trace
+  leads_move {p = p} {q = q} {rules = rules} t e =
+      record { moved = moves_one sig t p q rules e; shows = trace_move sig t [] p q rules e }
+
+  pub leads_one : {q : Partial} {rules : List Rule} (t : Lexeme) (c : Class) (p : Partial) → class_of t ≡ c
+      → transition_at p.now sig p.context t c ≡ goes rules q → Leads sig (t ∷ []) p q rules (broken rules ∷ [])
+  leads_one t c p class e = leads_move t (move_is sig p t c class ∙ e)
+
+  -- some tokens, and then others
+  pub leads_then : {a : List Lexeme} {p q : Partial} {rules : List Rule} {x : Showing} (b : List Lexeme)
+      → Leads sig a p q rules x → trace sig (a ++ b) p ≡ x ++ trace sig b q
+  leads_then {a = a} {p = p} {q = q} {rules = rules} b l =
+      trace_both sig a b p q rules l.moved ∙ ap (λ (s : Showing). s ++ trace sig b q) l.shows
+
+  pub leads_both : {a b : List Lexeme} {p q r : Partial} {rules others : List Rule} {x y : Showing}
+      → Leads sig a p q rules x → Leads sig b q r others y → Leads sig (a ++ b) p r (rules ++ others) (x ++ y)
+  leads_both {a = a} {b = b} {p = p} {q = q} {r = r} {rules = rules} {others = others} {x = x} l k =
+      record {
+        moved = moves_both sig a b p q r rules others l.moved k.moved;
+        shows = leads_then b l ∙ ap (λ (s : Showing). x ++ s) k.shows;
+      }
+
+  pub leads_none : (p : Partial) → Leads sig [] p p [] []
+  unfolding trace moves
+  leads_none p = record { moved = refl; shows = refl }

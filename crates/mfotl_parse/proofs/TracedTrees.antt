@@ -1,28 +1,25 @@
 -- What each token of a whole tree shows.
 use Rattle.std.proofs.Common.{◌≡◌, ℕ, ℤ, suc, ◌+◌, ◌≤◌, Bool, true, false, List, [], ◌∷◌, ◌++◌, length, Option, Some}
-use Rattle.std.proofs.Common.{None, refl, ap, sym, subst, ◌∙◌, inl, inr, arith}
+use Rattle.std.proofs.Common.{None, refl, ap, sym, ◌∙◌, inl, inr, arith}
 use Rattle.std.proofs.lemmas.List.{append_assoc}
 use Rattle.std.specs.Prelude.{cond, ◌&&◌}
 use Rattle.mfotl_lex.specs.Lexemes.{Lexeme}
 use Rattle.mfotl_model.specs.declared.interval.Interval.{Interval}
-use Rattle.mfotl_model.specs.declared.value.Value.TheVariants as values
 use Rattle.mfotl_sig.specs.Preds.{PredOf}
 use Rattle.mfotl_parse.specs.declared.class.Class.{Class}
 use Rattle.mfotl_parse.specs.declared.class.Class.TheVariants as classes
 use Rattle.mfotl_parse.specs.declared.class.Quantifier.{Quantifier}
 use Rattle.mfotl_parse.specs.declared.fault.PolicyFault.{PolicyFault}
-use Rattle.mfotl_parse.specs.declared.term.Operand.TheVariants as operands
 use Rattle.mfotl_parse.specs.Classes.{class_of}
 use Rattle.mfotl_parse.specs.Grammar.{WrittenVariable, Bare, Asked, WrittenTerm, Named, Number, Quoted}
-use Rattle.mfotl_parse.specs.Grammar.{WrittenVariables, LastVariable, MoreVariables, Tree, Truth}
-use Rattle.mfotl_parse.specs.Grammar.{BareAtom, AtomOf, Comparison, Enclosed, Denied, Timed, Quantified, Joined}
-use Rattle.mfotl_parse.specs.Grammar.{term_spelling, variable_spelling, variables_spelling, interval_spelling}
-use Rattle.mfotl_parse.specs.Grammar.{spelling, FitsTerm, FitsVariable, FitsVariables, Fits, IsAtomName}
-use Rattle.mfotl_parse.specs.Grammar.{left_precedence, is_shut, precedence, right_precedence, is_timed, deepens}
+use Rattle.mfotl_parse.specs.Grammar.{WrittenVariables, LastVariable, MoreVariables, Tree, Truth, BareAtom, AtomOf}
+use Rattle.mfotl_parse.specs.Grammar.{Comparison, Enclosed, Denied, Timed, Quantified, Joined, term_spelling}
+use Rattle.mfotl_parse.specs.Grammar.{variable_spelling, variables_spelling, interval_spelling, spelling, FitsTerm}
+use Rattle.mfotl_parse.specs.Grammar.{FitsVariable, FitsVariables, Fits, IsAtomName, left_precedence, is_shut}
+use Rattle.mfotl_parse.specs.Grammar.{precedence, right_precedence, is_timed, deepens}
 use Rattle.mfotl_parse.specs.Intervals.{any_distance}
 use Rattle.mfotl_parse.specs.Meanings.{interval_of, names_behind, value, node_count}
-use Rattle.mfotl_parse.specs.Occurrences.{variable_count}
-use Rattle.mfotl_parse.specs.Occurrences.{name_of}
+use Rattle.mfotl_parse.specs.Occurrences.{variable_count, name_of}
 use Rattle.mfotl_parse.specs.Transitions.{Rule, Transition, goes, first_keeps, within_depth, within_nodes}
 use Rattle.mfotl_parse.specs.SymbolTable.{binder_of, bound_more}
 use Rattle.mfotl_parse.specs.Operands.{operand_move}
@@ -34,61 +31,42 @@ use Rattle.mfotl_parse.specs.Reduction.{reduce}
 use Rattle.mfotl_parse.specs.Shows.{Showing, level_first, postponed, is_integer, begins_with_number, enclosed_shown}
 use Rattle.mfotl_parse.specs.Shows.{prefix_shown, variable_shown, variables_shown, joint_shown, levels_right}
 use Rattle.mfotl_parse.specs.Shows.{interval_shown, is_omitted, tree_shown, shown_by}
-use Rattle.mfotl_parse.specs.States.{Frame, Parens, Negation, Moment, Binding, Left, depth, SymbolTable, Context}
-use Rattle.mfotl_parse.specs.States.{Partial, ExpectOperand, AfterTemporal, AfterOperand, ExpectSign, ExpectVariable}
-use Rattle.mfotl_parse.specs.States.{AfterVariableMark, AfterVariable, AfterParen, AfterParenNumber, no_names}
-use Rattle.mfotl_parse.specs.States.{nothing_read}
-use Rattle.mfotl_parse.proofs.SpelledMoves.{at_place, behind_move, then_moves, moves, moves_one, moves_both, no_move}
-use Rattle.mfotl_parse.proofs.SpelledMoves.{same_next}
-use Rattle.mfotl_parse.proofs.SpelledForms.{IsLoose, IsHave, reduce_here, enclosed, joins, fresh_too}
-use Rattle.mfotl_parse.proofs.SpelledParts.{scope_of}
+use Rattle.mfotl_parse.specs.States.{Frame, Parens, Negation, Moment, Binding, Left, depth, SymbolTable, Partial}
+use Rattle.mfotl_parse.specs.States.{ExpectOperand, AfterTemporal, AfterOperand, ExpectSign, ExpectVariable}
+use Rattle.mfotl_parse.specs.States.{AfterVariable, AfterParen, AfterParenNumber, no_names, nothing_read}
+use Rattle.mfotl_parse.proofs.SpelledMoves.{at_place, context_at, behind_move, then_moves, moves, moves_one, moves_both}
+use Rattle.mfotl_parse.proofs.SpelledMoves.{no_move, same_next}
+use Rattle.mfotl_parse.proofs.SpelledForms.{IsLoose, IsHave, not_have, number_side, reduce_here, enclosed, joins}
+use Rattle.mfotl_parse.proofs.SpelledForms.{fresh_too}
+use Rattle.mfotl_parse.proofs.SpelledParts.{scope_of, bare_atom_leads, atom_leads, comparison_leads, interval_leads}
+use Rattle.mfotl_parse.proofs.OperatorLevels.{levels}
 use Rattle.mfotl_parse.proofs.SpelledTrees.{Reaches, left_reaches, right_reaches, unary_reaches, one_reaches, looser}
-use Rattle.mfotl_parse.proofs.SpelledTrees.{level_left, reads}
+use Rattle.mfotl_parse.proofs.SpelledTrees.{variable_leads, reads}
 use Rattle.mfotl_parse.proofs.TracedMoves.{broken, traced, trace, trace_move, trace_first, trace_both, trace_any}
-use Rattle.mfotl_parse.proofs.TracedMoves.{Leads, leads_move, leads_one, leads_first, leads_then}
-use Rattle.mfotl_parse.proofs.TracedParts.{trace_bare, trace_atom, trace_comparison, interval_leads}
-
--- no operand was read yet
-none_read : {first rules : List Rule} {p q : Partial} → (IsHave p.now → ⊥) → goes first p ≡ goes rules q
-    → IsHave q.now → (P : Type 0) → P
-none_read never e h P = absurd (never (subst (λ (x : Partial). IsHave x.now) (sym (same_next e)) h))
+use Rattle.mfotl_parse.proofs.TracedMoves.{leads_move, leads_one, leads_then}
 
 module _ (sig : List PredOf) (stack : List Frame) (nodes : ℕ) (names : SymbolTable) where
-  abbrev here : Context
-  here = record { stack = stack; nodes = nodes; names = names }
-
-  abbrev inside : Context
-  inside = record { stack = Parens ∷ stack; nodes = nodes; names = names }
-
   -- ---- behind a `(` where an interval may stand
 
   by_sign : (at number_at : ℕ) (z : ℤ) (t : Lexeme) (ts : List Lexeme) (rules : List Rule) (q : Partial) (c : Class)
-      → then_moves (compared_move inside (record { at = number_at; operand = operands.Constant (values.Int z) }) t c)
+      → then_moves (compared_move (context_at (Parens ∷ stack) nodes names) (number_side number_at z) t c)
       (moves sig ts) ≡ goes rules q
-      → traced t.at (maybe_number_move here at number_at z t c) (trace sig ts)
+      → traced t.at (maybe_number_move (context_at stack nodes names) at number_at z t c) (trace sig ts)
       ≡ level_first at (depth stack)
-      (traced t.at (compared_move inside (record { at = number_at; operand = operands.Constant (values.Int z) }) t c)
+      (traced t.at (compared_move (context_at (Parens ∷ stack) nodes names) (number_side number_at z) t c)
       (trace sig ts))
   by_sign at number_at z t ts rules q (classes.Sign sign) e = refl
   by_sign at number_at z t ts rules q _ e = absurd (no_move e)
 
   behind_number : (at number_at : ℕ) (z : ℤ) (ts : List Lexeme) (rules : List Rule) (q : Partial) → IsHave q.now
       → moves sig ts
-      (record {
-        context = inside;
-        now = ExpectSign
-            (record { at = number_at; operand = operands.Constant (values.Int z) });
-      }) ≡ goes rules q
-      → trace sig ts (record { context = here; now = AfterParenNumber at number_at z })
+      (at_place (ExpectSign (number_side number_at z)) (Parens ∷ stack) nodes names) ≡ goes rules q
+      → trace sig ts (at_place (AfterParenNumber at number_at z) stack nodes names)
       ≡ level_first at (depth stack)
       (trace sig ts
-      (record {
-        context = inside;
-        now = ExpectSign
-            (record { at = number_at; operand = operands.Constant (values.Int z) });
-      }))
+      (at_place (ExpectSign (number_side number_at z)) (Parens ∷ stack) nodes names))
   unfolding moves trace transition
-  behind_number at number_at z [] rules q have e = none_read (λ n. n) e have _
+  behind_number at number_at z [] rules q have e = absurd (not_have (λ n. n) e have)
   behind_number at number_at z (t ∷ ts) rules q have e = by_sign at number_at z t ts rules q (class_of t) e
 
   first_kept : (at number_at : ℕ) (m : Option Transition) (ts : List Lexeme) (rules : List Rule) (q : Partial)
@@ -104,34 +82,30 @@ module _ (sig : List PredOf) (stack : List Frame) (nodes : ℕ) (names : SymbolT
   rest_of m (Some n) rules q e = (n.rules, ap (goes n.rules) (same_next e))
 
   by_class : (at : ℕ) (t : Lexeme) (ts : List Lexeme) (rules : List Rule) (q : Partial) (c : Class) → IsHave q.now
-      → then_moves (operand_move inside t c) (moves sig ts) ≡ goes rules q
-      → traced t.at (maybe_move here at t c) (trace sig ts)
-      ≡ postponed at (depth stack) (is_integer c) (traced t.at (operand_move inside t c) (trace sig ts))
+      → then_moves (operand_move (context_at (Parens ∷ stack) nodes names) t c) (moves sig ts) ≡ goes rules q
+      → traced t.at (maybe_move (context_at stack nodes names) at t c) (trace sig ts)
+      ≡ postponed at (depth stack) (is_integer c) (traced t.at (operand_move (context_at (Parens ∷ stack) nodes names) t c) (trace sig ts))
   by_class at t ts rules q (classes.Integer z) have e =
-      let there : Partial = record {
-        context = inside;
-        now = ExpectSign
-            (record { at = t.at; operand = operands.Constant (values.Int z) });
-      } in
+      let there : Partial = at_place (ExpectSign (number_side t.at z)) (Parens ∷ stack) nodes names in
       let rest = rest_of (record { rules = []; next = there }) (moves sig ts there) rules q e in
       ap (λ (s : Showing). [] ∷ s) (behind_number at t.at z ts rest.0 q have rest.1)
-  by_class at t ts rules q c have e = first_kept at t.at (operand_move inside t c) ts rules q e
+  by_class at t ts rules q c have e = first_kept at t.at (operand_move (context_at (Parens ∷ stack) nodes names) t c) ts rules q e
 
   maybe_trace : (at : ℕ) (ts : List Lexeme) (rules : List Rule) (q : Partial) → IsHave q.now
-      → moves sig ts (record { context = inside; now = ExpectOperand }) ≡ goes rules q
-      → trace sig ts (record { context = here; now = AfterParen at })
+      → moves sig ts (at_place ExpectOperand (Parens ∷ stack) nodes names) ≡ goes rules q
+      → trace sig ts (at_place (AfterParen at) stack nodes names)
       ≡ postponed at (depth stack) (begins_with_number ts)
-      (trace sig ts (record { context = inside; now = ExpectOperand }))
+      (trace sig ts (at_place ExpectOperand (Parens ∷ stack) nodes names))
   unfolding moves trace transition
-  maybe_trace at [] rules q have e = none_read (λ n. n) e have _
+  maybe_trace at [] rules q have e = absurd (not_have (λ n. n) e have)
   maybe_trace at (t ∷ ts) rules q have e = by_class at t ts rules q (class_of t) have e
 
   pub enclosed_trace : (timed : Bool) (opening : Lexeme) (ts : List Lexeme) (rules : List Rule) (q : Partial)
       → class_of opening ≡ classes.OpenParen → IsHave q.now
-      → moves sig ts (record { context = inside; now = ExpectOperand }) ≡ goes rules q
+      → moves sig ts (at_place ExpectOperand (Parens ∷ stack) nodes names) ≡ goes rules q
       → trace sig (opening ∷ ts) (at_place (now_behind timed) stack nodes names)
       ≡ enclosed_shown timed opening.at (depth stack) ts
-      (trace sig ts (record { context = inside; now = ExpectOperand }))
+      (trace sig ts (at_place ExpectOperand (Parens ∷ stack) nodes names))
   enclosed_trace false opening ts rules q class have e =
       trace_first sig opening ts classes.OpenParen (at_place ExpectOperand stack nodes names)
       (at_place ExpectOperand (Parens ∷ stack) nodes names) _ class refl
@@ -142,20 +116,6 @@ module _ (sig : List PredOf) (stack : List Frame) (nodes : ℕ) (names : SymbolT
 
 module _ (sig : List PredOf) where
   -- ---- quantified variables
-
-  variable_leads : (q : Quantifier) (v : WrittenVariable) (stack : List Frame) (nodes : ℕ) (names : SymbolTable)
-      → FitsVariable v
-      → Leads sig (variable_spelling v) (at_place (ExpectVariable q) stack nodes names)
-      (at_place (AfterVariable q) (Binding q (length names.bound_sorts) (name_of v) ∷ stack) (suc nodes)
-      (bound_more None names))
-      (variable_shown v (depth stack) nodes)
-  variable_leads q (Bare name) stack nodes names fits =
-      leads_one sig name classes.Name (at_place (ExpectVariable q) stack nodes names) _ _ fits refl
-  variable_leads q (Asked mark name) stack nodes names fits =
-      leads_first sig mark (name ∷ []) classes.Question (at_place (ExpectVariable q) stack nodes names)
-      (at_place (AfterVariableMark q mark.at) stack (suc nodes) names) _ _ _ fits.0 refl
-      (leads_one sig name classes.Name
-      (at_place (AfterVariableMark q mark.at) stack (suc nodes) names) _ [] fits.1 refl)
 
   -- a body's tokens show these, wherever it stands
   abbrev BodyShows : List Lexeme → (ℕ → ℕ → Showing) → Type 0
@@ -175,7 +135,7 @@ module _ (sig : List PredOf) where
   unfolding depth
   variables_trace q (LastVariable v) dot ts shown stack nodes names fits class body =
       let frame = Binding q (length names.bound_sorts) (name_of v) in
-      leads_then sig (variable_spelling v) (dot ∷ ts) _ _ _ (variable_leads q v stack nodes names fits)
+      leads_then (dot ∷ ts) (variable_leads sig q v stack nodes names fits)
       ∙ ap (λ (s : Showing). variable_shown v (depth stack) nodes ++ s)
       (trace_first sig dot ts classes.Dot
       (at_place (AfterVariable q) (frame ∷ stack) (suc nodes) (bound_more None names))
@@ -187,8 +147,7 @@ module _ (sig : List PredOf) where
       let n = variable_count rest in
       ap (λ (xs : List Lexeme). trace sig xs (at_place (ExpectVariable q) stack nodes names))
       (append_assoc (variable_spelling v) (comma ∷ variables_spelling rest) (dot ∷ ts))
-      ∙ leads_then sig (variable_spelling v) (comma ∷ variables_spelling rest ++ dot ∷ ts) _ _ _
-      (variable_leads q v stack nodes names fits.0)
+      ∙ leads_then (comma ∷ variables_spelling rest ++ dot ∷ ts) (variable_leads sig q v stack nodes names fits.0)
       ∙ ap (λ (s : Showing). variable_shown v (depth stack) nodes ++ s)
       (trace_first sig comma (variables_spelling rest ++ dot ∷ ts) classes.Comma
       (at_place (AfterVariable q) (frame ∷ stack) (suc nodes) (bound_more None names))
@@ -250,16 +209,16 @@ module _ (sig : List PredOf) where
   unfolding depth binder_of
   shows (Truth token which) rule edge fits reach ends timed stack nodes names loose =
       trace_any sig timed token [] (classes.Truth which) stack nodes names fits (λ e. cc) (λ e. cc)
-      ∙ (leads_one sig token (classes.Truth which) (at_place ExpectOperand stack nodes names) _ _ fits refl).shows
+      ∙ (leads_one {sig = sig} token (classes.Truth which) (at_place ExpectOperand stack nodes names) fits refl).shows
   shows (BareAtom name opening closing) rule edge fits reach ends timed stack nodes names loose =
       atom_any timed name _ stack nodes names fits.0
-      ∙ trace_bare sig name opening closing stack nodes names fits.0 fits.1 fits.2
+      ∙ (bare_atom_leads sig name opening closing stack nodes names fits.0 fits.1 fits.2).shows
   shows (AtomOf name opening arguments closing) rule edge fits reach ends timed stack nodes names loose =
       atom_any timed name _ stack nodes names fits.0
-      ∙ trace_atom sig name opening arguments closing stack nodes names fits.0 fits.1 fits.2 fits.3
+      ∙ (atom_leads sig name opening arguments closing stack nodes names fits.0 fits.1 fits.2 fits.3).shows
   shows (Comparison left token sign right) rule edge fits reach ends timed stack nodes names loose =
       comparison_any timed left _ stack nodes names fits.0
-      ∙ trace_comparison sig left token sign right stack nodes names fits.0 fits.1 fits.2
+      ∙ (comparison_leads sig left token sign right stack nodes names fits.0 fits.1 fits.2).shows
   shows (Enclosed opening body closing) rule edge fits reach ends timed stack nodes names loose =
       let t = reads sig body 1 1 fits.1 (one_reaches 1 (omega arith)) (λ e. omega arith) (Parens ∷ stack) nodes names
       (omega arith) in
@@ -271,7 +230,7 @@ module _ (sig : List PredOf) where
       ∙ ap (enclosed_shown timed opening.at (depth stack) (spelling body ++ closing ∷ []))
       (trace_both sig (spelling body) (closing ∷ []) _ _ t.rules t.reached
       ∙ ap (λ (s : Showing). trace sig (spelling body) (at_place ExpectOperand (Parens ∷ stack) nodes names) ++ s)
-      (leads_move sig closing _ _ [] last).shows
+      (leads_move closing last).shows
       ∙ ap (λ (s : Showing). s ++ [] ∷ [])
       (shows body 1 1 fits.1 (one_reaches 1 (omega arith)) (λ e. omega arith) false (Parens ∷ stack) nodes names
       (omega arith)))
@@ -290,7 +249,7 @@ module _ (sig : List PredOf) where
       (at_place ExpectOperand stack nodes names)
       (at_place AfterTemporal (Moment operator any_distance ∷ stack) (suc nodes) names) _ fits.0 refl
       ∙ ap (λ (s : Showing). prefix_shown token.at (depth stack) nodes ∷ s)
-      (leads_then sig (interval_spelling interval) (spelling body) _ _ _
+      (leads_then (spelling body)
       (interval_leads sig true interval frame stack (suc nodes) names fits.1 (λ j. refl))
       ∙ ap (λ (s : Showing). interval_shown interval ++ s)
       (shows body 6 edge fits.2 (unary_reaches rule edge reach) ends (is_omitted interval)
@@ -314,7 +273,7 @@ module _ (sig : List PredOf) where
       let between = names_behind sig left scope names in
       let fresh = is_timed operator && is_omitted interval in
       let looser_left = looser rule (left_precedence operator) stack
-      (omega (arith, fits.0, level_left operator)) loose in
+      (omega (arith, fits.0, (levels operator).left)) loose in
       let t = reads sig left (left_precedence operator) (suc (precedence operator)) fits.1 (left_reaches operator)
       (λ e. absurd (cc (e, fits.2))) stack nodes names looser_left in
       let all : reduce (precedence operator) t.form t.stack ≡ record { form = v; stack = stack } =
@@ -342,7 +301,7 @@ module _ (sig : List PredOf) where
       (at_place (now_behind (is_timed operator)) (Left operator any_distance v ∷ stack) (suc middle) between))
       (joint_broken (deepens operator) token.at middle stack)
       ∙ ap (λ (s : Showing). joint_shown (deepens operator) token.at (depth stack) middle ∷ s)
-      (leads_then sig (interval_spelling interval) (spelling right) _ _ _
+      (leads_then (spelling right)
       (interval_leads sig (is_timed operator) interval frame stack (suc middle) between fits.4 (λ j. refl))
       ∙ ap (λ (s : Showing). interval_shown interval ++ s) behind))
 

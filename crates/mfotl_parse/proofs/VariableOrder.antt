@@ -1,7 +1,6 @@
 -- The free variables of a policy that was read are numbered in the order in which they first occur.
-use Rattle.std.proofs.Common.{◌≡◌, ℕ, zero, suc, ◌+◌, ◌-◌, ◌<◌, ◌≤◌, Bool, true, false, cond, not, ◌&&◌}
-use Rattle.std.proofs.Common.{◌||◌, nat_eq, List, [], ◌∷◌, ◌++◌, length, Option, Some, None, refl, sym, ap}
-use Rattle.std.proofs.Common.{◌∙◌, arith}
+use Rattle.std.proofs.Common.{◌≡◌, ℕ, zero, suc, ◌+◌, ◌-◌, ◌<◌, ◌≤◌, Bool, true, false, cond, not, ◌&&◌, ◌||◌, nat_eq}
+use Rattle.std.proofs.Common.{List, [], ◌∷◌, ◌++◌, length, Option, Some, None, refl, sym, ap, ◌∙◌, arith}
 use Rattle.std.proofs.lemmas.Bool.{lt-ltb, le-ltb, eqb-true}
 use Rattle.std.proofs.lemmas.List.{append-nil, length-append}
 use Rattle.std.proofs.lemmas.List.Elements.{filter-append}
@@ -26,24 +25,22 @@ use Rattle.mfotl_parse.specs.declared.class.Temporal.{Temporal}
 use Rattle.mfotl_parse.specs.declared.class.Temporal.TheVariants as temporals
 use Rattle.mfotl_parse.specs.Arguments.{call_of, blanks}
 use Rattle.mfotl_parse.specs.SortsDue.{due_sort, after_due}
-use Rattle.mfotl_parse.specs.Grammar.{WrittenTerm, Named, Number, Quoted, WrittenArgument, Given}
-use Rattle.mfotl_parse.specs.Grammar.{Hidden, WrittenArguments, LastArgument, MoreArguments, WrittenVariables}
-use Rattle.mfotl_parse.specs.Grammar.{LastVariable, MoreVariables, Tree, Truth, BareAtom, AtomOf, Comparison, Enclosed}
-use Rattle.mfotl_parse.specs.Grammar.{Denied, Timed, Quantified, Joined}
+use Rattle.mfotl_parse.specs.Grammar.{WrittenTerm, Named, Number, Quoted, WrittenArgument, Given, Hidden}
+use Rattle.mfotl_parse.specs.Grammar.{WrittenArguments, LastArgument, MoreArguments, WrittenVariables, LastVariable}
+use Rattle.mfotl_parse.specs.Grammar.{MoreVariables, Tree, Truth, BareAtom, AtomOf, Comparison, Enclosed, Denied, Timed}
+use Rattle.mfotl_parse.specs.Grammar.{Quantified, Joined}
 use Rattle.mfotl_parse.specs.Meanings.{Scope, operand_of, term_names, argument_term, argument_names, arguments_terms}
 use Rattle.mfotl_parse.specs.Meanings.{arguments_names, atom, variables_names, variables_scope, quantify, interval_of}
 use Rattle.mfotl_parse.specs.Meanings.{names_behind, value}
 use Rattle.mfotl_parse.specs.Occurrences.{name_of, place_of_variable, place_of}
 use Rattle.mfotl_parse.specs.SymbolTable.{number_of, free_place, free_or_new, with_free, bound_or_free, occurring}
-use Rattle.mfotl_parse.specs.SymbolTable.{bound_more}
-use Rattle.mfotl_parse.specs.SymbolTable.{term_of}
+use Rattle.mfotl_parse.specs.SymbolTable.{bound_more, term_of}
 use Rattle.mfotl_parse.specs.Operands.{truth}
 use Rattle.mfotl_parse.specs.Reduction.{momentary, operator_form, quantified}
 use Rattle.mfotl_parse.specs.States.{SymbolTable}
 use Rattle.mfotl_parse.specs.Limits.{max_free}
 use Rattle.mfotl_parse.proofs.FreeNames.{placed_free, compared_free, variables_free}
-use Rattle.mfotl_parse.proofs.NamesOrder.{Grows, term_grows}
-use Rattle.mfotl_parse.proofs.NamesOrder.{arguments_grow, tree_grows, found_within}
+use Rattle.mfotl_parse.proofs.NamesOrder.{Grows, term_grows, arguments_grow, tree_grows, found_within}
 
 -- ---- lists of variables
 
@@ -221,20 +218,12 @@ quantify_order q (MoreVariables v comma rest) n f =
 pub moment_order : (o : Temporal) (i : Interval) (f : Form) → fv (momentary o i f) ≡ fv f
 unfolding fv
 moment_order temporals.Previous i f = refl
-moment_order temporals.Next i f = refl
-moment_order temporals.Once i f = refl
-moment_order temporals.Historically i f = refl
-moment_order temporals.Eventually i f = refl
-moment_order temporals.Always i f = refl
+moment_order _ i f = refl
 
 pub joined_order : (o : Operator) (i : Interval) (f g : Form) → fv (operator_form o i f g) ≡ joined (fv f) (fv g)
 unfolding fv
 joined_order operators.And i f g = refl
-joined_order operators.Or i f g = refl
-joined_order operators.Implies i f g = refl
-joined_order operators.Equiv i f g = refl
-joined_order operators.Since i f g = refl
-joined_order operators.Until i f g = refl
+joined_order _ i f g = refl
 
 pub truth_order : (which : Bool) → fv (truth which) ≡ []
 unfolding fv

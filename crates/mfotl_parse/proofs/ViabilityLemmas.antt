@@ -1,6 +1,6 @@
 -- From every state some tokens lead on to a whole text.
-use Rattle.std.proofs.Common.{◌≡◌, ℕ, zero, suc, Bool, true, false, List, [], ◌∷◌, ◌++◌, Option, Some, None}
-use Rattle.std.proofs.Common.{refl, ap, ◌∙◌}
+use Rattle.std.proofs.Common.{◌≡◌, ℕ, zero, suc, Bool, true, false, List, [], ◌∷◌, ◌++◌, Option, Some, None, refl, ap}
+use Rattle.std.proofs.Common.{◌∙◌}
 use Rattle.std.specs.Prelude.{codes}
 use Rattle.mfotl_lex.specs.declared.kind.Kind.{Kind}
 use Rattle.mfotl_lex.specs.declared.kind.Kind.TheVariants as kinds
@@ -8,18 +8,18 @@ use Rattle.mfotl_lex.specs.Lexemes.{Lexeme}
 use Rattle.mfotl_lex.specs.Numbers.{digits_value, integer_value}
 use Rattle.mfotl_model.specs.Formulas.{Form}
 use Rattle.mfotl_sig.specs.Preds.{PredOf}
-use Rattle.mfotl_parse.specs.declared.class.Operator.TheVariants.{And, Or, Implies, Equiv, Since, Until}
+use Rattle.mfotl_parse.specs.declared.class.Operator.TheVariants.{And}
 use Rattle.mfotl_parse.specs.Classes.{word_class, operator_class, temporal_class}
 use Rattle.mfotl_parse.specs.Transitions.{Transition}
 use Rattle.mfotl_parse.specs.Operators.{around, enclosed_move}
 use Rattle.mfotl_parse.specs.Reading.{transition, is_closed}
 use Rattle.mfotl_parse.specs.Reduction.{Reduced, reduce, closed}
 use Rattle.mfotl_parse.specs.States.{Frame, Parens, Negation, Moment, Binding, Left, Context, Partial, Stage}
-use Rattle.mfotl_parse.specs.States.{with_stack, ExpectOperand, AfterTemporal, AfterOperand, AfterWord}
-use Rattle.mfotl_parse.specs.States.{AfterBlank, AfterMark, ExpectSign, AfterSign, AfterSignMark, FirstArgument}
-use Rattle.mfotl_parse.specs.States.{NextArgument, AfterArgument, AfterArgumentMark, ExpectVariable, AfterVariableMark}
-use Rattle.mfotl_parse.specs.States.{AfterVariable, AfterParen, AfterParenNumber, ExpectLow, AfterLowNumber, AfterLow}
-use Rattle.mfotl_parse.specs.States.{ExpectHigh, AfterHighNumber, AfterHigh, AfterStar}
+use Rattle.mfotl_parse.specs.States.{with_stack, ExpectOperand, AfterTemporal, AfterOperand, AfterWord, AfterBlank}
+use Rattle.mfotl_parse.specs.States.{AfterMark, ExpectSign, AfterSign, AfterSignMark, FirstArgument, NextArgument}
+use Rattle.mfotl_parse.specs.States.{AfterArgument, AfterArgumentMark, ExpectVariable, AfterVariableMark, AfterVariable}
+use Rattle.mfotl_parse.specs.States.{AfterParen, AfterParenNumber, ExpectLow, AfterLowNumber, AfterLow, ExpectHigh}
+use Rattle.mfotl_parse.specs.States.{AfterHighNumber, AfterHigh, AfterStar}
 use Rattle.mfotl_parse.specs.Viability.{if_moved, accepts}
 
 -- ---- the tokens that are due
@@ -94,30 +94,7 @@ due_operand : (sig : List PredOf) (c : Context) (now : Stage)
     → has_operand (shifts sig (due now) (record { context = c; now = now })) ≡ true
 unfolding shifts transition word_class operator_class temporal_class integer_value digits_value
 due_operand sig c ExpectOperand = refl
-due_operand sig c AfterTemporal = refl
-due_operand sig c (AfterOperand f) = refl
-due_operand sig c (AfterWord at text) = refl
-due_operand sig c (AfterBlank at) = refl
-due_operand sig c (AfterMark mark) = refl
-due_operand sig c (ExpectSign left) = refl
-due_operand sig c (AfterSign left at sign) = refl
-due_operand sig c (AfterSignMark left at sign mark) = refl
-due_operand sig c (FirstArgument call) = refl
-due_operand sig c (NextArgument call) = refl
-due_operand sig c (AfterArgument call) = refl
-due_operand sig c (AfterArgumentMark call mark) = refl
-due_operand sig c (ExpectVariable quantifier) = refl
-due_operand sig c (AfterVariableMark quantifier mark) = refl
-due_operand sig c (AfterVariable quantifier) = refl
-due_operand sig c (AfterParen at) = refl
-due_operand sig c (AfterParenNumber at number_at z) = refl
-due_operand sig c (ExpectLow at) = refl
-due_operand sig c (AfterLowNumber at number_at n) = refl
-due_operand sig c (AfterLow at low) = refl
-due_operand sig c (ExpectHigh at low) = refl
-due_operand sig c (AfterHighNumber at low number_at n) = refl
-due_operand sig c (AfterHigh at low high) = refl
-due_operand sig c (AfterStar at low) = refl
+due_operand sig c _ = refl
 
 -- ---- the parentheses that are due
 
@@ -128,10 +105,7 @@ parens (suc n) = closing_paren ∷ parens n
 abbrev parens_in : List Frame → ℕ
 parens_in [] = 0
 parens_in (Parens ∷ stack) = suc (parens_in stack)
-parens_in (Negation ∷ stack) = parens_in stack
-parens_in (Moment operator interval ∷ stack) = parens_in stack
-parens_in (Binding quantifier variable bound ∷ stack) = parens_in stack
-parens_in (Left operator interval left ∷ stack) = parens_in stack
+parens_in (_ ∷ stack) = parens_in stack
 
 abbrev having : Context → List Frame → Form → Partial
 having c stack f = record { context = with_stack c stack; now = AfterOperand f }
@@ -157,11 +131,7 @@ closes_left : (f : Form) (operator : _) (interval : _) (left : Form) (stack : Li
     → reduce 0 f (Left operator interval left ∷ stack) ≡ reduce 0 (closed (Left operator interval left) f) stack
 unfolding reduce
 closes_left f And interval left stack = refl
-closes_left f Or interval left stack = refl
-closes_left f Implies interval left stack = refl
-closes_left f Equiv interval left stack = refl
-closes_left f Since interval left stack = refl
-closes_left f Until interval left stack = refl
+closes_left f _ interval left stack = refl
 
 closing : (sig : List PredOf) (stack : List Frame) (c : Context) (f : Form)
     → accepts sig (parens (parens_in stack)) (having c stack f) ≡ true

@@ -1,6 +1,5 @@
 -- A whole formula is accepted from the start on, and where the reader stands behind it.
-use Rattle.std.proofs.Common.{◌≡◌, ℕ, ◌+◌, true, List, [], ◌++◌, Ok, refl, ap, sym}
-use Rattle.std.proofs.Common.{subst, ◌∙◌, arith}
+use Rattle.std.proofs.Common.{◌≡◌, ℕ, ◌+◌, true, List, [], ◌++◌, Ok, refl, ap, sym, subst, ◌∙◌, arith}
 use Rattle.std.proofs.lemmas.List.{append-nil}
 use Rattle.mfotl_lex.specs.FirstFault.{run}
 use Rattle.mfotl_lex.specs.Lexemes.{Lexeme}

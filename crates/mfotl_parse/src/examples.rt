@@ -1,4 +1,6 @@
 //! Worked texts, with what the definitions give for each.
+#![tactic(auto, unfolding(crate::proofs::ExampleWords::whole_reading))]
+
 ghost use Rattle.mfotl_parse.specs.Examples.{FaultExamples, ClashExamples, FormulaExamples, NameExamples};
 ghost use Rattle.mfotl_parse.specs.Examples.{DepthExamples, BoundExamples, NodeExamples, OrderExamples};
 

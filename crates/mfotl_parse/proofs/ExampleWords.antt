@@ -1,4 +1,6 @@
-use Rattle.std.proofs.Common.{refl}
+-- What a worked text's reading computes through: the reader and the lexer below it.
+use Rattle.std.specs.Char.{encode_utf8}
+use Rattle.std.specs.Str.{is_utf8, chars}
 use Rattle.mfotl_lex.specs.FirstFault as layer
 use Rattle.mfotl_lex.specs.FirstFault.{run}
 use Rattle.mfotl_lex.specs.Lexemes.{tokens, tokens_within, next_token, after}
@@ -11,33 +13,11 @@ use Rattle.mfotl_parse.specs.Reading.{reading, reading_on, step, transition, end
 use Rattle.mfotl_parse.specs.SymbolTable.{binder_of, vars_of}
 use Rattle.mfotl_parse.specs.States.{depth}
 use Rattle.mfotl_parse.specs.Reduction.{reduce}
-use Rattle.mfotl_parse.proofs.examples.formula_examples.Goals as goal
 
-pub returns : goal.returns
+-- to unfold this is to unfold them all
+unfoldable pub whole_reading : Unit {0}
 unfolding depth binder_of vars_of reading reading_on layer.reading run step transition ended_at reduce word_class
     operator_class temporal_class tokens tokens_within next_token after plain_scan log_scan minus_scan
-    closed_text text_end text_scan order_scan digits_value integer_value blank_len comment_len mode_behind
-returns c = record {
-  and_left = refl;
-  or_left = refl;
-  and_in_or = refl;
-  implies_right = refl;
-  not_first = refl;
-  body = refl;
-  free_behind = refl;
-  marked = refl;
-  blank = refl;
-  between = refl;
-  no_interval = refl;
-  since_right = refl;
-  since_in_and = refl;
-  equiv_left = refl;
-  implies_in_equiv = refl;
-  one_operand = refl;
-  each_sign = refl;
-  each_unit = refl;
-  one_number = refl;
-  minus_zero = refl;
-  longest = refl;
-  past_longest = refl;
-}
+    closed_text text_end text_scan order_scan digits_value integer_value blank_len comment_len is_utf8 chars
+    encode_utf8 mode_behind
+whole_reading = tt
