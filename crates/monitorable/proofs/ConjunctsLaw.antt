@@ -2,8 +2,7 @@
 use Rattle.std.proofs.Common.{◌≡◌, ℕ, Bool, true, false, not, ◌&&◌, cond, List, refl, sym, ap₂, ◌∙◌}
 use Rattle.std.proofs.lemmas.List.Folds.{list_all-append}
 use Rattle.std.proofs.Math.Bool.{and-true}
-use Rattle.monitorable.specs.CoreForms.{CoreForm, meaning, True, False, Atom, Compare, Not, And, Or, Exists}
-use Rattle.monitorable.specs.CoreForms.{Previous, Next, Since, Until}
+use Rattle.monitorable.specs.CoreForms.{CoreForm, meaning, Compare, Not, And}
 use Rattle.mfotl_model.specs.Satisfaction.{Valuation, sat}
 use Rattle.mfotl_model.specs.declared.event.TimePoint.{TimePoint}
 use Rattle.mfotl_model.specs.declared.value.Value.{Value}
@@ -15,17 +14,7 @@ use Rattle.monitorable.specs.Laws.{ConjunctsMean}
 negated : (log : List TimePoint) (dom : List Value) (f : CoreForm) (v : Valuation) (i : ℕ)
     → not (sat log dom v i (meaning f)) ≡ part_holds log dom v i (negated_part f)
 negated log dom (Compare c) v i = refl
-negated log dom True v i = refl
-negated log dom False v i = refl
-negated log dom (Atom atom) v i = refl
-negated log dom (Not f) v i = refl
-negated log dom (And f g) v i = refl
-negated log dom (Or f g) v i = refl
-negated log dom (Exists x f) v i = refl
-negated log dom (Previous interval f) v i = refl
-negated log dom (Next interval f) v i = refl
-negated log dom (Since interval f g) v i = refl
-negated log dom (Until interval f g) v i = refl
+negated log dom f v i = refl
 
 pub conjuncts_mean : ConjunctsMean
 unfolding sat conjuncts_of
@@ -41,12 +30,4 @@ conjuncts_mean log dom (Compare c) v i =
         ≡ part_holds log dom v i (cond b (Child (Compare c) false) (Test c true))
     held true = refl
     held false = refl
-conjuncts_mean log dom True v i = refl
-conjuncts_mean log dom False v i = refl
-conjuncts_mean log dom (Atom atom) v i = sym (and-true (sat log dom v i (meaning (Atom atom))))
-conjuncts_mean log dom (Or f g) v i = sym (and-true (sat log dom v i (meaning (Or f g))))
-conjuncts_mean log dom (Exists x f) v i = sym (and-true (sat log dom v i (meaning (Exists x f))))
-conjuncts_mean log dom (Previous interval f) v i = sym (and-true (sat log dom v i (meaning (Previous interval f))))
-conjuncts_mean log dom (Next interval f) v i = sym (and-true (sat log dom v i (meaning (Next interval f))))
-conjuncts_mean log dom (Since interval f g) v i = sym (and-true (sat log dom v i (meaning (Since interval f g))))
-conjuncts_mean log dom (Until interval f g) v i = sym (and-true (sat log dom v i (meaning (Until interval f g))))
+conjuncts_mean log dom f v i = sym (and-true (sat log dom v i (meaning f)))

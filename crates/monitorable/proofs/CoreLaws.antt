@@ -1,5 +1,5 @@
 -- What the laws of the normal form and of new numbers say of the core of a policy.
-use Rattle.std.proofs.Common.{◌≡◌, [], ap, pos, ◌∙◌, Bool, true, false, cond, nat_lt, Option, Some, None}
+use Rattle.std.proofs.Common.{◌≡◌, [], ap, pos, ◌∙◌, Bool, cond, nat_lt, Option, Some, None, arith}
 use Rattle.mfotl_model.specs.Formulas.{Form}
 use Rattle.mfotl_model.specs.FreeVariables.{fv}
 use Rattle.mfotl_model.specs.declared.value.Value.TheVariants.{Int}
@@ -38,8 +38,7 @@ pub same_constants : (f : Form) → HasConstantsOf (core_of f) f
 same_constants f a = ap (λ values. in_domain values a) (apart_constants (negative f)) ∙ (normal_form_constants f a).1
 
 small : (b : Bool) (fault : Option FragmentFault) → cond b (Some TooLarge) fault ≡ None → fault ≡ None
-small true fault h = cc
-small false fault h = h
+small b fault h = grind arith
 
 -- where a formula has no fault, the fragment accepts the normal form of its negation
 pub accepted : (names : Names) (f : Form) → frag_fault names f ≡ None → frag names (negative f) ≡ None

@@ -1,6 +1,6 @@
 -- The active domain, and the rows over it.
-use Rattle.std.proofs.Common.{◌≡◌, ℕ, Bool, true, false, ◌&&◌, ◌||◌, nat_eq, List, [], ◌∷◌, ◌++◌, length, map}
-use Rattle.std.proofs.Common.{refl, sym, ap, ◌∙◌}
+use Rattle.std.proofs.Common.{◌≡◌, ℕ, Bool, true, ◌&&◌, ◌||◌, nat_eq, List, [], ◌∷◌, ◌++◌, length, map, refl, sym, ap}
+use Rattle.std.proofs.Common.{◌∙◌, arith}
 use Rattle.std.proofs.lemmas.Bool.{and_from, or_left, or_right}
 use Rattle.std.proofs.lemmas.Bool.{eqb-true}
 use Rattle.std.proofs.lemmas.Grind.{flat_map-append}
@@ -24,44 +24,38 @@ use Rattle.mfotl_model.specs.declared.value.Value.{Value}
 use Rattle.mfotl_model.specs.Domains.{in_domain, Includes}
 
 -- the active domain has the values of the log and of the policy
-pub adom_has : (log : List TimePoint) (f : Form) (a : Value)
-    → in_domain (adom log f) a ≡ in_domain (log_values log ++ constants f) a
-adom_has log f a = any_ascending value_total value_exact (eq_by_cmp value_cmp a) (log_values log ++ constants f)
+adom_has : (log : List TimePoint) (f : Form) (a : Value)
+    → in_domain (adom log f) a ≡ (in_domain (log_values log) a || in_domain (constants f) a)
+adom_has log f a =
+    any_ascending value_total value_exact (eq_by_cmp value_cmp a) (log_values log ++ constants f)
+    ∙ list_any-append (eq_by_cmp value_cmp a) (log_values log) (constants f)
 
 pub has_log : (log : List TimePoint) (f : Form) → Includes (adom log f) (log_values log)
-has_log log f a h =
-    adom_has log f a ∙ list_any-append (eq_by_cmp value_cmp a) (log_values log) (constants f)
-    ∙ or_left (in_domain (log_values log) a) (in_domain (constants f) a) h
+has_log log f a h = adom_has log f a ∙ or_left _ _ h
 
 pub has_constants : (log : List TimePoint) (f : Form) → Includes (adom log f) (constants f)
-has_constants log f a h =
-    adom_has log f a ∙ list_any-append (eq_by_cmp value_cmp a) (log_values log) (constants f)
-    ∙ or_right (in_domain (log_values log) a) (in_domain (constants f) a) h
+has_constants log f a h = adom_has log f a ∙ or_right _ _ h
+
+kept : (b c d : Bool) → (b || d) ≡ true → ((b || c) || d) ≡ true
+kept b c d h = grind arith
 
 -- a longer log has no smaller active domain
 pub grows : (log more : List TimePoint) (f : Form) → Includes (adom (log ++ more) f) (adom log f)
 grows log more f a h =
     adom_has (log ++ more) f a
-    ∙ list_any-append (eq_by_cmp value_cmp a) (log_values (log ++ more)) (constants f)
-    ∙ ap (λ b. b || in_domain (constants f) a)
-    (ap (λ values. in_domain values a) (flat_map-append (λ point. flat_map (λ event. event.args) point.db) log more)
-    ∙ list_any-append (eq_by_cmp value_cmp a) (log_values log) (log_values more))
-    ∙ kept (in_domain (log_values log) a) (in_domain (log_values more) a) (in_domain (constants f) a)
-    (sym (list_any-append (eq_by_cmp value_cmp a) (log_values log) (constants f)) ∙ sym (adom_has log f a) ∙ h)
-  where
-    kept : (b c d : Bool) → (b || d) ≡ true → ((b || c) || d) ≡ true
-    kept true c d e = refl
-    kept false true d e = refl
-    kept false false d e = e
+    ∙ rw (
+      flat_map-append (λ point. flat_map (λ event. event.args) point.db) log more,
+      list_any-append (eq_by_cmp value_cmp a) (log_values log) (log_values more),
+    )
+    (kept (in_domain (log_values log) a) (in_domain (log_values more) a) (in_domain (constants f) a)
+    (sym (adom_has log f a) ∙ h))
 
 -- what holds of the value of each column holds of each value
-pub all_read : (p : Value → Bool) (v : Valuation) (columns : List ℕ)
+all_read : (p : Value → Bool) (v : Valuation) (columns : List ℕ)
     → ((y : ℕ) → among y columns ≡ true → p (v y) ≡ true) → list_all p (map v columns) ≡ true
 all_read p v [] h = refl
 all_read p v (x ∷ columns) h =
-    and_from (p (v x)) (list_all p (map v columns))
-    (h x (or_left (nat_eq x x) (among x columns) (same_number x)))
-    (all_read p v columns (λ y m. h y (or_right (nat_eq y x) (among y columns) m)))
+    and_from _ _ (h x (or_left _ _ (same_number x))) (all_read p v columns (λ y m. h y (or_right _ _ m)))
 
 -- a row has its values in the domain where each column's value lies there
 pub row_within : (columns : List ℕ) (row : List Value) (dom : List Value) → all_apart columns ≡ true

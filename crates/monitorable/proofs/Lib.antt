@@ -6,6 +6,7 @@ pub mod FinalityLaw
 pub mod DomainLemmas
 pub mod FragmentLemmas
 pub mod DomainLaw
+pub mod CoreSettled
 pub mod SettledStays
 pub mod DomainRows
 pub mod ViolationsFinal

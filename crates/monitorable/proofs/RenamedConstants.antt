@@ -3,8 +3,8 @@ use Rattle.std.proofs.Common.{◌≡◌, ℕ, ◌+◌, List, [], ◌∷◌, ◌+
 use Rattle.std.specs.List.{flat_map}
 use Rattle.mfotl_model.specs.ActiveDomain.{constant_in, constants}
 use Rattle.mfotl_model.specs.FreeVariables.{fv}
-use Rattle.monitorable.specs.CoreForms.{CoreForm, meaning, True, False, Atom, Compare, Not, And, Or, Exists}
-use Rattle.monitorable.specs.CoreForms.{Previous, Next, Since, Until}
+use Rattle.monitorable.specs.CoreForms.{CoreForm, meaning, Atom, Compare, Not, And, Or, Exists, Previous, Next, Since}
+use Rattle.monitorable.specs.CoreForms.{Until}
 use Rattle.mfotl_model.specs.declared.term.Term.{Term}
 use Rattle.mfotl_model.specs.declared.term.Term.TheVariants.{Var, Const}
 use Rattle.monitorable.specs.Laws.{ApartConstants}
@@ -21,22 +21,17 @@ terms_constants p (t ∷ terms) = ap₂ (λ a b. a ++ b) (term_constants p t) (t
 
 renamed_constants : (p : Numbers) (n : ℕ) (f : CoreForm) → constants (meaning (renamed p n f)) ≡ constants (meaning f)
 unfolding constants renamed
-renamed_constants p n True = refl
-renamed_constants p n False = refl
 renamed_constants p n (Atom atom) = terms_constants p atom.args
 renamed_constants p n (Compare c) = ap₂ (λ a b. a ++ b) (term_constants p c.left) (term_constants p c.right)
 renamed_constants p n (Not f) = renamed_constants p n f
-renamed_constants p n (And f g) =
-    ap₂ (λ a b. a ++ b) (renamed_constants p n f) (renamed_constants p (n + binder_count f) g)
-renamed_constants p n (Or f g) =
-    ap₂ (λ a b. a ++ b) (renamed_constants p n f) (renamed_constants p (n + binder_count f) g)
+renamed_constants p n (And f g) = rw (renamed_constants p n f, renamed_constants p (n + binder_count f) g)
+renamed_constants p n (Or f g) = rw (renamed_constants p n f, renamed_constants p (n + binder_count f) g)
 renamed_constants p n (Exists x f) = renamed_constants (with_number p x.number n) (n + 1) f
 renamed_constants p n (Previous interval f) = renamed_constants p n f
 renamed_constants p n (Next interval f) = renamed_constants p n f
-renamed_constants p n (Since interval f g) =
-    ap₂ (λ a b. a ++ b) (renamed_constants p n f) (renamed_constants p (n + binder_count f) g)
-renamed_constants p n (Until interval f g) =
-    ap₂ (λ a b. a ++ b) (renamed_constants p n f) (renamed_constants p (n + binder_count f) g)
+renamed_constants p n (Since interval f g) = rw (renamed_constants p n f, renamed_constants p (n + binder_count f) g)
+renamed_constants p n (Until interval f g) = rw (renamed_constants p n f, renamed_constants p (n + binder_count f) g)
+renamed_constants p n f = refl
 
 pub apart_constants : ApartConstants
 apart_constants f = renamed_constants (λ y. y) (above (fv (meaning f))) f

@@ -1,51 +1,42 @@
--- The violations of a formula are the rows that satisfy a core which negates it.
-use Rattle.std.proofs.Common.{◌≡◌, ℕ, ◌||◌, List, ◌++◌, length, sym, ap, ◌∙◌}
+-- The violations of a formula are the rows that satisfy a core which negates it, and these rows lie in the domain.
+use Rattle.std.proofs.Common.{◌≡◌, ℕ, true, nat_eq, List, ◌++◌, length, None}
 use Rattle.std.proofs.lemmas.List.Folds.{list_any-append}
-use Rattle.std.specs.List.{filter}
-use Rattle.std.specs.Ordering.{eq_by_cmp}
+use Rattle.std.specs.List.{list_all}
 use Rattle.mfotl_model.proofs.AscendingLemmas.{same_ascending}
 use Rattle.mfotl_model.proofs.LogicLemmas.{funext}
 use Rattle.mfotl_model.proofs.RowLemmas.{value_exact}
-use Rattle.mfotl_model.specs.ActiveDomain.{adom, ascending, constants, log_values}
+use Rattle.mfotl_model.specs.ActiveDomain.{adom, constants, log_values}
+use Rattle.mfotl_model.specs.Domains.{Includes, in_domain}
 use Rattle.mfotl_model.specs.FreeVariables.{fv}
-use Rattle.mfotl_model.specs.Formulas.{Form}
-use Rattle.mfotl_model.specs.Satisfaction.{sat}
 use Rattle.mfotl_model.specs.Tables.{valuation}
-use Rattle.mfotl_model.specs.Values.{value_cmp, value_total, row_cmp}
-use Rattle.mfotl_model.specs.Violations.{all_rows, violates, viol}
+use Rattle.mfotl_model.specs.Values.{value_total}
+use Rattle.mfotl_model.specs.Violations.{violates}
 use Rattle.mfotl_model.specs.declared.event.TimePoint.{TimePoint}
 use Rattle.mfotl_model.specs.declared.value.Value.{Value}
+use Rattle.monitorable.proofs.DomainLaw.{domain}
+use Rattle.monitorable.proofs.DomainRows.{has_constants, has_log, row_within}
+use Rattle.monitorable.proofs.FreeVariableLemmas.{fv_apart}
 use Rattle.monitorable.specs.CoreForms.{CoreForm, meaning}
-use Rattle.mfotl_model.specs.Domains.{in_domain}
+use Rattle.monitorable.specs.Fragment.{Names, frag}
 use Rattle.monitorable.specs.Laws.{ViolationsSatisfy}
-use Rattle.monitorable.specs.Negation.{HasConstantsOf, Negates}
-use Rattle.monitorable.specs.SatisfyingRows.{core_domain, satisfies, satisfying_rows}
-
-module _ (f : Form) (g : CoreForm) (negates : Negates g f) (variables : fv (meaning g) ≡ fv f)
-    (same_constants : HasConstantsOf g f) (log : List TimePoint) (i : ℕ) where
-  -- the active domain of the core is that of the formula
-  same_domain : core_domain log g ≡ adom log f
-  same_domain =
-      same_ascending value_total value_exact (log_values log ++ constants (meaning g)) (log_values log ++ constants f)
-      (λ a.
-      list_any-append (eq_by_cmp value_cmp a) (log_values log) (constants (meaning g))
-      ∙ ap (λ b. in_domain (log_values log) a || b) (same_constants a)
-      ∙ sym (list_any-append (eq_by_cmp value_cmp a) (log_values log) (constants f)))
-
-  -- a row satisfies the core exactly where the formula fails of it
-  satisfies_is : (row : List Value) → satisfies log g i row ≡ violates log f i row
-  satisfies_is row =
-      ap (λ dom. sat log dom (valuation (fv (meaning g)) row) i (meaning g)) same_domain
-      ∙ ap (λ vars. sat log (adom log f) (valuation vars row) i (meaning g)) variables
-      ∙ negates log (adom log f) (valuation (fv f) row) i
-
-  same_rows : satisfying_rows log g i ≡ viol log f i
-  same_rows =
-      ap (λ p. ascending row_cmp (filter p (all_rows (length (fv (meaning g))) (core_domain log g))))
-      (funext (satisfies log g i) (violates log f i) satisfies_is)
-      ∙ ap (λ dom. ascending row_cmp (filter (violates log f i) (all_rows (length (fv (meaning g))) dom))) same_domain
-      ∙ ap (λ vars. ascending row_cmp (filter (violates log f i) (all_rows (length vars) (adom log f)))) variables
+use Rattle.monitorable.specs.SatisfyingRows.{core_domain, satisfies}
 
 pub violations_satisfy : ViolationsSatisfy
 violations_satisfy f g negates variables same_constants log i =
-    sym (same_rows f g negates variables same_constants log i)
+    let same_domain : core_domain log g ≡ adom log f =
+    same_ascending value_total value_exact (log_values log ++ constants (meaning g)) (log_values log ++ constants f)
+    (λ a. simp (list_any-append, same_constants a)) in
+    let alike : satisfies log g i ≡ violates log f i =
+    funext _ _ (λ row. rw (same_domain, variables) (negates log (adom log f) (valuation (fv f) row) i)) in
+    rw (alike, same_domain, variables)
+
+-- where a core holds of a row, the row's values lie in each domain that includes the core's
+pub row_inside : (log : List TimePoint) (names : Names) (g : CoreForm) (i : ℕ) → frag names g ≡ None
+    → (dom : List Value) → Includes dom (core_domain log g) → (row : List Value)
+    → nat_eq (length row) (length (fv (meaning g))) ≡ true → satisfies log g i row ≡ true
+    → list_all (in_domain dom) row ≡ true
+row_inside log names g i accepted dom includes row size holds =
+    let v = valuation (fv (meaning g)) row in
+    row_within (fv (meaning g)) row dom (fv_apart (meaning g)) size (λ y m. includes (v y)
+    ((domain log (core_domain log g) names g accepted (has_log log (meaning g)) (has_constants log (meaning g)) v i).0
+    (core_domain log g) y holds m))

@@ -1,128 +1,83 @@
--- What is settled is settled in every longer log.
-use Rattle.std.proofs.Common.{◌≡◌, ℕ, ◌+◌, ◌-◌, ◌<◌, ◌≤◌, Bool, true, ◌&&◌, ◌||◌, nat_lt, nat_eq, List, ◌++◌}
-use Rattle.std.proofs.Common.{length, Option, Some, None, inl, inr, arith, length-append}
-use Rattle.std.proofs.lemmas.Bool.{and_parts, and_from, or_cases, or_left, or_right, ltb-true, lt-ltb, cases_lt}
+-- What is settled is settled in every longer log, there and at each position before.
+use Rattle.std.proofs.Common.{◌≡◌, ℕ, ◌+◌, ◌-◌, ◌<◌, ◌≤◌, Bool, true, ◌&&◌, List, ◌++◌, length, Option, sym, ◌∙◌, inl}
+use Rattle.std.proofs.Common.{inr, arith, length-append}
+use Rattle.std.proofs.lemmas.Bool.{and_parts, and_from, cases_lt}
+use Rattle.std.proofs.lemmas.Bool.Decides.{nat_tests}
 use Rattle.std.proofs.lemmas.List.{get_or_append_left}
-use Rattle.std.specs.List.{list_any, list_all, range_with_len}
-use Rattle.mfotl_model.proofs.LogicLemmas.{all_in, all_from, any_in, any_from}
-use Rattle.mfotl_model.specs.Formulas.{Form}
-use Rattle.mfotl_model.specs.Formulas.Form.{True, False, Atom, Compare, Not, And, Or, Implies, Equiv, Exists}
-use Rattle.mfotl_model.specs.Formulas.Form.{Forall, Previous, Next, Once, Historically, Eventually, Always, Since}
-use Rattle.mfotl_model.specs.Formulas.Form.{Until}
+use Rattle.mfotl_model.proofs.LogicLemmas.{all_from}
 use Rattle.mfotl_model.specs.Satisfaction.{time_at}
 use Rattle.mfotl_model.specs.Settled.{settled, previous_settled, next_settled, since_settled, until_settled}
-use Rattle.monitorable.specs.Laws.{SettledStays}
 use Rattle.mfotl_model.specs.Times.{NeverFalls}
+use Rattle.monitorable.proofs.CoreSettled.{reaches, settles, since_ready}
+use Rattle.monitorable.proofs.NormalFormLaws.{normal_form_settled}
+use Rattle.monitorable.specs.CoreForms.{CoreForm, meaning, Not, And, Or, Exists, Previous, Next, Since, Until}
+use Rattle.monitorable.specs.Laws.{SettledStays}
+use Rattle.monitorable.specs.NormalForm.{positive}
 
-module _ (t more : List ℕ) (rising : NeverFalls (t ++ more)) where
-  reached : (i : ℕ) → nat_lt i (length t) ≡ true → nat_lt i (length (t ++ more)) ≡ true
-  reached i h =
-      let l : i < length t = ltb-true i (length t) h in
-      lt-ltb i (length (t ++ more)) (omega (arith, length-append t more))
+both : {a b c d : Bool} → (a ≡ true → c ≡ true) → (b ≡ true → d ≡ true) → (a && b) ≡ true → (c && d) ≡ true
+both {a} {b} {c} {d} left right h = let p = and_parts a b h in and_from c d (left p.0) (right p.1)
 
-  same_time : (j : ℕ) → j < length t → time_at (t ++ more) j ≡ time_at t j
-  same_time j l = get_or_append_left t more 0 j l
+-- one log begins with the other, and its timestamps never fall
+module _ (t u : List ℕ) (more : length t ≤ length u) (rising : NeverFalls u)
+    (same : (j : ℕ) → j < length t → time_at u j ≡ time_at t j) where
+  -- what is ready in the one is ready in the other, up to the same position
+  abbrev pub Down : (ℕ → Bool) → (ℕ → Bool) → Type 0
+  Down ready ready' = (i j : ℕ) → j ≤ i → ready i ≡ true → ready' j ≡ true
 
-  since_stays : (p q : ℕ → Bool) (i : ℕ) → ((j : ℕ) → p j ≡ true → q j ≡ true) → since_settled p i ≡ true
-      → since_settled q i ≡ true
+  previous_down : (ready ready' : ℕ → Bool) → Down ready ready'
+      → Down (previous_settled t ready) (previous_settled u ready')
+  unfolding previous_settled
+  previous_down ready ready' down i j l h = grind (arith, nat_tests, down (i - 1) (j - 1))
+
+  next_down : (ready ready' : ℕ → Bool) → Down ready ready' → Down (next_settled t ready) (next_settled u ready')
+  unfolding next_settled
+  next_down ready ready' down i j l h = grind (arith, nat_tests, down (i + 1) (j + 1))
+
+  since_down : (ready ready' : ℕ → Bool) → Down ready ready' → Down (since_settled ready) (since_settled ready')
   unfolding since_settled
-  since_stays p q i down h = all_from q 0 (i + 1) (λ j low high. down j (all_in p 0 (i + 1) j h low high))
+  since_down ready ready' down i j l h =
+      all_from ready' 0 (j + 1) (λ k low high. down k k (omega arith) (since_ready ready i k h (omega arith)))
 
-  until_stays : (h : Option ℕ) (p q : ℕ → Bool) (i : ℕ) → ((j : ℕ) → p j ≡ true → q j ≡ true)
-      → until_settled h t p i ≡ true → until_settled h (t ++ more) q i ≡ true
-  unfolding until_settled
-  until_stays None p q i down s = s
-  until_stays (Some hi) p q i down s =
-      let u : List ℕ = t ++ more in
-      let parts =
-      and_parts (nat_lt i (length t)
-      && list_any (λ k. nat_lt (time_at t i + hi) (time_at t k)) (range_with_len 0 (length t)))
-      (list_all (λ j. nat_lt (time_at t i + hi) (time_at t j) || p j) (range_with_len i (length t - i))) s in
-      let front =
-      and_parts (nat_lt i (length t))
-      (list_any (λ k. nat_lt (time_at t i + hi) (time_at t k)) (range_with_len 0 (length t))) parts.0 in
-      let here : i < length t = ltb-true i (length t) front.0 in
-      let far = any_in (λ k. nat_lt (time_at t i + hi) (time_at t k)) 0 (length t) front.1 in
-      let past : time_at t i + hi < time_at t far.0 = ltb-true (time_at t i + hi) (time_at t far.0) far.3 in
-      let at_far : time_at u far.0 ≡ time_at t far.0 = same_time far.0 (omega arith) in
-      let at_here : time_at u i ≡ time_at t i = same_time i here in
-      let size : length u ≡ length t + length more = length-append t more in
-      and_from (nat_lt i (length u)
-      && list_any (λ k. nat_lt (time_at u i + hi) (time_at u k)) (range_with_len 0 (length u)))
-      (list_all (λ j. nat_lt (time_at u i + hi) (time_at u j) || q j) (range_with_len i (length u - i)))
-      (and_from (nat_lt i (length u))
-      (list_any (λ k. nat_lt (time_at u i + hi) (time_at u k)) (range_with_len 0 (length u)))
-      (reached i front.0)
-      (any_from (λ k. nat_lt (time_at u i + hi) (time_at u k)) 0 (length u) far.0 (omega arith) (omega arith)
-      (lt-ltb (time_at u i + hi) (time_at u far.0) (omega arith))))
-      (all_from (λ j. nat_lt (time_at u i + hi) (time_at u j) || q j) i (length u - i)
-      (λ j low high. elim (cases_lt j (length t)) [
-        | inl inside ↦
-            let at_j : time_at u j ≡ time_at t j = same_time j inside in
-            elim (or_cases (nat_lt (time_at t i + hi) (time_at t j)) (p j)
-            (all_in (λ j. nat_lt (time_at t i + hi) (time_at t j) || p j) i (length t - i) j parts.1 low
-            (omega arith))) [
-              | inl later ↦
-                  let l : time_at t i + hi < time_at t j = ltb-true (time_at t i + hi) (time_at t j) later in
-                  or_left (nat_lt (time_at u i + hi) (time_at u j)) (q j)
-                  (lt-ltb (time_at u i + hi) (time_at u j) (omega arith))
-              | inr ready ↦ or_right (nat_lt (time_at u i + hi) (time_at u j)) (q j) (down j ready)
-            ]
-        | inr outside ↦
-            let rises : time_at u far.0 ≤ time_at u j = rising far.0 j (omega arith) (omega arith) in
-            or_left (nat_lt (time_at u i + hi) (time_at u j)) (q j)
-            (lt-ltb (time_at u i + hi) (time_at u j) (omega arith))
-      ]))
+  until_down : (greatest : Option ℕ) (ready ready' : ℕ → Bool) → Down ready ready'
+      → Down (until_settled greatest t ready) (until_settled greatest u ready')
+  until_down greatest ready ready' down i j l h =
+      let r = reaches greatest t ready i h in
+      let at_i = same i r.here in
+      let at_far = same r.far r.reached in
+      let rises = rising j i l (omega arith) in
+      settles greatest u ready' j (record {
+        hi = r.hi;
+        bounded = r.bounded;
+        here = omega arith;
+        far = r.far;
+        reached = omega arith;
+        past = omega arith;
+        near = λ k low high close. elim (cases_lt k (length t)) [
+          | inl inside ↦
+              let at_k = same k inside in elim (cases_lt k i) [
+                | inl before ↦ down i k (omega arith) (r.near i (omega arith) r.here (omega arith))
+                | inr after ↦ down k k (omega arith) (r.near k after inside (omega arith))
+              ]
+          | inr outside ↦ let climbs = rising r.far k (omega arith) high in absurd (omega arith)
+        ];
+      })
 
-  stays : (f : Form) (i : ℕ) → settled t f i ≡ true → settled (t ++ more) f i ≡ true
-  unfolding settled previous_settled next_settled
-  stays True i h = reached i h
-  stays False i h = reached i h
-  stays (Atom atom) i h = reached i h
-  stays (Compare c) i h = reached i h
-  stays (Not f) i h = stays f i h
-  stays (And f g) i h =
-      let p = and_parts (settled t f i) (settled t g i) h in
-      and_from (settled (t ++ more) f i) (settled (t ++ more) g i) (stays f i p.0) (stays g i p.1)
-  stays (Or f g) i h =
-      let p = and_parts (settled t f i) (settled t g i) h in
-      and_from (settled (t ++ more) f i) (settled (t ++ more) g i) (stays f i p.0) (stays g i p.1)
-  stays (Implies f g) i h =
-      let p = and_parts (settled t f i) (settled t g i) h in
-      and_from (settled (t ++ more) f i) (settled (t ++ more) g i) (stays f i p.0) (stays g i p.1)
-  stays (Equiv f g) i h =
-      let p = and_parts (settled t f i) (settled t g i) h in
-      and_from (settled (t ++ more) f i) (settled (t ++ more) g i) (stays f i p.0) (stays g i p.1)
-  stays (Exists x f) i h = stays f i h
-  stays (Forall x f) i h = stays f i h
-  stays (Previous interval f) i h =
-      let p = and_parts (nat_lt i (length t)) (nat_eq i 0 || settled t f (i - 1)) h in
-      and_from (nat_lt i (length (t ++ more))) (nat_eq i 0 || settled (t ++ more) f (i - 1)) (reached i p.0)
-      (elim (or_cases (nat_eq i 0) (settled t f (i - 1)) p.1) [
-        | inl e ↦ or_left (nat_eq i 0) (settled (t ++ more) f (i - 1)) e
-        | inr e ↦ or_right (nat_eq i 0) (settled (t ++ more) f (i - 1)) (stays f (i - 1) e)
-      ])
-  stays (Next interval f) i h =
-      let p = and_parts (nat_lt (i + 1) (length t)) (settled t f (i + 1)) h in
-      and_from (nat_lt (i + 1) (length (t ++ more))) (settled (t ++ more) f (i + 1)) (reached (i + 1) p.0)
-      (stays f (i + 1) p.1)
-  stays (Once interval f) i h = since_stays (settled t f) (settled (t ++ more) f) i (stays f) h
-  stays (Historically interval f) i h = since_stays (settled t f) (settled (t ++ more) f) i (stays f) h
-  stays (Eventually interval f) i h = until_stays interval.hi (settled t f) (settled (t ++ more) f) i (stays f) h
-  stays (Always interval f) i h = until_stays interval.hi (settled t f) (settled (t ++ more) f) i (stays f) h
-  stays (Since interval f g) i h =
-      since_stays (λ j. settled t f j && settled t g j) (λ j. settled (t ++ more) f j && settled (t ++ more) g j) i
-      (λ j k.
-      let p = and_parts (settled t f j) (settled t g j) k in
-      and_from (settled (t ++ more) f j) (settled (t ++ more) g j) (stays f j p.0) (stays g j p.1))
-      h
-  stays (Until interval f g) i h =
-      until_stays interval.hi (λ j. settled t f j && settled t g j)
-      (λ j. settled (t ++ more) f j && settled (t ++ more) g j) i
-      (λ j k.
-      let p = and_parts (settled t f j) (settled t g j) k in
-      and_from (settled (t ++ more) f j) (settled (t ++ more) g j) (stays f j p.0) (stays g j p.1))
-      h
+  pub core_down : (f : CoreForm) → Down (settled t (meaning f)) (settled u (meaning f))
+  unfolding settled
+  core_down (Not f) i j l h = core_down f i j l h
+  core_down (And f g) i j l h = both (core_down f i j l) (core_down g i j l) h
+  core_down (Or f g) i j l h = both (core_down f i j l) (core_down g i j l) h
+  core_down (Exists x f) i j l h = core_down f i j l h
+  core_down (Previous interval f) i j l h = previous_down _ _ (core_down f) i j l h
+  core_down (Next interval f) i j l h = next_down _ _ (core_down f) i j l h
+  core_down (Since interval f g) i j l h =
+      since_down _ _ (λ i j l. both (core_down f i j l) (core_down g i j l)) i j l h
+  core_down (Until interval f g) i j l h =
+      until_down interval.hi _ _ (λ i j l. both (core_down f i j l) (core_down g i j l)) i j l h
+  core_down f i j l h = grind (arith, nat_tests)
 
 pub settled_stays : SettledStays
-settled_stays t more rising f i h = stays t more rising f i h
+settled_stays t more rising f i h =
+    sym (normal_form_settled (t ++ more) f i).0
+    ∙ core_down t (t ++ more) (omega (arith, length-append t more)) rising (get_or_append_left t more 0) (positive f)
+    i i (omega arith) ((normal_form_settled t f i).0 ∙ h)

@@ -19,9 +19,9 @@ use Rattle.mfotl_model.specs.Values.{row_cmp, row_total}
 use Rattle.mfotl_model.specs.Violations.{all_rows}
 use Rattle.mfotl_model.specs.declared.event.TimePoint.{TimePoint}
 use Rattle.mfotl_model.specs.declared.value.Value.{Value}
-use Rattle.monitorable.proofs.DomainLaw.{domain}
-use Rattle.monitorable.proofs.DomainRows.{found, has_constants, has_log, row_within}
+use Rattle.monitorable.proofs.DomainRows.{found}
 use Rattle.monitorable.proofs.FreeVariableLemmas.{fv_apart}
+use Rattle.monitorable.proofs.SatisfyingLaw.{row_inside}
 use Rattle.monitorable.specs.CoreForms.{CoreForm, meaning}
 use Rattle.mfotl_model.specs.Domains.{in_domain}
 use Rattle.monitorable.specs.Fragment.{Names, frag}
@@ -46,9 +46,6 @@ module _ (log : List TimePoint) (names : Names) (g : CoreForm) (i : ℕ) (table 
   abbrev vars : List ℕ
   vars = fv (meaning g)
 
-  size_is : (row : List Value) → nat_eq (length row) (length table.columns) ≡ nat_eq (length row) (length vars)
-  size_is row = ap (λ cs. nat_eq (length row) (length cs)) exact.columns
-
   -- a row with a value for each column is in the table exactly where the core holds of it
   alike : (row : List Value) → nat_eq (length row) (length vars) ≡ true
       → has_row table.rows row ≡ satisfies log g i row
@@ -58,15 +55,6 @@ module _ (log : List TimePoint) (names : Names) (g : CoreForm) (i : ℕ) (table 
       (sym (row_kept vars row (fv_apart (meaning g)) (eqb-true (length row) (length vars) size)))
       ∙ ap (λ cs. has_row table.rows (map (valuation vars row) cs)) (sym exact.columns)
       ∙ exact.rows (core_domain log g) (valuation vars row) (λ a h. h) refl
-
-  -- and where it holds, the values lie in the domain
-  inside : (row : List Value) → nat_eq (length row) (length vars) ≡ true → satisfies log g i row ≡ true
-      → list_all (in_domain (core_domain log g)) row ≡ true
-  inside row size holds =
-      row_within vars row (core_domain log g) (fv_apart (meaning g)) size
-      (λ y m.
-      (domain log (core_domain log g) names g accepted (has_log log (meaning g)) (has_constants log (meaning g))
-      (valuation vars row) i).0 (core_domain log g) y holds m)
 
   member : (row : List Value)
       → has_row (satisfying_rows log g i) row
@@ -78,21 +66,15 @@ module _ (log : List TimePoint) (names : Names) (g : CoreForm) (i : ℕ) (table 
 
   forth : (row : List Value) → has_row table.rows row ≡ true → has_row (satisfying_rows log g i) row ≡ true
   forth row h =
-      let size : nat_eq (length row) (length vars) ≡ true =
-      sym (size_is row) ∙ sized_row (length table.columns) table.rows row sized h in
+      let size = rw exact.columns at (sized_row (length table.columns) table.rows row sized h) in
       let holds : satisfies log g i row ≡ true = sym (alike row size) ∙ h in
-      member row
-      ∙ and_from (satisfies log g i row)
-      (nat_eq (length row) (length vars) && list_all (in_domain (core_domain log g)) row) holds
-      (and_from (nat_eq (length row) (length vars)) (list_all (in_domain (core_domain log g)) row) size
-      (inside row size holds))
+      member row ∙ and_from _ _ holds (and_from _ _ size
+      (row_inside log names g i accepted (core_domain log g) (λ a h. h) row size holds))
 
   back : (row : List Value) → has_row (satisfying_rows log g i) row ≡ true → has_row table.rows row ≡ true
   back row h =
-      let parts = and_parts (satisfies log g i row)
-      (nat_eq (length row) (length vars) && list_all (in_domain (core_domain log g)) row) (sym (member row) ∙ h) in
-      let rest = and_parts (nat_eq (length row) (length vars)) (list_all (in_domain (core_domain log g)) row) parts.1 in
-      alike row rest.0 ∙ parts.0
+      let parts = and_parts (satisfies log g i row) _ (sym (member row) ∙ h) in
+      alike row (and_parts (nat_eq (length row) (length vars)) _ parts.1).0 ∙ parts.0
 
   same_rows : table.rows ≡ satisfying_rows log g i
   same_rows =

@@ -1,7 +1,7 @@
 -- The text of a log is a prefix of the text of every longer one.
-use Rattle.std.proofs.Common.{◌≡◌, ℕ, zero, suc, ◌+◌, ◌≤◌, Bool, true, List, [], ◌∷◌, ◌++◌, map, length, None, refl}
-use Rattle.std.proofs.Common.{sym, ap, ap₂, ◌∙◌, subst, inl, inr, arith, length-append}
-use Rattle.std.proofs.lemmas.Bool.{cases_Bool, cond-true, cond-false}
+use Rattle.std.proofs.Common.{◌≡◌, ℕ, zero, suc, ◌+◌, ◌≤◌, Bool, true, List, ◌++◌, map, length, None, refl, ap, ap₂}
+use Rattle.std.proofs.Common.{◌∙◌, inl, inr, arith, length-append}
+use Rattle.std.proofs.lemmas.Bool.{cases_Bool}
 use Rattle.std.proofs.lemmas.Grind.{flat_map-append}
 use Rattle.std.proofs.lemmas.List.{map-append}
 use Rattle.std.proofs.lemmas.List.Sums.{take_while-cons}
@@ -16,7 +16,6 @@ use Rattle.monitorable.proofs.ViolationsFinal.{violations_final}
 use Rattle.monitorable.specs.Fragment.{frag}
 use Rattle.monitorable.specs.Laws.{TextFinal, log_of}
 use Rattle.monitorable.specs.NormalForm.{negative}
-use Rattle.mfotl_model.specs.Times.{NeverFalls}
 
 -- two lists of verdicts, each as far as its test holds, where the second test holds wherever the first does
 module _ (p q : ℕ → Bool) (v w : ℕ → VerdictOf) (follows : (i : ℕ) → p i ≡ true → q i ≡ true)
@@ -29,21 +28,9 @@ module _ (p q : ℕ → Bool) (v w : ℕ → VerdictOf) (follows : (i : ℕ) →
   longer a (suc n) (suc m) l =
       elim (cases_Bool (p a)) [
         | inl e ↦
-            let r = longer (a + 1) n m (omega arith) in (
-              r.0,
-              ap (map w) (take_while-cons q a (range_with_len (a + 1) m)
-                  ∙ cond-true (q a) (a ∷ take_while q (range_with_len (a + 1) m)) [] (follows a e))
-                  ∙ ap₂ (λ x xs. x ∷ xs) (sym (same a e)) r.1
-                  ∙ ap (λ xs. map v xs ++ r.0)
-                  (sym (take_while-cons p a (range_with_len (a + 1) n)
-                  ∙ cond-true (p a) (a ∷ take_while p (range_with_len (a + 1) n)) [] e)),
-            )
-        | inr e ↦ (
-          map w (take_while q (range_with_len a (suc m))),
-          ap (λ xs. map v xs ++ map w (take_while q (range_with_len a (suc m))))
-              (sym (take_while-cons p a (range_with_len (a + 1) n)
-              ∙ cond-false (p a) (a ∷ take_while p (range_with_len (a + 1) n)) [] e)),
-        )
+            let r = longer (a + 1) n m (omega arith) in
+            (r.0, simp (take_while-cons q a, take_while-cons p a) (simp (e, follows a e, same a e, r.1)))
+        | inr e ↦ (map w (take_while q (range_with_len a (suc m))), simp e)
       ]
 
 pub text_final : TextFinal
@@ -54,8 +41,7 @@ text_final log more names f rising h =
     let joined : times (log ++ more) ≡ times log ++ times more = map-append (λ t. t.ts) log more in
     let r = longer p q (verdict_at log f) (verdict_at (log ++ more) f)
     (λ i h. ap (λ t. settled t f i) joined
-    ∙ settled_stays (times log) (times more)
-    (rises (times (log ++ more)) (times log ++ times more) joined rising) f i h)
+    ∙ settled_stays (times log) (times more) (rw joined at rising) f i h)
     (λ i h. ap₂ (λ t rows. record { point = i; ts = t; rows = rows })
     (time_same log more i (within_log log f i h))
     (violations_final log more names f i rising fits h))
@@ -64,6 +50,3 @@ text_final log more names f rising h =
       ap (flat_map line_of) r.1
           ∙ flat_map-append line_of (verdicts (log_of log) f) r.0,
     )
-  where
-    rises : (t u : List ℕ) → t ≡ u → NeverFalls t → NeverFalls u
-    rises t u e h = subst NeverFalls e h

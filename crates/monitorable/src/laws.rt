@@ -6,6 +6,7 @@ ghost use Rattle.monitorable.specs.Laws.{PartsAreSound, SettledBefore, SettledSt
 ghost use Rattle.monitorable.specs.Laws.{TablesSatisfy, TextFinal, ViolationsFinal, ViolationsSatisfy};
 
 /// Whether a formula holds hangs on its free variables alone.
+#[tactic(auto, using(crate::proofs::Coincidence::coincidence))]
 pub fn only_free_variables_matter()
     ensures { Coincidence }
 {}
@@ -42,11 +43,13 @@ pub fn normal_form_constants()
 {}
 
 /// What is settled stays as it is in every longer log.
+#[tactic(auto, using(crate::proofs::FinalityLaw::finality))]
 pub fn settled_is_final()
     ensures { Finality }
 {}
 
 /// The settled positions are the first ones.
+#[tactic(auto, using(crate::proofs::SettledLemmas::settled_before))]
 pub fn settled_before()
     ensures { SettledBefore }
 {}
@@ -57,16 +60,19 @@ pub fn domain_is_enough()
 {}
 
 /// What is settled lies within the log.
+#[tactic(auto, using(crate::proofs::SettledLemmas::settled_in_log))]
 pub fn settled_within()
     ensures { SettledWithin }
 {}
 
 /// What is settled is settled in every longer log.
+#[tactic(auto, using(crate::proofs::SettledStays::settled_stays))]
 pub fn settled_stays()
     ensures { SettledStays }
 {}
 
 /// The violations of a monitored policy at a settled position are the same in every longer log.
+#[tactic(auto, using(crate::proofs::ViolationsFinal::violations_final))]
 pub fn violations_are_final()
     ensures { ViolationsFinal }
 {}
@@ -78,31 +84,37 @@ pub fn text_is_final()
 {}
 
 /// With its quantifiers apart, a core that the fragment accepts is accepted.
+#[tactic(auto, using(crate::proofs::FragmentRenamed::apart_fragment))]
 pub fn apart_fragment()
     ensures { ApartFragment }
 {}
 
 /// A core holds exactly where all its conjuncts do.
+#[tactic(auto, using(crate::proofs::ConjunctsLaw::conjuncts_mean))]
 pub fn conjuncts_mean()
     ensures { ConjunctsMean }
 {}
 
 /// With its quantifiers apart, a core has the same constants.
+#[tactic(auto, using(crate::proofs::RenamedConstants::apart_constants))]
 pub fn apart_constants()
     ensures { ApartConstants }
 {}
 
 /// The violations of a policy are the rows that satisfy a core which negates it.
+#[tactic(auto, using(crate::proofs::SatisfyingLaw::violations_satisfy))]
 pub fn violations_satisfy()
     ensures { ViolationsSatisfy }
 {}
 
 /// A table that is exact for a core, on all rows, holds the rows that satisfy it.
+#[tactic(auto, using(crate::proofs::TableLaw::tables_satisfy))]
 pub fn tables_satisfy()
     ensures { TablesSatisfy }
 {}
 
 /// A core has in each part all that evaluating it relies on.
+#[tactic(auto, using(crate::proofs::SoundLaw::parts_are_sound))]
 pub fn parts_are_sound()
     ensures { PartsAreSound }
 {}

@@ -1,17 +1,17 @@
 -- What the laws of the normal form and of new numbers say of the core.
-use Rattle.std.proofs.Common.{◌≡◌, ◌++◌, IfOk, IsTrue, None, Result, Ok, Err, ap, sym, subst, ◌∙◌}
+use Rattle.std.proofs.Common.{◌≡◌, IfOk, None, Result, arith, rules, sym, subst}
+use Rattle.std.proofs.lemmas.Grind.{common_steps}
+use Rattle.std.proofs.lemmas.Result.{IfOk-weaker}
 use Rattle.mfotl_model.specs.FreeVariables.{fv}
 use Rattle.mfotl_model.specs.Formulas.{Form}
-use Rattle.mfotl_model.specs.Tables.{all_apart}
 use Rattle.monitorable.proofs.CoreLaws.{accepted, core_of, negates, same_constants, same_variables, settles}
 use Rattle.monitorable.proofs.SatisfyingLaw.{violations_satisfy}
 use Rattle.monitorable.proofs.core_of_policy.to_core.Goals as goal
 use Rattle.monitorable.specs.CoreForms.{CoreForm, meaning}
 use Rattle.monitorable.specs.Cores.{core_form, policy_form}
-use Rattle.monitorable.specs.Fragment.{IsMonitorable, frag, free_names}
+use Rattle.monitorable.specs.Fragment.{frag, free_names}
 use Rattle.monitorable.specs.Negation.{HasConstantsOf, Negates, SettlesWith}
-use Rattle.monitorable.specs.NormalForm.{negative}
-use Rattle.monitorable.specs.Renaming.{apart_form, binders}
+use Rattle.monitorable.specs.Renaming.{apart_form}
 use Rattle.monitorable.specs.SatisfyingRows.{HasViolationsOf}
 use Rattle.monitorable.specs.declared.fault.FragmentFault.{FragmentFault}
 use Rattle.monitorable.specs.declared.policy_core.Core.{Core}
@@ -24,56 +24,26 @@ core_apart-requires c =
           (accepted (free_names policy.vars) (policy_form policy) c.in_ok-negation.ensures.judged),
     )
 
--- what holds of the core of a formula holds of a core that is made of its negation
-carried : (P : CoreForm → Type 0) (f : Form) (g : CoreForm) (result : Result Core FragmentFault)
-    → P (core_of f) → g ≡ negative f → IfOk result (λ core. core_form core ≡ apart_form g)
-    → IfOk result (λ core. P (core_form core))
-carried P f g (Ok core) holds is made = subst P (sym (made ∙ ap apart_form is)) holds
-carried P f g (Err fault) holds is made = tt
+-- what holds of a tree holds of the core that was made of it
+carried : (P : CoreForm → Type 0) (f : CoreForm) (result : Result Core FragmentFault) → P f
+    → IfOk result (λ core. core_form core ≡ f) → IfOk result (λ core. P (core_form core))
+carried P f result holds made = IfOk-weaker result _ _ (λ core e. subst P (sym e) holds) made
 
-pub returns-clause-negates : goal.returns-clause-negates
-returns-clause-negates c =
+pub returns : goal.returns
+returns c =
     let f : Form = policy_form c.args.policy.now in
-    carried (λ g. Negates g f) f _ c.core_apart.result (negates f)
-    c.in_ok-negation.ensures.negation c.core_apart.ensures.core
-
-pub returns-clause-settles : goal.returns-clause-settles
-returns-clause-settles c =
-    let f : Form = policy_form c.args.policy.now in
-    carried (λ g. SettlesWith g f) f _ c.core_apart.result (settles f)
-    c.in_ok-negation.ensures.negation c.core_apart.ensures.core
-
-pub returns-clause-variables : goal.returns-clause-variables
-returns-clause-variables c =
-    let f : Form = policy_form c.args.policy.now in
-    carried (λ g. fv (meaning g) ≡ fv f) f _ c.core_apart.result (same_variables f)
-    c.in_ok-negation.ensures.negation c.core_apart.ensures.core
-
-pub returns-clause-constants : goal.returns-clause-constants
-returns-clause-constants c =
-    let f : Form = policy_form c.args.policy.now in
-    carried (λ g. HasConstantsOf g f) f _ c.core_apart.result (same_constants f)
-    c.in_ok-negation.ensures.negation c.core_apart.ensures.core
-
-pub returns-clause-violations : goal.returns-clause-violations
-returns-clause-violations c =
-    let f : Form = policy_form c.args.policy.now in
-    carried (λ g. HasViolationsOf g f) f _ c.core_apart.result
-    (violations_satisfy f (core_of f) (negates f) (same_variables f) (same_constants f))
-    c.in_ok-negation.ensures.negation c.core_apart.ensures.core
-
--- a core's facts are its own
-pub returns-clause-fits : goal.returns-clause-fits
-returns-clause-fits c = its_own c.core_apart.result
-  where
-    its_own : (result : Result Core FragmentFault) → IfOk result (λ core. IsMonitorable (core_form core))
-    its_own (Ok core) = core.in_fragment
-    its_own (Err fault) = tt
-
-pub returns-clause-apart : goal.returns-clause-apart
-returns-clause-apart c = its_own c.core_apart.result
-  where
-    its_own : (result : Result Core FragmentFault)
-        → IfOk result (λ core. IsTrue (all_apart (fv (meaning (core_form core)) ++ binders (core_form core))))
-    its_own (Ok core) = core.is_apart
-    its_own (Err fault) = tt
+    let made : IfOk c.core_apart.result (λ core. core_form core ≡ core_of f) =
+    subst (λ g. IfOk c.core_apart.result (λ core. core_form core ≡ apart_form g)) c.in_ok-negation.ensures.negation
+    c.core_apart.ensures.core in
+    record {
+      judged = first_of (search rules, grind (arith, common_steps));
+      core = made;
+      negates = carried (λ g. Negates g f) (core_of f) _ (negates f) made;
+      settles = carried (λ g. SettlesWith g f) (core_of f) _ (settles f) made;
+      fits = IfOk-weaker _ _ _ (λ (core : Core) (e : core_form core ≡ core_of f). core.in_fragment) made;
+      variables = carried (λ g. fv (meaning g) ≡ fv f) (core_of f) _ (same_variables f) made;
+      constants = carried (λ g. HasConstantsOf g f) (core_of f) _ (same_constants f) made;
+      apart = IfOk-weaker _ _ _ (λ (core : Core) (e : core_form core ≡ core_of f). core.is_apart) made;
+      violations = carried (λ g. HasViolationsOf g f) (core_of f) _
+          (violations_satisfy f (core_of f) (negates f) (same_variables f) (same_constants f)) made;
+    }
