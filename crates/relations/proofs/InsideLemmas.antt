@@ -1,17 +1,17 @@
 -- The join with a table that has no columns of its own is the rows of the first of which the second has a part.
 use Rattle.std.proofs.Common.{◌≡◌, ℕ, Bool, true, not, ◌&&◌, ◌||◌, nat_eq, List, [], ◌∷◌, ◌++◌, map}
-use Rattle.std.proofs.Common.{length, refl, sym, ap, ap₂, ◌∙◌}
-use Rattle.std.proofs.lemmas.Bool.{and_parts, cond-true, cond-false, eqb-true}
+use Rattle.std.proofs.Common.{length, refl, sym, ap, ◌∙◌, arith}
+use Rattle.std.proofs.lemmas.Bool.{and_parts, eqb-true}
+use Rattle.std.proofs.lemmas.Grind.{common_steps}
 use Rattle.std.proofs.lemmas.List.{append-nil}
 use Rattle.std.proofs.lemmas.List.Kept.{IsStrictlySortedBy-filter}
 use Rattle.std.proofs.lemmas.Map.Lookups.{btree_set_from_contains}
-use Rattle.std.proofs.Math.Bool.{and-or_distrib_right}
 use Rattle.std.specs.BTreeSet.{BTreeSet}
 use Rattle.std.specs.List.{list_any, list_all, filter}
 use Rattle.std.specs.Ordering.{eq_by_cmp}
 use Rattle.mfotl_model.proofs.RowLemmas.{row_exact}
 use Rattle.mfotl_model.proofs.ColumnLemmas.{row_kept}
-use Rattle.mfotl_model.proofs.LogicLemmas.{any_filter}
+use Rattle.mfotl_model.proofs.LogicLemmas.{any_alike, any_filter}
 use Rattle.mfotl_model.specs.FreeVariables.{among, joined}
 use Rattle.mfotl_model.specs.Tables.{TableOf, all_among, all_apart, all_sized, has_row, part, valuation}
 use Rattle.mfotl_model.specs.Values.{row_cmp, row_total}
@@ -23,16 +23,11 @@ use Rattle.relations.proofs.PairLemmas.{agree_is, all_has, makes}
 
 all_kept : (p : ℕ → Bool) (ys : List ℕ) → list_all p ys ≡ true → filter p ys ≡ ys
 all_kept p [] all = refl
-all_kept p (y ∷ ys) all =
-    let parts = and_parts (p y) (list_all p ys) all in
-    cond-true (p y) (y ∷ filter p ys) (filter p ys) parts.0 ∙ ap (λ r. y ∷ r) (all_kept p ys parts.1)
+all_kept p (y ∷ ys) all = grind (arith, common_steps, all_kept p ys)
 
 none_kept : (p : ℕ → Bool) (ys : List ℕ) → list_all p ys ≡ true → filter (λ y. not (p y)) ys ≡ []
 none_kept p [] all = refl
-none_kept p (y ∷ ys) all =
-    let parts = and_parts (p y) (list_all p ys) all in
-    cond-false (not (p y)) (y ∷ filter (λ z. not (p z)) ys) (filter (λ z. not (p z)) ys) (ap not parts.0)
-    ∙ none_kept p ys parts.1
+none_kept p (y ∷ ys) all = grind (arith, common_steps, none_kept p ys)
 
 pub joined_within : (ca cb : List ℕ) → all_among cb ca ≡ true → joined ca cb ≡ ca
 joined_within ca cb inside = ap (λ k. ca ++ k) (none_kept (λ y. among y ca) cb inside) ∙ append-nil ca
@@ -55,24 +50,17 @@ module _ (ca cb : List ℕ) (q ra : List Value) (apart : all_apart cb ≡ true) 
   unfolding makes
   any_makes [] sized = refl
   any_makes (rb ∷ bs) sized =
-      let parts = and_parts (nat_eq (length rb) (length cb)) (all_sized (length cb) bs) sized in
-      ap₂ (λ a b. a || b)
-      (ap₂ (λ a r. a && eq_by_cmp row_cmp q r) (agrees rb (eqb-true (length rb) (length cb) parts.0)) (alone rb))
-      (any_makes bs parts.1)
-      ∙ sym (and-or_distrib_right (eq_by_cmp row_cmp (part ca cb ra) rb) (has_row bs (part ca cb ra))
-      (eq_by_cmp row_cmp q ra))
+      let size = eqb-true (length rb) (length cb) (and_parts (nat_eq (length rb) (length cb)) _ sized).0 in
+      grind (arith, common_steps, agrees rb size, alone rb, any_makes bs)
 
 has_matched : (ca cb : List ℕ) (q : List Value) (rows bs : List (List Value)) → all_apart cb ≡ true
     → all_sized (length cb) bs ≡ true → all_among cb ca ≡ true
     → has_row (filter (λ row. has_row bs (part ca cb row)) rows) q ≡ has_row (pairs ca cb rows bs) q
 has_matched ca cb q rows bs apart sized inside =
     any_filter (eq_by_cmp row_cmp q) (λ row. has_row bs (part ca cb row)) rows
-    ∙ sym (each rows) ∙ sym (all_has ca cb q rows bs)
-  where
-    each : (rows : List (List Value)) → list_any (λ ra. list_any (makes ca cb q ra) bs) rows
-        ≡ list_any (λ row. has_row bs (part ca cb row) && eq_by_cmp row_cmp q row) rows
-    each [] = refl
-    each (ra ∷ rows) = ap₂ (λ a b. a || b) (any_makes ca cb q ra apart inside bs sized) (each rows)
+    ∙ any_alike (λ row. has_row bs (part ca cb row) && eq_by_cmp row_cmp q row)
+    (λ row. list_any (makes ca cb q row) bs) rows (λ row. sym (any_makes ca cb q row apart inside bs sized))
+    ∙ sym (all_has ca cb q rows bs)
 
 -- the rows that stay are those of the join
 pub matched_is : (a b : TableOf) → IsTable a.columns a.rows → IsTable b.columns b.rows

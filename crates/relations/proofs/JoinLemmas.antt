@@ -1,8 +1,10 @@
 -- The join of two tables by all pairs of rows, spoken of by valuations.
 use Rattle.std.proofs.Common.{◌≡◌, ℕ, Bool, true, false, not, ◌&&◌, ◌||◌, nat_eq, List, [], ◌∷◌, ◌++◌}
-use Rattle.std.proofs.Common.{length, map, refl, sym, ap, ap₂, ◌∙◌, inl, inr, arith}
-use Rattle.std.proofs.lemmas.Bool.{and_parts, and_from, or_cases, or_left, or_right}
+use Rattle.std.proofs.Common.{length, map, take, drop, refl, sym, ap, ap₂, ◌∙◌, arith}
+use Rattle.std.proofs.lemmas.Bool.{and_parts, and_from, or_left, or_right}
 use Rattle.std.proofs.lemmas.Bool.{eqb-true}
+use Rattle.std.proofs.lemmas.Grind.{common_steps}
+use Rattle.std.proofs.Math.Seq.{take-append_seam, drop-append_seam}
 use Rattle.std.proofs.lemmas.Cmp.{tied_itself}
 use Rattle.std.proofs.lemmas.List.{map-append, length-map}
 use Rattle.std.proofs.lemmas.List.Folds.{list_any-append}
@@ -29,40 +31,28 @@ all_members p (x ∷ ys) h =
 
 pub member_of_all : (p : ℕ → Bool) (ys : List ℕ) (y : ℕ) → list_all p ys ≡ true → among y ys ≡ true → p y ≡ true
 member_of_all p [] y h m = cc
-member_of_all p (x ∷ ys) y h m =
-    let parts = and_parts (p x) (list_all p ys) h in
-    elim (or_cases (nat_eq y x) (among y ys) m) [
-      | inl here ↦ ap p (eqb-true y x here) ∙ parts.0
-      | inr there ↦ member_of_all p ys y parts.1 there
-    ]
+member_of_all p (x ∷ ys) y h m = grind (arith, common_steps, member_of_all p ys y)
 
 pub same_each : (v w : Valuation) (ys : List ℕ) → map v ys ≡ map w ys → (y : ℕ) → among y ys ≡ true → v y ≡ w y
 same_each v w [] e y m = cc
 same_each v w (x ∷ ys) e y m =
-    elim (or_cases (nat_eq y x) (among y ys) m) [
-      | inl here ↦ let at : y ≡ x = eqb-true y x here in ap v at ∙ (let h : v x ≡ w x = cc in h) ∙ sym (ap w at)
-      | inr there ↦ same_each v w ys (let t : map v ys ≡ map w ys = cc in t) y there
-    ]
+    let first : v x ≡ w x = cc in
+    let rest : map v ys ≡ map w ys = cc in
+    grind (arith, common_steps, same_each v w ys rest y)
 
 pub front_same : (xs ys us ws : List Value) → length xs ≡ length ys → xs ++ us ≡ ys ++ ws → (xs ≡ ys) × (us ≡ ws)
-front_same [] [] us ws size e = (refl, e)
-front_same [] (y ∷ ys) us ws size e = absurd (omega arith)
-front_same (x ∷ xs) [] us ws size e = absurd (omega arith)
-front_same (x ∷ xs) (y ∷ ys) us ws size e =
-    let more = front_same xs ys us ws (omega arith) (let t : xs ++ us ≡ ys ++ ws = cc in t) in
-    ((let h : x ≡ y = cc in ap₂ (λ a r. a ∷ r) h more.0), more.1)
+front_same xs ys us ws size e = (
+  sym (take-append_seam xs us) ∙ (λ i. take (size i) (e i)) ∙ take-append_seam ys ws,
+  sym (drop-append_seam xs us) ∙ (λ i. drop (size i) (e i)) ∙ drop-append_seam ys ws,
+)
 
 pub row_itself : (r : List Value) → eq_by_cmp row_cmp r r ≡ true
 row_itself r = ap is_eq (tied_itself row_total r)
 
-pub among_others : (ca cb : List ℕ) (y : ℕ) → among y ca ≡ false → among y cb ≡ true → among y (others ca cb) ≡ true
-among_others ca cb y out m =
-    any-filter_same (nat_eq y) (λ z. not (among z ca)) true
-    (λ z e. ap (λ w. not (among w ca)) (sym (eqb-true y z e)) ∙ ap not out) cb
-    ∙ m
-
-pub kept_among : (y : ℕ) (ca cb : List ℕ) → among y (others ca cb) ≡ true → among y cb ≡ true
-kept_among y ca cb m = filtered_found (λ z. not (among z ca)) (nat_eq y) cb m
+pub among_others : (ca cb : List ℕ) (y : ℕ) → among y (others ca cb) ≡ (not (among y ca) && among y cb)
+among_others ca cb y =
+    any-filter_same (nat_eq y) (λ z. not (among z ca)) (not (among y ca))
+    (λ z e. ap (λ w. not (among w ca)) (sym (eqb-true y z e))) cb
 
 module _ (v : Valuation) (ca cb : List ℕ) (apart : all_apart cb ≡ true) where
   -- two rows that agree make the row of v exactly where both are v's
@@ -99,7 +89,7 @@ module _ (v : Valuation) (ca cb : List ℕ) (apart : all_apart cb ≡ true) wher
       (λ y m. both y (among y ca) refl (read y m) first))
       (let same : combined ca cb ra rb ≡ map v (joined ca cb) =
       ap₂ (λ x y. x ++ y) (sym first) (same_columns (valuation cb rb) v (others ca cb)
-      (λ y m. read y (inside y m))) ∙ sym split in
+      (λ y m. read y (filtered_found (λ z. not (among z ca)) (nat_eq y) cb m))) ∙ sym split in
       ap (eq_by_cmp row_cmp (map v (joined ca cb))) same ∙ row_itself (map v (joined ca cb))))
     where
       one : (y : ℕ) → among y cb ≡ true → (b : Bool) → among y ca ≡ b
@@ -109,7 +99,8 @@ module _ (v : Valuation) (ca cb : List ℕ) (apart : all_apart cb ≡ true) wher
           sym (ap (λ r. valuation ca r y) (sym first) ∙ read_own v ca y e)
           ∙ tells_apart value_exact (valuation ca ra y) (valuation cb rb y)
           (sym (ap (λ b. not b || eq_by_cmp value_cmp (valuation ca ra y) (valuation cb rb y)) e) ∙ h)
-      one y m false e h first rest = same_each v (valuation cb rb) (others ca cb) rest y (among_others ca cb y e m)
+      one y m false e h first rest = same_each v (valuation cb rb) (others ca cb) rest y
+          (among_others ca cb y ∙ grind (arith, common_steps))
 
       both : (y : ℕ) (b : Bool) → among y ca ≡ b → valuation cb rb y ≡ v y → map v ca ≡ ra
           → (not (among y ca) || eq_by_cmp value_cmp (valuation ca ra y) (valuation cb rb y)) ≡ true
@@ -119,9 +110,6 @@ module _ (v : Valuation) (ca cb : List ℕ) (apart : all_apart cb ≡ true) wher
           ∙ value_itself (v y))
       both y false e read first =
           or_left (not (among y ca)) (eq_by_cmp value_cmp (valuation ca ra y) (valuation cb rb y)) (ap not e)
-
-      inside : (y : ℕ) → among y (others ca cb) ≡ true → among y cb ≡ true
-      inside y m = kept_among y ca cb m
 
   one_row : (ra : List Value) (bs : List (List Value)) → length ra ≡ length ca → all_sized (length cb) bs ≡ true
       → list_any (λ rb. agree ca cb ra rb && eq_by_cmp row_cmp (map v (joined ca cb)) (combined ca cb ra rb)) bs

@@ -1,11 +1,10 @@
 -- What is kept for rows that differ: by look-ups, and one after another.
 use Rattle.std.proofs.Common.{◌≡◌, ◌<◌, Bool, true, false, cond, nat_eq, ◌&&◌, ◌||◌, List, [], ◌∷◌, length, Option}
 use Rattle.std.proofs.Common.{Some, None, refl, sym, ap, ◌∙◌, arith}
-use Rattle.std.proofs.lemmas.Bool.{eqb-true}
+use Rattle.std.proofs.lemmas.Grind.{common_steps}
 use Rattle.std.proofs.lemmas.Map.{lookup-none}
 use Rattle.std.proofs.lemmas.Map.Entries.{none_past_head}
 use Rattle.std.proofs.lemmas.Map.Keys.{sorted_tail, IsDistinct-from_sorted, IsDistinct-tail}
-use Rattle.std.proofs.Math.Bool.{or-false}
 use Rattle.std.specs.BTreeMap.{is_at}
 use Rattle.std.specs.Cmp.{eq_by_cmp_equiv}
 use Rattle.std.specs.List.{AllByRecursion, list_any}
@@ -19,12 +18,10 @@ use Rattle.relations.specs.KeptRows.{RowsAscend, RowsDiffer, filled, first_fille
 
 -- a list with something, and one with nothing
 pub not_empty : {X : Type 0} (xs : List X) → nat_eq (length xs) 0 ≡ false → 0 < length xs
-not_empty [] e = absurd (let w : true ≡ false = e in cc)
-not_empty (x ∷ xs) e = omega arith
+not_empty xs e = grind (arith, common_steps)
 
 pub empty_list : {X : Type 0} (xs : List X) → nat_eq (length xs) 0 ≡ true → [] ≡ xs
-empty_list [] e = refl
-empty_list (x ∷ xs) e = absurd (let w : length (x ∷ xs) ≡ 0 = eqb-true (length (x ∷ xs)) 0 e in omega arith)
+empty_list xs e = grind (arith, common_steps)
 
 -- rows that ascend differ
 pub ascending_differ : {X : Type 0} (es : List (List Value × X)) → RowsAscend es → RowsDiffer es
@@ -43,16 +40,8 @@ none_behind u e es apart at =
 pub any_is : {X : Type 0} (p : List X → Bool) → p [] ≡ false → (u : List Value) (es : List (List Value × List X))
     → RowsDiffer es → list_any (λ e. eq_by_cmp row_cmp u e.0 && p e.1) es ≡ p (list_for es u)
 any_is p none u [] apart = sym none
-any_is {X} p none u (e ∷ es) apart = by (is_at (row_cmp u) e.0) refl (any_is p none u es (differ_tail e es apart))
-  where
-    by : (b : Bool) → is_at (row_cmp u) e.0 ≡ b
-        → list_any (λ f. eq_by_cmp row_cmp u f.0 && p f.1) es ≡ p (list_for es u)
-        → ((b && p e.1) || list_any (λ f. eq_by_cmp row_cmp u f.0 && p f.1) es)
-        ≡ p (unwrap_or (cond b (Some e.1) (kept_for es u)) [])
-    by true at rest =
-        ap (λ r. p e.1 || r) (rest ∙ ap (λ o. p (unwrap_or o [])) (none_behind u e es apart at) ∙ none)
-        ∙ or-false (p e.1)
-    by false at rest = rest
+any_is p none u (e ∷ es) apart =
+    grind (arith, common_steps, none_behind u e es apart, any_is p none u es (differ_tail e es apart))
 
 -- what holds of all that is kept still does after a change at one row
 pub each_after : {X : Type 0} (P : X → Type 0) (row : List Value) (old new : List (List Value × X)) (w : Option X)
@@ -66,53 +55,37 @@ each_after {X} P row old new w changes here before v =
 pub each_kept : {X : Type 0} (Q : List Value → X → Type 0) (es : List (List Value × X)) → RowsAscend es
     → ((u : List Value) (x : X) → kept_for es u ≡ Some x → Q u x) → AllByRecursion (λ e. Q e.0 e.1) es
 each_kept Q [] up found = tt
-each_kept {X} Q (e ∷ es) up found = (
+each_kept Q (e ∷ es) up found = (
   found e.0 e.1 (ap (λ b. cond b (Some e.1) (kept_for es e.0)) ((eq_by_cmp_equiv row_total).refl e.0)),
-  each_kept Q es (sorted_tail row_cmp e.0 (keys_of es) up) (λ u x is. found u x
-      (behind u x (is_at (row_cmp u) e.0) refl is)),
+  each_kept Q es (sorted_tail row_cmp e.0 (keys_of es) up)
+      (λ u x is. found u x (grind (arith, common_steps, none_behind u e es (ascending_differ (e ∷ es) up)))),
 )
-  where
-    behind : (u : List Value) (x : X) (b : Bool) → is_at (row_cmp u) e.0 ≡ b → kept_for es u ≡ Some x
-        → cond b (Some e.1) (kept_for es u) ≡ Some x
-    behind u x true at is = absurd (
-        let none : kept_for es u ≡ None = none_behind u e es (ascending_differ (e ∷ es) up) at in
-        let w : None ≡ Some x = sym none ∙ is in
-        cc
-        )
-    behind u x false at is = is
 
 -- what holds of each row holds of all that look-ups find
 pub found_kept : {X : Type 0} (P : X → Type 0) (es : List (List Value × X)) → AllByRecursion (λ e. P e.1) es
     → (u : List Value) → IfSome (kept_for es u) P
 found_kept P [] all u = tt
-found_kept {X} P (e ∷ es) all u = by (is_at (row_cmp u) e.0) (found_kept P es all.1 u)
-  where
-    by : (b : Bool) → IfSome (kept_for es u) P → IfSome (cond b (Some e.1) (kept_for es u)) P
-    by true rest = all.0
-    by false rest = rest
+found_kept P (e ∷ es) all u =
+    either (λ o. IfSome o P) (is_at (row_cmp u) e.0) (Some e.1) (kept_for es u) (kept_for (e ∷ es) u) refl all.0
+    (found_kept P es all.1 u)
 
 pub or_none : {X : Type 0} (o : Option X) → option_or o None ≡ o
-or_none None = refl
-or_none (Some x) = refl
+or_none o = grind (arith, common_steps)
 
 -- the first list of a row is its only one
 pub first_is_only : {X : Type 0} (es : List (List Value × List X)) → RowsDiffer es → (u : List Value)
     → first_filled es u ≡ filled (list_for es u)
 first_is_only [] apart u = refl
-first_is_only {X} (e ∷ es) apart u =
-    by (is_at (row_cmp u) e.0) refl (first_is_only es (differ_tail e es apart) u)
-  where
-    by : (b : Bool) → is_at (row_cmp u) e.0 ≡ b → first_filled es u ≡ filled (list_for es u)
-        → option_or (cond b (filled e.1) None) (first_filled es u)
-        ≡ filled (unwrap_or (cond b (Some e.1) (kept_for es u)) [])
-    by true at rest =
-        ap (option_or (filled e.1)) (rest ∙ ap (λ o. filled (unwrap_or o [])) (none_behind u e es apart at))
-        ∙ or_none (filled e.1)
-    by false at rest = rest
+first_is_only (e ∷ es) apart u = grind (
+  arith,
+  common_steps,
+  none_behind u e es apart,
+  first_is_only es (differ_tail e es apart) u,
+  or_none (filled e.1),
+)
 
 pub filled_none : {X : Type 0} (xs : List X) → nat_eq (length xs) 0 ≡ true → filled xs ≡ None
-filled_none [] e = refl
-filled_none (x ∷ xs) e = absurd (let w : length (x ∷ xs) ≡ 0 = eqb-true (length (x ∷ xs)) 0 e in omega arith)
+filled_none xs e = sym (ap filled (empty_list xs e))
 
 pub filled_some : {X : Type 0} (xs : List X) → nat_eq (length xs) 0 ≡ false → filled xs ≡ Some xs
 filled_some [] e = absurd (let w : true ≡ false = e in cc)
@@ -120,43 +93,26 @@ filled_some (x ∷ xs) e = refl
 
 -- without a list there is nothing more
 pub none_more : {X : Type 0} (o p : Option X) (b : Bool) → p ≡ None → o ≡ option_or o (cond b p None)
-none_more {X} o p b none = sym (ap (λ r. option_or o (cond b r None)) none ∙ by b)
-  where
-    by : (b : Bool) → option_or o (cond b None None) ≡ o
-    by true = or_none o
-    by false = or_none o
+none_more o p b none = grind (arith, common_steps, or_none o)
 
 -- what is kept for a row stays
 pub there_already : {X : Type 0} (row u : List Value) (es : List (List Value × X)) (p : Option X)
     → is_some (kept_for es row) ≡ true
     → kept_for es u ≡ option_or (kept_for es u) (cond (is_at (row_cmp u) row) p None)
-there_already {X} row u es p there = by (is_at (row_cmp u) row) refl
-  where
-    stays : (o : Option X) → is_some o ≡ true → o ≡ option_or o p
-    stays None w = absurd (let f : false ≡ true = w in cc)
-    stays (Some x) w = refl
-
-    by : (b : Bool) → is_at (row_cmp u) row ≡ b → kept_for es u ≡ option_or (kept_for es u) (cond b p None)
-    by true at = stays (kept_for es u) (ap (λ r. is_some (kept_for es r)) (same_row u row at) ∙ there)
-    by false at = sym (or_none (kept_for es u))
+there_already row u es p there = grind (arith, common_steps, same_row u row, or_none (kept_for es u))
 
 -- one row more
 pub one_poured : {X : Type 0} (row u : List Value) (es new : List (List Value × X)) (x : X) (p : Option X)
     → is_some (kept_for es row) ≡ false → p ≡ Some x
     → kept_for new u ≡ cond (is_at (row_cmp row) u) (Some x) (kept_for es u)
     → kept_for new u ≡ option_or (kept_for es u) (cond (is_at (row_cmp u) row) p None)
-one_poured {X} row u es new x p none is step = step
-    ∙ ap (λ b. cond b (Some x) (kept_for es u)) ((eq_by_cmp_equiv row_total).symm row u)
-    ∙ by (is_at (row_cmp u) row) refl
-  where
-    absent : (o : Option X) → is_some o ≡ false → Some x ≡ option_or o p
-    absent None w = sym is
-    absent (Some y) w = absurd (let f : true ≡ false = w in cc)
-
-    by : (b : Bool) → is_at (row_cmp u) row ≡ b
-        → cond b (Some x) (kept_for es u) ≡ option_or (kept_for es u) (cond b p None)
-    by true at = absent (kept_for es u) (ap (λ r. is_some (kept_for es r)) (same_row u row at) ∙ none)
-    by false at = sym (or_none (kept_for es u))
+one_poured row u es new x p none is step = grind (
+  arith,
+  common_steps,
+  (eq_by_cmp_equiv row_total).symm row u,
+  same_row u row,
+  or_none (kept_for es u),
+)
 
 pub filled_back : {X : Type 0} (xs : List X) → unwrap_or (filled xs) [] ≡ xs
 filled_back [] = refl
@@ -171,12 +127,10 @@ filled_is (x ∷ xs) ys e = (let same : x ∷ xs ≡ ys = cc in same, omega arit
 pub last_is : {X : Type 0} (es : List (List Value × X)) → RowsDiffer es → (u : List Value) (o : Option X)
     → last_for es u o ≡ option_or (kept_for es u) o
 last_is [] apart u o = refl
-last_is {X} (e ∷ es) apart u o =
-    last_is es (differ_tail e es apart) u (cond (is_at (row_cmp e.0) u) (Some e.1) o)
-    ∙ ap (λ b. option_or (kept_for es u) (cond b (Some e.1) o)) ((eq_by_cmp_equiv row_total).symm e.0 u)
-    ∙ by (is_at (row_cmp u) e.0) refl
-  where
-    by : (b : Bool) → is_at (row_cmp u) e.0 ≡ b
-        → option_or (kept_for es u) (cond b (Some e.1) o) ≡ option_or (cond b (Some e.1) (kept_for es u)) o
-    by true at = ap (λ p. option_or p (Some e.1)) (none_behind u e es apart at)
-    by false at = refl
+last_is (e ∷ es) apart u o = grind (
+  arith,
+  common_steps,
+  none_behind u e es apart,
+  (eq_by_cmp_equiv row_total).symm e.0 u,
+  last_is es (differ_tail e es apart) u (cond (is_at (row_cmp e.0) u) (Some e.1) o),
+)

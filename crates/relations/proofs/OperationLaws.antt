@@ -1,10 +1,10 @@
 -- What the lists of the operations are to valuations, and that they make tables.
-use Rattle.std.proofs.Common.{subst, ◌≡◌, ◌↔◌, ℕ, ◌+◌, Bool, true, false, not, ◌&&◌, ◌||◌, cond, nat_eq, List, []}
-use Rattle.std.proofs.Common.{◌∷◌, ◌++◌, length, map, Result, Ok, Err, OnOk, OnErr, refl, sym, ap, ap₂, ◌∙◌, inl}
-use Rattle.std.proofs.Common.{inr}
-use Rattle.std.proofs.lemmas.Bool.{and_parts, and_from, or_cases, or_left, or_right, eqb-true, eq-eqb}
-use Rattle.std.proofs.lemmas.List.{length-append, length-map}
-use Rattle.std.proofs.lemmas.List.Folds.{list_any-append, list_all-append}
+use Rattle.std.proofs.Common.{subst, ◌≡◌, ◌↔◌, ℕ, ◌+◌, Bool, true, not, ◌&&◌, ◌||◌, cond, nat_eq, List, []}
+use Rattle.std.proofs.Common.{◌∷◌, ◌++◌, length, map, Result, Ok, Err, OnOk, OnErr, refl, sym, ap, ap₂, ◌∙◌, arith}
+use Rattle.std.proofs.lemmas.Bool.{and_parts, eqb-true}
+use Rattle.std.proofs.lemmas.Grind.{common_steps}
+use Rattle.std.proofs.lemmas.List.{length-map}
+use Rattle.std.proofs.lemmas.List.Folds.{list_all-append, Any-from_list_any, list_any-from_Any}
 use Rattle.std.proofs.lemmas.List.Kept.{IsStrictlySortedBy-filter}
 use Rattle.std.proofs.lemmas.Map.Lookups.{btree_set_from_contains}
 use Rattle.std.proofs.lemmas.Map.Views.{any-filter_same, tells_apart}
@@ -31,6 +31,7 @@ use Rattle.relations.specs.Operations.{pairs_of, unmatched_rows}
 use Rattle.relations.specs.Tables.{IsTable}
 use Rattle.relations.proofs.AscendingRows.{has_ascending, sized_ascending, sized_inserted}
 use Rattle.relations.proofs.JoinLemmas.{join_has, member_of_all, same_each, row_itself}
+use Rattle.relations.proofs.TableRows.{lacks_other}
 
 -- rows of as many values as columns
 
@@ -43,13 +44,7 @@ sized_combined : (ca cb : List ℕ) (ra : List Value) → length ra ≡ length c
 unfolding combined
 sized_combined ca cb ra size [] = refl
 sized_combined ca cb ra size (z ∷ zs) =
-    and_from (nat_eq (length (ra ++ part cb (others ca cb) z)) (length (joined ca cb)))
-    (all_sized (length (joined ca cb)) (map (combined ca cb ra) zs))
-    (eq-eqb (length (ra ++ part cb (others ca cb) z)) (length (joined ca cb))
-    (length-append ra (part cb (others ca cb) z)
-    ∙ ap₂ (λ a b. a + b) size (part_size cb (others ca cb) z)
-    ∙ sym (length-append ca (others ca cb))))
-    (sized_combined ca cb ra size zs)
+    grind (arith, common_steps, size, part_size cb (others ca cb) z, sized_combined ca cb ra size zs)
 
 pub sized_pairs : (ca cb : List ℕ) (as_ bs : List (List Value)) → all_sized (length ca) as_ ≡ true
     → all_sized (length (joined ca cb)) (pairs ca cb as_ bs) ≡ true
@@ -57,44 +52,28 @@ unfolding pairs pairs_of
 sized_pairs ca cb [] bs sized = refl
 sized_pairs ca cb (ra ∷ as_) bs sized =
     let parts = and_parts (nat_eq (length ra) (length ca)) (all_sized (length ca) as_) sized in
-    list_all-append (λ row. nat_eq (length row) (length (joined ca cb)))
-    (map (combined ca cb ra) (filter (agree ca cb ra) bs)) (pairs ca cb as_ bs)
-    ∙ and_from (all_sized (length (joined ca cb)) (map (combined ca cb ra) (filter (agree ca cb ra) bs)))
-    (all_sized (length (joined ca cb)) (pairs ca cb as_ bs))
-    (sized_combined ca cb ra (eqb-true (length ra) (length ca) parts.0) (filter (agree ca cb ra) bs))
-    (sized_pairs ca cb as_ bs parts.1)
+    let here = sized_combined ca cb ra (eqb-true (length ra) (length ca) parts.0) (filter (agree ca cb ra) bs) in
+    grind (arith, common_steps, list_all-append, here, sized_pairs ca cb as_ bs parts.1)
 
 pub sized_parts : (columns wanted : List ℕ) (rows : List (List Value))
     → all_sized (length wanted) (map (part columns wanted) rows) ≡ true
 sized_parts columns wanted [] = refl
 sized_parts columns wanted (row ∷ rows) =
-    and_from (nat_eq (length (part columns wanted row)) (length wanted))
-    (all_sized (length wanted) (map (part columns wanted) rows))
-    (eq-eqb (length (part columns wanted row)) (length wanted) (part_size columns wanted row))
-    (sized_parts columns wanted rows)
+    grind (arith, common_steps, part_size columns wanted row, sized_parts columns wanted rows)
 
 pub sized_filtered : (n : ℕ) (p : List Value → Bool) (rows : List (List Value)) → all_sized n rows ≡ true
     → all_sized n (filter p rows) ≡ true
 sized_filtered n p [] sized = refl
-sized_filtered n p (row ∷ rows) sized =
-    let parts = and_parts (nat_eq (length row) n) (all_sized n rows) sized in
-    by (sized_filtered n p rows parts.1) parts.0 (p row)
-  where
-    by : all_sized n (filter p rows) ≡ true → nat_eq (length row) n ≡ true → (b : Bool)
-        → all_sized n (cond b (row ∷ filter p rows) (filter p rows)) ≡ true
-    by more size true = and_from (nat_eq (length row) n) (all_sized n (filter p rows)) size more
-    by more size false = more
+sized_filtered n p (row ∷ rows) sized = grind (arith, common_steps, sized_filtered n p rows)
 
 -- some of a table's rows are a table
 pub some_is : (columns : List ℕ) (p : List Value → Bool) (rows : List (List Value)) → IsTable columns rows
     → IsTable columns (filter p rows)
-some_is columns p rows is =
-    record {
-      apart = is.apart;
-      sized = sized_filtered
-          (length columns) p rows is.sized;
-      sorted = IsStrictlySortedBy-filter row_cmp p rows is.sorted;
-    }
+some_is columns p rows is = record {
+  apart = is.apart;
+  sized = sized_filtered (length columns) p rows is.sized;
+  sorted = IsStrictlySortedBy-filter row_cmp p rows is.sorted;
+}
 
 -- valuations
 
@@ -112,69 +91,16 @@ part_of_own v columns wanted all =
     same_columns (valuation columns (map v columns)) v wanted
     (λ y m. read_own v columns y (member_of_all (λ z. among z columns) wanted y all m))
 
-pub has_antijoin : (v : Valuation) (ca cb : List ℕ) (as_ bs : List (List Value)) → all_among cb ca ≡ true
-    → has_row (filter (λ row. not (has_row bs (part ca cb row))) as_) (map v ca)
-    ≡ (has_row as_ (map v ca) && not (has_row bs (map v cb)))
-has_antijoin v ca cb as_ bs all =
-    filtered_has (map v ca) (λ row. not (has_row bs (part ca cb row))) as_
-    ∙ ap (λ row. has_row as_ (map v ca) && not (has_row bs row)) (part_of_own v ca cb all)
-
 term_of_own : (v : Valuation) (columns : List ℕ) (term : Term) → covers_term columns term ≡ true
     → term_value (valuation columns (map v columns)) term ≡ term_value v term
 term_of_own v columns (Var x) bound = read_own v columns x bound
 term_of_own v columns (Const a) bound = refl
 
-pub has_selected : (v : Valuation) (columns : List ℕ) (comparison : Comparison) (wanted : Bool)
-    (rows : List (List Value))
-    → covers_term columns comparison.left ≡ true → covers_term columns comparison.right ≡ true
-    → has_row (filter (λ row. chosen comparison wanted (valuation columns row)) rows) (map v columns)
-    ≡ (has_row rows (map v columns) && chosen comparison wanted v)
-unfolding chosen
-has_selected v columns comparison wanted rows left right =
-    filtered_has (map v columns) (λ row. chosen comparison wanted (valuation columns row)) rows
-    ∙ ap₂ (λ a b. has_row rows (map v columns) && beq wanted (compares comparison.sign a b))
-    (term_of_own v columns comparison.left left) (term_of_own v columns comparison.right right)
-
-pub has_union : (v : Valuation) (columns : List ℕ) (xs ys : List (List Value))
-    → has_row (xs ++ ys) (map v columns) ≡ (has_row xs (map v columns) || has_row ys (map v columns))
-has_union v columns xs ys = list_any-append (eq_by_cmp row_cmp (map v columns)) xs ys
-
 -- what holds of one of the rows holds of some
 pub any_at : (p : List Value → Bool) (rows : List (List Value)) (q : List Value) → has_row rows q ≡ true → p q ≡ true
     → list_any p rows ≡ true
 any_at p [] q m h = cc
-any_at p (row ∷ rows) q m h =
-    elim (or_cases (eq_by_cmp row_cmp q row) (has_row rows q) m) [
-      | inl here ↦ or_left (p row) (list_any p rows) (ap p (sym (tells_apart row_exact q row here)) ∙ h)
-      | inr there ↦ or_right (p row) (list_any p rows) (any_at p rows q there h)
-    ]
-
--- a row of the list that passes
-record Witness (p : List Value → Bool) (n : ℕ) (rows : List (List Value)) : Type 0 where
-  row : List Value
-  there : has_row rows row ≡ true
-  long : length row ≡ n
-  passes : p row ≡ true
-
-witness : (p : List Value → Bool) (n : ℕ) (rows : List (List Value)) → all_sized n rows ≡ true
-    → list_any p rows ≡ true → Witness p n rows
-witness p n [] sized h = cc
-witness p n (row ∷ rows) sized h =
-    let parts = and_parts (nat_eq (length row) n) (all_sized n rows) sized in
-    elim (or_cases (p row) (list_any p rows) h) [
-      | inl here ↦ record {
-        row = row;
-        there = or_left (eq_by_cmp row_cmp row row) (has_row rows row) (row_itself row);
-        long = eqb-true (length row) n parts.0;
-        passes = here;
-      }
-      | inr there ↦ let w = witness p n rows parts.1 there in record {
-        row = w.row;
-        there = or_right (eq_by_cmp row_cmp w.row row) (has_row rows w.row) w.there;
-        long = w.long;
-        passes = w.passes;
-      }
-    ]
+any_at p (row ∷ rows) q m h = grind (arith, common_steps, tells_apart row_exact q row, any_at p rows q)
 
 module _ (v : Valuation) (columns wanted : List ℕ) (rows : List (List Value)) (is : IsTable columns rows)
     (all : all_among wanted columns ≡ true) where
@@ -184,14 +110,15 @@ module _ (v : Valuation) (columns wanted : List ℕ) (rows : List (List Value)) 
   found h =
       let there : list_any (λ row. eq_by_cmp row_cmp (map v wanted) (part columns wanted row)) rows ≡ true =
       sym (any_map (eq_by_cmp row_cmp (map v wanted)) (part columns wanted) rows) ∙ h in
-      let it = witness (λ row. eq_by_cmp row_cmp (map v wanted) (part columns wanted row))
-      (length columns) rows is.sized there in
-      let same : map v wanted ≡ map (valuation columns it.row) wanted = tells_apart row_exact (map v wanted)
-      (part columns wanted it.row) it.passes in (
-        valuation columns it.row,
+      let it = Any-from_list_any (λ row. eq_by_cmp row_cmp (map v wanted) (part columns wanted row)) rows there in
+      let own = list_any-from_Any (eq_by_cmp row_cmp it.1) rows (it.0, it.1, it.2, it.3, row_itself it.1) in
+      let long : length it.1 ≡ length columns =
+      grind (arith, common_steps, own, lacks_other (length columns) rows it.1 is.sized) in
+      let same = tells_apart row_exact (map v wanted) (part columns wanted it.1) it.4 in (
+        valuation columns it.1,
         (
-          λ y m. same_each (valuation columns it.row) v wanted (sym same) y m,
-          ap (has_row rows) (row_kept columns it.row is.apart it.long) ∙ it.there,
+          same_each (valuation columns it.1) v wanted (sym same),
+          ap (has_row rows) (row_kept columns it.1 is.apart long) ∙ own,
         ),
       )
 
@@ -203,17 +130,15 @@ module _ (v : Valuation) (columns wanted : List ℕ) (rows : List (List Value)) 
       (ap (eq_by_cmp row_cmp (map v wanted)) (part_of_own w columns wanted all ∙ same_columns w v wanted same)
       ∙ row_itself (map v wanted))
 
-pub has_projected : (v : Valuation) (columns wanted : List ℕ) (rows : List (List Value)) → IsTable columns rows
-    → all_among wanted columns ≡ true
-    → has_row (map (part columns wanted) rows) (map v wanted) ≡ true
-    ↔ ((w : Valuation) × (((y : ℕ) → among y wanted ≡ true → w y ≡ v y) × (has_row rows (map w columns) ≡ true)))
-has_projected v columns wanted rows is all = (
-  found v columns wanted rows is all,
-  λ h.
-      back v columns wanted rows is all h.0 h.1.0 h.1.1,
-)
+  -- a table's rows have the wanted part exactly where one of them has it
+  pub has_projected : has_row (map (part columns wanted) rows) (map v wanted) ≡ true
+      ↔ ((w : Valuation) × (((y : ℕ) → among y wanted ≡ true → w y ≡ v y) × (has_row rows (map w columns) ≡ true)))
+  has_projected = (found, λ h. back h.0 h.1.0 h.1.1)
 
 -- one more row
+
+absorbed_by : (a b : Bool) → (a ≡ true → b ≡ true) → (a || b) ≡ b
+absorbed_by a b h = grind (arith, common_steps)
 
 pub inserted_again : (xs : List (List Value)) (y : List Value) → IsStrictlySortedBy row_cmp xs → has_row xs y ≡ true
     → insert_key row_cmp xs y ≡ xs
@@ -222,17 +147,9 @@ inserted_again xs y sorted there =
     let right : BTreeSet (List Value) = record { keys = xs } in
     btree_set_from_contains row_total left right (sorted_insert row_total row_exact xs y sorted) sorted
     (λ q. any_insert row_total row_exact (eq_by_cmp row_cmp q) xs y
-    ∙ absorbs (eq_by_cmp row_cmp q y) (has_row xs q) (λ e. ap (has_row xs) (tells_apart row_exact q y e) ∙ there))
+    ∙ absorbed_by (eq_by_cmp row_cmp q y) (has_row xs q)
+    (λ e. ap (has_row xs) (tells_apart row_exact q y e) ∙ there))
     row_exact
-  where
-    absorbs : (a b : Bool) → (a ≡ true → b ≡ true) → (a || b) ≡ b
-    absorbs true b h = sym (h refl)
-    absorbs false b h = refl
-
-pub some_of : (columns cs : List ℕ) (p : List Value → Bool) (rows rs : List (List Value)) → IsTable columns rows
-    → cs ≡ columns → rs ≡ filter p rows → IsTable cs rs
-some_of columns cs p rows rs is c r = subst (λ k. IsTable k rs) (sym c)
-    (subst (IsTable columns) (sym r) (some_is columns p rows is))
 
 pub inserted_is : (columns : List ℕ) (rows : List (List Value)) (row : List Value) → IsTable columns rows
     → length row ≡ length columns
@@ -240,9 +157,7 @@ pub inserted_is : (columns : List ℕ) (rows : List (List Value)) (row : List Va
 inserted_is columns rows row is size =
     record {
       apart = is.apart;
-      sized = sized_inserted (length columns) rows row
-          ∙ and_from (nat_eq (length row) (length columns)) (all_sized (length columns) rows)
-          (eq-eqb (length row) (length columns) size) is.sized;
+      sized = sized_inserted (length columns) rows row ∙ grind (arith, common_steps, is.sized);
       sorted = sorted_insert row_total row_exact rows row is.sorted;
     }
 
@@ -268,16 +183,32 @@ has_joined a b v apart first second =
     has_ascending (pairs a.columns b.columns a.rows b.rows) (map v (joined a.columns b.columns))
     ∙ join_has v a.columns b.columns apart a.rows b.rows first second
 
-pub has_unmatched : (a b : TableOf) (v : Valuation) → all_among b.columns a.columns ≡ true
-    → has_row (unmatched_rows a b) (map v a.columns) ≡ (has a v && not (has b v))
-unfolding has
-has_unmatched a b v inside = has_antijoin v a.columns b.columns a.rows b.rows inside
+pub joined_has : (t a b : TableOf) (v : Valuation) → t.columns ≡ joined a.columns b.columns → t.rows ≡ joined_rows a b
+    → all_apart b.columns ≡ true → all_sized (length a.columns) a.rows ≡ true
+    → all_sized (length b.columns) b.rows ≡ true → has t v ≡ (has a v && has b v)
+joined_has t a b v c r apart first second =
+    has_as t (joined a.columns b.columns) (joined_rows a b) v c r ∙ has_joined a b v apart first second
 
-pub has_chosen : (a : TableOf) (comparison : Comparison) (wanted : Bool) (v : Valuation)
-    → covers_term a.columns comparison.left ≡ true → covers_term a.columns comparison.right ≡ true
-    → has_row (chosen_rows comparison wanted a) (map v a.columns) ≡ (has a v && chosen comparison wanted v)
+some_has : (t a : TableOf) (p : List Value → Bool) (v : Valuation) → t.columns ≡ a.columns → t.rows ≡ filter p a.rows
+    → has t v ≡ (has a v && p (map v a.columns))
 unfolding has
-has_chosen a comparison wanted v left right = has_selected v a.columns comparison wanted a.rows left right
+some_has t a p v c r = has_as t a.columns (filter p a.rows) v c r ∙ filtered_has (map v a.columns) p a.rows
+
+pub unmatched_has : (t a b : TableOf) (v : Valuation) → t.columns ≡ a.columns → t.rows ≡ unmatched_rows a b
+    → all_among b.columns a.columns ≡ true → has t v ≡ (has a v && not (has b v))
+unfolding has
+unmatched_has t a b v c r inside =
+    some_has t a (λ row. not (has_row b.rows (part a.columns b.columns row))) v c r
+    ∙ ap (λ row. has a v && not (has_row b.rows row)) (part_of_own v a.columns b.columns inside)
+
+pub chosen_has : (t a : TableOf) (comparison : Comparison) (wanted : Bool) (v : Valuation) → t.columns ≡ a.columns
+    → t.rows ≡ chosen_rows comparison wanted a → covers_term a.columns comparison.left ≡ true
+    → covers_term a.columns comparison.right ≡ true → has t v ≡ (has a v && chosen comparison wanted v)
+unfolding chosen
+chosen_has t a comparison wanted v c r left right =
+    some_has t a (λ row. chosen comparison wanted (valuation a.columns row)) v c r
+    ∙ ap₂ (λ x y. has a v && beq wanted (compares comparison.sign x y))
+    (term_of_own v a.columns comparison.left left) (term_of_own v a.columns comparison.right right)
 
 -- rows that ascend to those of a join have as many values
 pub sized_joined : (a b : TableOf) (rows : List (List Value)) → ascending row_cmp rows ≡ joined_rows a b

@@ -1,55 +1,44 @@
 -- The rows that agree are those with the same key; and the join doesn't hang on the order of the rows.
-use Rattle.std.proofs.Common.{◌≡◌, ℕ, ◌+◌, ◌*◌, ◌<◌, ◌≤◌, ◌^◌, Bool, true, false, not, ◌&&◌, ◌||◌, cond, nat_eq}
-use Rattle.std.proofs.Common.{List, [], ◌∷◌, ◌++◌, map, length, refl, sym, ap, ap₂, ◌∙◌, arith, add-one}
-use Rattle.std.proofs.Math.Nat.{suc-mul}
-use Rattle.std.proofs.Math.Dec.{eqb-suc-zero}
+use Rattle.std.proofs.Common.{◌≡◌, ℕ, ◌+◌, ◌*◌, ◌<◌, ◌≤◌, ◌^◌, Bool, true, not, ◌&&◌, ◌||◌, cond, nat_eq}
+use Rattle.std.proofs.Common.{List, [], ◌∷◌, ◌++◌, map, length, refl, sym, ap, ◌∙◌, arith}
 use Rattle.std.proofs.lemmas.Bool.{and_parts, eqb-true}
+use Rattle.std.proofs.lemmas.Grind.{common_steps}
 use Rattle.std.proofs.lemmas.List.Elements.{filter_agree}
-use Rattle.std.proofs.lemmas.List.Folds.{list_any-append}
 use Rattle.std.proofs.lemmas.List.Sorted.{list_any-IsPermutation}
 use Rattle.std.specs.List.{list_any, list_all, filter}
 use Rattle.std.specs.List.Sorted.{IsPermutation}
 use Rattle.std.specs.Ordering.{eq_by_cmp}
 use Rattle.std.specs.Cmp.{eq_by_cmp_equiv, tied_then}
-use Rattle.mfotl_model.proofs.LogicLemmas.{any_map, any_filter}
+use Rattle.mfotl_model.proofs.LogicLemmas.{any_alike, any_map, any_filter, any_flat_map}
 use Rattle.mfotl_model.proofs.AscendingLemmas.{same_ascending}
 use Rattle.mfotl_model.proofs.RowLemmas.{any_none, row_exact}
 use Rattle.mfotl_model.proofs.ColumnLemmas.{row_kept}
 use Rattle.mfotl_model.specs.Ascending.{ascending}
 use Rattle.mfotl_model.specs.FreeVariables.{among, others}
+use Rattle.mfotl_model.specs.Satisfaction.{Valuation}
 use Rattle.mfotl_model.specs.Values.{row_cmp, row_total, value_cmp}
 use Rattle.mfotl_model.specs.declared.value.Value.{Value}
 use Rattle.mfotl_model.specs.Tables.{all_apart, all_sized, has_row, part, valuation}
 use Rattle.relations.specs.Operations.{agree, combined, common, pairs, pairs_of, pairs_with, turned_pairs}
 use Rattle.relations.proofs.TestLemmas.{all_moved}
 
-module _ (ca cb : List ℕ) (ra rb : List Value) where
-  by_key : (ys : List ℕ)
-      → eq_by_cmp row_cmp (map (valuation ca ra) (filter (λ y. among y ca) ys))
-      (map (valuation cb rb) (filter (λ y. among y ca) ys))
-      ≡ list_all (λ y. not (among y ca) || eq_by_cmp value_cmp (valuation ca ra y) (valuation cb rb y)) ys
-  by_key [] = refl
-  by_key (y ∷ ys) = step (by_key ys) (among y ca)
-    where
-      step : eq_by_cmp row_cmp (map (valuation ca ra) (filter (λ y. among y ca) ys))
-          (map (valuation cb rb) (filter (λ y. among y ca) ys))
-          ≡ list_all (λ y. not (among y ca) || eq_by_cmp value_cmp (valuation ca ra y) (valuation cb rb y)) ys
-          → (b : Bool)
-          → eq_by_cmp row_cmp (map (valuation ca ra) (cond b (y ∷ filter (λ y. among y ca) ys)
-          (filter (λ y. among y ca) ys)))
-          (map (valuation cb rb) (cond b (y ∷ filter (λ y. among y ca) ys) (filter (λ y. among y ca) ys)))
-          ≡ ((not b || eq_by_cmp value_cmp (valuation ca ra y) (valuation cb rb y))
-          && list_all (λ y. not (among y ca) || eq_by_cmp value_cmp (valuation ca ra y) (valuation cb rb y)) ys)
-      step more true =
-          sym (tied_then (value_cmp (valuation ca ra y) (valuation cb rb y))
-          (row_cmp (map (valuation ca ra) (filter (λ y. among y ca) ys))
-          (map (valuation cb rb) (filter (λ y. among y ca) ys))))
-          ∙ ap (λ t. eq_by_cmp value_cmp (valuation ca ra y) (valuation cb rb y) && t) more
-      step more false = more
+rows_tie : (v w : Valuation) (ks : List ℕ)
+    → eq_by_cmp row_cmp (map v ks) (map w ks) ≡ list_all (λ y. eq_by_cmp value_cmp (v y) (w y)) ks
+rows_tie v w [] = refl
+rows_tie v w (y ∷ ks) =
+    sym (tied_then (value_cmp (v y) (w y)) (row_cmp (map v ks) (map w ks)))
+    ∙ ap (λ t. eq_by_cmp value_cmp (v y) (w y) && t) (rows_tie v w ks)
 
-  pub agree_is : eq_by_cmp row_cmp (part ca (common ca cb) ra) (part cb (common ca cb) rb) ≡ agree ca cb ra rb
-  unfolding part agree
-  agree_is = by_key cb
+all_of_kept : (p q : ℕ → Bool) (xs : List ℕ) → list_all q (filter p xs) ≡ list_all (λ x. not (p x) || q x) xs
+all_of_kept p q [] = refl
+all_of_kept p q (x ∷ xs) = grind (arith, common_steps, all_of_kept p q xs)
+
+pub agree_is : (ca cb : List ℕ) (ra rb : List Value)
+    → eq_by_cmp row_cmp (part ca (common ca cb) ra) (part cb (common ca cb) rb) ≡ agree ca cb ra rb
+unfolding part agree
+agree_is ca cb ra rb =
+    rows_tie (valuation ca ra) (valuation cb rb) (common ca cb)
+    ∙ all_of_kept (λ y. among y ca) (λ y. eq_by_cmp value_cmp (valuation ca ra y) (valuation cb rb y)) cb
 
 -- a row with those that have its key
 pub pairs_by_key : (ca cb : List ℕ) (bs : List (List Value)) (ra : List Value)
@@ -62,41 +51,7 @@ pairs_by_key ca cb bs ra =
     (filter_agree (λ rb. eq_by_cmp row_cmp (part ca (common ca cb) ra) (part cb (common ca cb) rb))
     (agree ca cb ra) (λ rb. agree_is ca cb ra rb) bs)
 
-pairs_has : (ca cb : List ℕ) (bs : List (List Value)) (q ra : List Value)
-    → has_row (pairs_of ca cb bs ra) q ≡ list_any (λ rb. agree ca cb ra rb
-    && eq_by_cmp row_cmp q (combined ca cb ra rb)) bs
-unfolding pairs_of
-pairs_has ca cb bs q ra =
-    any_map (eq_by_cmp row_cmp q) (combined ca cb ra) (filter (agree ca cb ra) bs)
-    ∙ any_filter (λ rb. eq_by_cmp row_cmp q (combined ca cb ra rb)) (agree ca cb ra) bs
-
-pub pairs_moved : (ca cb : List ℕ) (bs cs : List (List Value)) → IsPermutation bs cs
-    → (as_ : List (List Value)) (q : List Value)
-    → has_row (pairs ca cb as_ cs) q ≡ has_row (pairs ca cb as_ bs) q
-unfolding pairs
-pairs_moved ca cb bs cs p [] q = refl
-pairs_moved ca cb bs cs p (ra ∷ as_) q =
-    list_any-append (eq_by_cmp row_cmp q) (pairs_of ca cb cs ra) (pairs ca cb as_ cs)
-    ∙ ap₂ (λ a b. a || b)
-    (pairs_has ca cb cs q ra
-    ∙ sym (list_any-IsPermutation (λ rb. agree ca cb ra rb && eq_by_cmp row_cmp q (combined ca cb ra rb)) bs cs p)
-    ∙ sym (pairs_has ca cb bs q ra))
-    (pairs_moved ca cb bs cs p as_ q)
-    ∙ sym (list_any-append (eq_by_cmp row_cmp q) (pairs_of ca cb bs ra) (pairs ca cb as_ bs))
-
--- the join by an index is the join with its table
-pub join_moved : (ca cb : List ℕ) (bs cs : List (List Value)) → IsPermutation bs cs → (as_ : List (List Value))
-    → ascending row_cmp (pairs ca cb as_ cs) ≡ ascending row_cmp (pairs ca cb as_ bs)
-join_moved ca cb bs cs p as_ =
-    same_ascending row_total row_exact (pairs ca cb as_ cs) (pairs ca cb as_ bs) (pairs_moved ca cb bs cs p as_)
-
--- steps of one more row
-pub one_more : (i k old now then : ℕ) → now ≤ old + i * k → then ≤ now + k → then ≤ old + (i + 1) * k
-one_more i k old now then h l = rw add-one (rw (suc-mul i k) (omega arith))
-
-pub fewer : (i n k : ℕ) → i ≤ n → i * k ≤ n * k
-fewer i n k l = grind (arith)
-
+-- the steps that were spent on so many rows
 pub record Spending (i steps old : ℕ) (rows : List (List Value)) : Type 0 where
   pub spent : (d : ℕ) → length rows < 2 ^ d → steps ≤ old + i * (2 * d)
 
@@ -117,12 +72,7 @@ own_rows columns q (row ∷ rows) apart sized =
 pub none_left : (p : List Value → Bool) (rows : List (List Value))
     → nat_eq (length (filter p rows)) 0 ≡ not (list_any p rows)
 none_left p [] = refl
-none_left p (row ∷ rows) = step (none_left p rows) (p row)
-  where
-    step : nat_eq (length (filter p rows)) 0 ≡ not (list_any p rows) → (b : Bool)
-        → nat_eq (length (cond b (row ∷ filter p rows) (filter p rows))) 0 ≡ not (b || list_any p rows)
-    step more true = eqb-suc-zero (length (filter p rows))
-    step more false = more
+none_left p (row ∷ rows) = grind (arith, common_steps, none_left p rows)
 
 -- equality doesn't hang on the side
 
@@ -143,17 +93,10 @@ pairs_with_by_key ca cb rows rb =
 
 -- a test of pairs, one list of the pairs after the other
 
-or_shuffled : (a b c d : Bool) → ((a || b) || (c || d)) ≡ ((a || c) || (b || d))
-or_shuffled true b c d = refl
-or_shuffled false true true d = refl
-or_shuffled false true false d = refl
-or_shuffled false false c d = refl
-
 any_either : (p q : List Value → Bool) (bs : List (List Value))
     → list_any (λ b. p b || q b) bs ≡ (list_any p bs || list_any q bs)
 any_either p q [] = refl
-any_either p q (b ∷ bs) = ap (λ t. (p b || q b) || t) (any_either p q bs)
-    ∙ or_shuffled (p b) (q b) (list_any p bs) (list_any q bs)
+any_either p q (b ∷ bs) = grind (arith, common_steps, any_either p q bs)
 
 any_swapped : (f : List Value → List Value → Bool) (rows bs : List (List Value))
     → list_any (λ b. list_any (λ a. f a b) rows) bs ≡ list_any (λ a. list_any (f a) bs) rows
@@ -165,34 +108,50 @@ module _ (ca cb : List ℕ) (q : List Value) where
   unfoldable pub makes : List Value → List Value → Bool
   makes ra rb = agree ca cb ra rb && eq_by_cmp row_cmp q (combined ca cb ra rb)
 
-  with_has : (rows : List (List Value)) (rb : List Value)
+  has_of_one : (bs : List (List Value)) (ra : List Value)
+      → has_row (pairs_of ca cb bs ra) q ≡ list_any (makes ra) bs
+  unfolding pairs_of makes
+  has_of_one bs ra =
+      any_map (eq_by_cmp row_cmp q) (combined ca cb ra) (filter (agree ca cb ra) bs)
+      ∙ any_filter (λ rb. eq_by_cmp row_cmp q (combined ca cb ra rb)) (agree ca cb ra) bs
+
+  has_with_one : (rows : List (List Value)) (rb : List Value)
       → has_row (pairs_with ca cb rows rb) q ≡ list_any (λ ra. makes ra rb) rows
   unfolding pairs_with makes
-  with_has rows rb =
+  has_with_one rows rb =
       any_map (eq_by_cmp row_cmp q) (λ ra. combined ca cb ra rb) (filter (λ ra. agree ca cb ra rb) rows)
       ∙ any_filter (λ ra. eq_by_cmp row_cmp q (combined ca cb ra rb)) (λ ra. agree ca cb ra rb) rows
 
   pub all_has : (rows bs : List (List Value)) → has_row (pairs ca cb rows bs) q
       ≡ list_any (λ ra. list_any (makes ra) bs) rows
-  unfolding pairs makes
-  all_has [] bs = refl
-  all_has (ra ∷ rows) bs =
-      list_any-append (eq_by_cmp row_cmp q) (pairs_of ca cb bs ra) (pairs ca cb rows bs)
-      ∙ ap₂ (λ a b. a || b) (pairs_has ca cb bs q ra) (all_has rows bs)
+  unfolding pairs
+  all_has rows bs =
+      any_flat_map (eq_by_cmp row_cmp q) (pairs_of ca cb bs) rows
+      ∙ any_alike (λ ra. has_row (pairs_of ca cb bs ra) q) (λ ra. list_any (makes ra) bs) rows (has_of_one bs)
 
-  turned_each : (rows kept bs : List (List Value)) → IsPermutation rows kept
-      → has_row (turned_pairs ca cb kept bs) q ≡ list_any (λ rb. list_any (λ ra. makes ra rb) rows) bs
-  unfolding turned_pairs
-  turned_each rows kept [] p = refl
-  turned_each rows kept (rb ∷ bs) p =
-      list_any-append (eq_by_cmp row_cmp q) (pairs_with ca cb kept rb) (turned_pairs ca cb kept bs)
-      ∙ ap₂ (λ a b. a || b)
-      (with_has kept rb ∙ sym (list_any-IsPermutation (λ ra. makes ra rb) rows kept p))
-      (turned_each rows kept bs p)
+  pairs_moved : (rows bs cs : List (List Value)) → IsPermutation bs cs
+      → has_row (pairs ca cb rows cs) q ≡ has_row (pairs ca cb rows bs) q
+  pairs_moved rows bs cs p =
+      all_has rows cs
+      ∙ any_alike (λ ra. list_any (makes ra) cs) (λ ra. list_any (makes ra) bs) rows
+      (λ ra. sym (list_any-IsPermutation (makes ra) bs cs p))
+      ∙ sym (all_has rows bs)
 
   turned_has : (rows kept bs : List (List Value)) → IsPermutation rows kept
       → has_row (turned_pairs ca cb kept bs) q ≡ has_row (pairs ca cb rows bs) q
-  turned_has rows kept bs p = turned_each rows kept bs p ∙ any_swapped makes rows bs ∙ sym (all_has rows bs)
+  unfolding turned_pairs
+  turned_has rows kept bs p =
+      any_flat_map (eq_by_cmp row_cmp q) (pairs_with ca cb kept) bs
+      ∙ any_alike (λ rb. has_row (pairs_with ca cb kept rb) q) (λ rb. list_any (λ ra. makes ra rb) rows) bs
+      (λ rb. has_with_one kept rb ∙ sym (list_any-IsPermutation (λ ra. makes ra rb) rows kept p))
+      ∙ any_swapped makes rows bs ∙ sym (all_has rows bs)
+
+-- the join by an index is the join with its table
+pub join_moved : (ca cb : List ℕ) (bs cs : List (List Value)) → IsPermutation bs cs → (as_ : List (List Value))
+    → ascending row_cmp (pairs ca cb as_ cs) ≡ ascending row_cmp (pairs ca cb as_ bs)
+join_moved ca cb bs cs p as_ =
+    same_ascending row_total row_exact (pairs ca cb as_ cs) (pairs ca cb as_ bs)
+    (λ q. pairs_moved ca cb q as_ bs cs p)
 
 -- the join by an index of the first table is the join
 pub join_turned : (ca cb : List ℕ) (rows kept : List (List Value)) → IsPermutation rows kept → (bs : List (List Value))

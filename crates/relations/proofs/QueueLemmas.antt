@@ -1,8 +1,9 @@
 -- Items in the order of a number of theirs, and items that are found by it.
-use Rattle.std.proofs.Common.{◌≡◌, ℕ, suc, ◌<◌, ◌≤◌, Bool, true, false, nat_eq, nat_le, ◌&&◌, ◌||◌, List, [], ◌∷◌}
+use Rattle.std.proofs.Common.{◌≡◌, ℕ, suc, ◌<◌, ◌≤◌, Bool, true, nat_eq, nat_le, ◌&&◌, ◌||◌, List, [], ◌∷◌}
 use Rattle.std.proofs.Common.{◌++◌, length, get_or, refl, arith}
 use Rattle.std.proofs.lemmas.Bool.{and_from, and_parts, or_left, or_right}
 use Rattle.std.proofs.lemmas.Bool.Decides.{nat_tests}
+use Rattle.std.proofs.lemmas.Grind.{common_steps}
 use Rattle.std.specs.List.{list_all, list_any}
 use Rattle.std.specs.List.Sorted.{IsNonDecreasingBy}
 use Rattle.mfotl_model.proofs.LogicLemmas.{same_number}
@@ -23,9 +24,7 @@ module _ {X : Type 0} (f : X → ℕ) where
   low_all m [] low = refl
   low_all m (x ∷ xs) low =
       let first : m ≤ f x = low 0 x (omega arith) in
-      let here : nat_le m (f x) ≡ true = grind (arith, nat_tests) in
-      and_from (nat_le m (f x)) (list_all (λ y. nat_le m (f y)) xs) here
-      (low_all m xs (λ j d l. low (suc j) d (omega arith)))
+      grind (arith, nat_tests, low_all m xs (λ j d l. low (suc j) d (omega arith)))
 
   -- numbers in order never fall
   pub rises_from : (xs : List X) → IsNonDecreasingBy f xs → RisesBy f xs
@@ -47,11 +46,4 @@ module _ {X : Type 0} (f : X → ℕ) where
   pub any_with : (c : Bool) (n : ℕ) (xs : List X) → c ≡ true → list_any (λ x. nat_eq (f x) n) xs ≡ true
       → list_any (λ x. nat_eq (f x) n && c) xs ≡ true
   any_with c n [] is there = there
-  any_with c n (x ∷ xs) is there = by (nat_eq (f x) n) (any_with c n xs is) there
-    where
-      by : (b : Bool)
-          → (list_any (λ y. nat_eq (f y) n) xs ≡ true → list_any (λ y. nat_eq (f y) n && c) xs ≡ true)
-          → (b || list_any (λ y. nat_eq (f y) n) xs) ≡ true
-          → ((b && c) || list_any (λ y. nat_eq (f y) n && c) xs) ≡ true
-      by true rest there = or_left c (list_any (λ y. nat_eq (f y) n && c) xs) is
-      by false rest there = rest there
+  any_with c n (x ∷ xs) is there = grind (arith, common_steps, any_with c n xs is)

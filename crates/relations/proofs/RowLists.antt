@@ -1,5 +1,5 @@
 -- Lists of rows: what sorting keeps, what a search answers, and what a row has at a column.
-use Rattle.std.proofs.Common.{◌≡◌, ◌≢◌, ℕ, zero, suc, ◌+◌, ◌<◌, ◌≤◌, true, false, cond, nat_eq}
+use Rattle.std.proofs.Common.{◌≡◌, ◌≢◌, ℕ, zero, suc, ◌+◌, ◌<◌, ◌≤◌, true}
 use Rattle.std.proofs.Common.{List, [], ◌∷◌, length, get_or, slice_index, drop, Result, Ok, Err, refl, sym, subst}
 use Rattle.std.proofs.Common.{ap, ◌∙◌, arith, inl, inr, add-one, pos, insert, slice_index_or}
 use Rattle.std.proofs.lemmas.Bool.{cases_lt}
@@ -22,20 +22,13 @@ use Rattle.mfotl_model.specs.declared.value.Value.TheVariants.{Int}
 use Rattle.mfotl_model.proofs.RowLemmas.{row_exact}
 use Rattle.mfotl_model.specs.Tables.{has_row, valuation}
 
-not_less : (o p : Ordering) → p ≡ ordering_reverse o → o ≡ Less → is_lt p ≡ false
-not_less o p e h = ap is_lt (e ∙ ap ordering_reverse h)
-
-not_equal_less : (o p : Ordering) → p ≡ ordering_reverse o → o ≡ Less → is_eq p ≡ false
-not_equal_less o p e h = ap is_eq (e ∙ ap ordering_reverse h)
-
-not_equal_greater : (o p : Ordering) → p ≡ ordering_reverse o → o ≡ Greater → is_eq p ≡ false
-not_equal_greater o p e h = ap is_eq (e ∙ ap ordering_reverse h)
+turned : (x y : List Value) (order : Ordering) → row_cmp x y ≡ order → row_cmp y x ≡ ordering_reverse order
+turned x y order e = row_total.antisymm y x ∙ ap ordering_reverse e
 
 weakly : (xs : List (List Value)) → IsStrictlySortedBy row_cmp xs → IsSortedBy (λ a b. is_lt (row_cmp a b)) xs
 weakly xs h = λ k d _ l.
-    not_less (row_cmp (get_or xs k d) (get_or xs (k + 1) d)) (row_cmp (get_or xs (k + 1) d) (get_or xs k d))
-    (row_total.antisymm (get_or xs (k + 1) d) (get_or xs k d))
-    (Less-from_sorted row_cmp xs k (k + 1) d h (omega arith) l)
+    ap is_lt (turned (get_or xs k d) (get_or xs (k + 1) d) Less
+    (Less-from_sorted row_cmp xs k (k + 1) d h (omega arith) l))
 
 -- a binary search finds a row exactly if it is among the rows
 pub searched_row : (xs : List (List Value)) (u : List Value) (r : Result ℕ ℕ) → IsStrictlySortedBy row_cmp xs
@@ -48,10 +41,8 @@ searched_row xs u (Ok i) h low found =
 searched_row xs u (Err i) h low found =
     let apart = found (searchable_from_sorted row_total (λ (y : List Value). y) xs u (weakly xs h)) in
     sym (list_any_none (eq_by_cmp row_cmp u) xs (λ k d l. elim (cases_lt k i) [
-      | inl below ↦ not_equal_less (row_cmp (get_or xs k d) u) (row_cmp u (get_or xs k d))
-          (row_total.antisymm u (get_or xs k d)) (apart.0 k d (omega arith) below)
-      | inr above ↦ not_equal_greater (row_cmp (get_or xs k d) u) (row_cmp u (get_or xs k d))
-          (row_total.antisymm u (get_or xs k d)) (apart.1 k d above l)
+      | inl below ↦ ap is_eq (turned (get_or xs k d) u Less (apart.0 k d (omega arith) below))
+      | inr above ↦ ap is_eq (turned (get_or xs k d) u Greater (apart.1 k d above l))
     ]))
 
 pub valuation_none : (columns : List ℕ) (x : ℕ) → valuation columns [] x ≡ Int (pos 0)
@@ -68,13 +59,9 @@ pub valuation_next : (columns : List ℕ) (row : List Value) (i x : ℕ) → i <
     → valuation (drop (i + 1) columns) (drop (i + 1) row) x ≡ valuation (drop i columns) (drop i row) x
 valuation_next [] row i x l m ne = absurd (omega arith)
 valuation_next (y ∷ ys) [] i x l m ne = absurd (omega arith)
-valuation_next (y ∷ ys) (a ∷ row) zero x l m ne = let apart : nat_eq x y
-    ≡ false = grind (arith, nat_tests) in sym (ap (λ b. cond b a (valuation ys row x)) apart)
+valuation_next (y ∷ ys) (a ∷ row) zero x l m ne = grind (arith, nat_tests)
 valuation_next (y ∷ ys) (a ∷ row) (suc i) x l m ne = rw add-one
     (rw add-one at (valuation_next ys row i x (omega arith) (omega arith) ne))
-
-turned : (x y : List Value) (order : Ordering) → row_cmp x y ≡ order → row_cmp y x ≡ ordering_reverse order
-turned x y order e = row_total.antisymm y x ∙ ap ordering_reverse e
 
 pub inserted_at : (xs : List (List Value)) (i : ℕ) (y : List Value) → i ≤ length xs
     → ((k : ℕ) (d : List Value) → k < length xs → k < i → row_cmp (slice_index_or xs k d) y ≡ Less)

@@ -1,6 +1,8 @@
 -- Binary search among keys that don't fall: its place and its steps.
-use Rattle.std.proofs.Common.{◌≡◌, ℕ, zero, suc, ◌+◌, ◌-◌, ◌*◌, ◌<◌, ◌≤◌, ◌^◌, Bool, true, false, List, [], ◌∷◌}
+use Rattle.std.proofs.Common.{◌≡◌, ℕ, zero, suc, ◌+◌, ◌-◌, ◌*◌, ◌<◌, ◌≤◌, ◌^◌, Bool, true, false, cond, nat_le, List}
 use Rattle.std.proofs.Common.{length, slice_index_or, refl, sym, ap, ◌∙◌, arith}
+use Rattle.std.proofs.lemmas.Bool.Decides.{nat_tests}
+use Rattle.std.proofs.lemmas.List.{get_or_default}
 use Rattle.std.proofs.lemmas.List.Sorted.{searchable_from_sorted}
 use Rattle.std.specs.List.Sorted.{IsSorted, IsNonDecreasingBy}
 use Rattle.std.specs.Ordering.{ordering_index}
@@ -20,18 +22,6 @@ pub record Searching (past : Bool) (keys : List (List Value)) (key : List Value)
   pub spent : (d : ℕ) → length keys < 2 ^ d → now ≤ old + d
   pub left : (d : ℕ) → length keys < 2 ^ d → high - low < 2 ^ (old + d - now)
 
-pub starts : (past : Bool) (keys : List (List Value)) (key : List Value) (old : ℕ)
-    → Searching past keys key 0 (length keys) old old
-starts past keys key old = record {
-  ordered = omega arith;
-  within = omega arith;
-  below = λ i d l. absurd (omega arith);
-  above = λ i d l m. absurd (omega arith);
-  spent = λ d l. omega arith;
-  left = λ d l. (let e : old + d - old ≡ d = omega arith in rw e
-      (let f : length keys - 0 ≡ length keys = omega arith in rw f l));
-}
-
 halved : (k size new : ℕ) → size < 2 ^ k → 0 < size → 2 * new ≤ size → new < 2 ^ (k - 1)
 halved zero size new l m h = absurd (omega arith)
 halved (suc k) size new l m h = (let e : suc k - 1 ≡ k = omega arith in rw e (omega arith))
@@ -40,28 +30,29 @@ some_left : (k size : ℕ) → size < 2 ^ k → 0 < size → 0 < k
 some_left zero size l m = absurd (omega arith)
 some_left (suc k) size l m = omega arith
 
+-- what is before has a low index
+before_is : (past : Bool) (o : Ordering) → before past o ≡ nat_le (ordering_index o) (cond past 1 0)
+before_is true Less = refl
+before_is true Equal = refl
+before_is true Greater = refl
+before_is false Less = refl
+before_is false Equal = refl
+before_is false Greater = refl
+
 before_falls : (past : Bool) (o p : Ordering) → ordering_index o ≤ ordering_index p → before past p ≡ true
     → before past o ≡ true
-before_falls true Less p l h = refl
-before_falls true Equal p l h = refl
-before_falls true Greater Less l h = absurd (omega arith)
-before_falls true Greater Equal l h = absurd (omega arith)
-before_falls true Greater Greater l h = h
-before_falls false Less p l h = refl
-before_falls false Equal Less l h = absurd (omega arith)
-before_falls false Equal Equal l h = h
-before_falls false Equal Greater l h = h
-before_falls false Greater Less l h = absurd (omega arith)
-before_falls false Greater Equal l h = h
-before_falls false Greater Greater l h = h
+before_falls past o p l h = grind (arith, nat_tests, before_is past o, before_is past p)
 
 before_rises : (past : Bool) (o p : Ordering) → ordering_index o ≤ ordering_index p → before past o ≡ false
     → before past p ≡ false
-before_rises past o p l h = by (before past p) refl
-  where
-    by : (b : Bool) → before past p ≡ b → before past p ≡ false
-    by true e = absurd (let f : true ≡ false = sym (before_falls past o p l e) ∙ h in cc)
-    by false e = e
+before_rises past o p l h = grind (arith, nat_tests, before_is past o, before_is past p)
+
+-- what was found of the key in the middle
+compared : (past b : Bool) (keys : List (List Value)) (key x : List Value) (middle : ℕ) → middle < length keys
+    → x ≡ slice_index_or keys middle x
+    → before past (row_cmp x key) ≡ b → (d : List Value) → before past (row_cmp (slice_index_or keys middle d) key) ≡ b
+compared past b keys key x middle l e h d =
+    ap (λ r. before past (row_cmp r key)) (get_or_default keys middle d x l ∙ sym e) ∙ h
 
 module _ (past : Bool) (keys : List (List Value)) (key : List Value) (rises : IsSorted row_cmp keys) where
   far : IsNonDecreasingBy (λ y. ordering_index (row_cmp y key)) keys
@@ -83,14 +74,15 @@ module _ (past : Bool) (keys : List (List Value)) (key : List Value) (rises : Is
 
   pub goes_up : (low high middle old now : ℕ) → Searching past keys key low high old now → low ≤ middle → middle < high
       → 2 * (middle - low) ≤ high - low → high - low ≤ 2 * (middle - low) + 1
-      → ((d : List Value) → before past (row_cmp (slice_index_or keys middle d) key) ≡ true)
+      → (x : List Value) → x ≡ slice_index_or keys middle x → before past (row_cmp x key) ≡ true
       → Searching past keys key (middle + 1) high old (now + 1)
-  goes_up low high middle old now s l m low_half high_half h = record {
+  goes_up low high middle old now s l m low_half high_half x is h = record {
     ordered = omega arith;
     within = s.within;
     below = λ i d b. before_falls past (row_cmp (slice_index_or keys i d) key)
         (row_cmp (slice_index_or keys middle d) key)
-        (far i middle d (omega arith) (omega arith)) (h d);
+        (far i middle d (omega arith) (omega arith))
+        (compared past true keys key x middle (omega arith) is h d);
     above = s.above;
     spent = λ d n. spent_more low high old now d s n (omega arith);
     left = λ d n. left_more low high (high - (middle + 1)) old now d s n (omega arith) (omega arith);
@@ -99,28 +91,16 @@ module _ (past : Bool) (keys : List (List Value)) (key : List Value) (rises : Is
   pub goes_down : (low high middle old now : ℕ) → Searching past keys key low high old now → low ≤ middle
       → middle < high
       → 2 * (middle - low) ≤ high - low → high - low ≤ 2 * (middle - low) + 1
-      → ((d : List Value) → before past (row_cmp (slice_index_or keys middle d) key) ≡ false)
+      → (x : List Value) → x ≡ slice_index_or keys middle x → before past (row_cmp x key) ≡ false
       → Searching past keys key low middle old (now + 1)
-  goes_down low high middle old now s l m low_half high_half h = record {
+  goes_down low high middle old now s l m low_half high_half x is h = record {
     ordered = omega arith;
     within = omega arith;
     below = s.below;
     above = λ i d b n. before_rises past (row_cmp (slice_index_or keys middle d) key)
         (row_cmp (slice_index_or keys i d) key)
-        (far middle i d (omega arith) n) (h d);
+        (far middle i d (omega arith) n)
+        (compared past false keys key x middle (omega arith) is h d);
     spent = λ d n. spent_more low high old now d s n (omega arith);
     left = λ d n. left_more low high (middle - low) old now d s n (omega arith) (omega arith);
   }
-
-anywhere : (xs : List (List Value)) (i : ℕ) (d e : List Value) → i < length xs
-    → slice_index_or xs i d ≡ slice_index_or xs i e
-anywhere [] i d e l = absurd (omega arith)
-anywhere (x ∷ xs) zero d e l = refl
-anywhere (x ∷ xs) (suc i) d e l = anywhere xs i d e (omega arith)
-
--- what was found of the key in the middle
-pub compared : (past b : Bool) (keys : List (List Value)) (key x : List Value) (middle : ℕ) → middle < length keys
-    → x ≡ slice_index_or keys middle x
-    → before past (row_cmp x key) ≡ b → (d : List Value) → before past (row_cmp (slice_index_or keys middle d) key) ≡ b
-compared past b keys key x middle l e h d =
-    ap (λ r. before past (row_cmp r key)) (anywhere keys middle d x l ∙ sym e) ∙ h

@@ -1,7 +1,8 @@
 -- The rows of a table, one after another: what each of them passes, and which rows it lacks.
 use Rattle.std.proofs.Common.{◌≡◌, ℕ, ◌+◌, ◌<◌, Bool, true, false, nat_eq, ◌||◌, List, [], ◌∷◌, length, get_or}
-use Rattle.std.proofs.Common.{take, refl, sym, ap, ◌∙◌}
-use Rattle.std.proofs.lemmas.Bool.{and_from, and_parts, or_left, or_right}
+use Rattle.std.proofs.Common.{take, refl, sym, ap, ◌∙◌, arith}
+use Rattle.std.proofs.lemmas.Bool.{and_from, or_left, or_right}
+use Rattle.std.proofs.lemmas.Grind.{common_steps}
 use Rattle.std.proofs.lemmas.List.Folds.{list_any_more}
 use Rattle.std.proofs.lemmas.Map.Views.{tells_apart}
 use Rattle.std.specs.BTreeMap.{is_at}
@@ -17,16 +18,12 @@ use Rattle.mfotl_model.specs.declared.value.Value.{Value}
 pub lacks_other : (n : ℕ) (rows : List (List Value)) (v : List Value) → all_sized n rows ≡ true
     → nat_eq (length v) n ≡ false → has_row rows v ≡ false
 lacks_other n [] v sized apart = refl
-lacks_other n (row ∷ rows) v sized apart =
-    let parts = and_parts (nat_eq (length row) n) (all_sized n rows) sized in
-    by (eq_by_cmp row_cmp v row) refl parts.0 (lacks_other n rows v parts.1 apart)
-  where
-    by : (b : Bool) → eq_by_cmp row_cmp v row ≡ b → nat_eq (length row) n ≡ true → has_row rows v ≡ false
-        → (eq_by_cmp row_cmp v row || has_row rows v) ≡ false
-    by true e here rest =
-        absurd (let f : true ≡ false = sym here ∙ ap (λ r. nat_eq (length r) n)
-        (sym (tells_apart row_exact v row e)) ∙ apart in cc)
-    by false e here rest = ap (λ b. b || has_row rows v) e ∙ rest
+lacks_other n (row ∷ rows) v sized apart = grind (
+  arith,
+  common_steps,
+  tells_apart row_exact v row,
+  lacks_other n rows v,
+)
 
 -- a list of rows of which each passes
 pub all_rows : (p : List Value → Bool) (rows : List (List Value))

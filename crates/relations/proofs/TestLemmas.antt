@@ -1,6 +1,6 @@
 -- Tests of all items of a list: in another order, of one more, and by a weaker test.
-use Rattle.std.proofs.Common.{◌≡◌, Bool, true, not, ◌&&◌, List, [], ◌∷◌, ◌++◌, refl, sym, ap, ◌∙◌}
-use Rattle.std.proofs.lemmas.Bool.{and_from, and_parts}
+use Rattle.std.proofs.Common.{◌≡◌, Bool, true, not, List, [], ◌∷◌, ◌++◌, refl, sym, ap, ◌∙◌, arith}
+use Rattle.std.proofs.lemmas.Grind.{common_steps}
 use Rattle.std.proofs.lemmas.List.Folds.{list_all-append}
 use Rattle.std.proofs.lemmas.List.Sorted.{list_any-IsPermutation}
 use Rattle.std.specs.List.{list_all}
@@ -15,13 +15,10 @@ all_moved p xs ys moved =
 -- and one more
 pub all_push : {X : Type 0} (p : X → Bool) (xs : List X) (x : X) → list_all p xs ≡ true → p x ≡ true
     → list_all p (xs ++ x ∷ []) ≡ true
-all_push p xs x all last =
-    list_all-append p xs (x ∷ []) ∙ and_from (list_all p xs) (p x && true) all (and_from (p x) true last refl)
+all_push p xs x all last = grind (arith, common_steps, list_all-append)
 
 -- and by a weaker test
 pub all_weaker : {X : Type 0} (p q : X → Bool) (xs : List X) → ((x : X) → p x ≡ true → q x ≡ true)
     → list_all p xs ≡ true → list_all q xs ≡ true
 all_weaker p q [] gives all = refl
-all_weaker p q (x ∷ xs) gives all =
-    let parts = and_parts (p x) (list_all p xs) all in
-    and_from (q x) (list_all q xs) (gives x parts.0) (all_weaker p q xs gives parts.1)
+all_weaker p q (x ∷ xs) gives all = grind (arith, common_steps, gives x, all_weaker p q xs gives)

@@ -1,12 +1,11 @@
 -- Two joins, one after the other, the second with a table that has no columns of its own.
-use Rattle.std.proofs.Common.{◌≡◌, ℕ, Bool, true, false, ◌&&◌, ◌||◌, cond, nat_eq, List, [], ◌∷◌, ◌++◌}
+use Rattle.std.proofs.Common.{◌≡◌, ℕ, Bool, true, false, ◌&&◌, ◌||◌, cond, List, [], ◌∷◌, ◌++◌}
 use Rattle.std.proofs.Common.{length, map, pos, refl, sym, ap, ◌∙◌, arith}
+use Rattle.std.proofs.lemmas.Grind.{common_steps}
 use Rattle.std.proofs.lemmas.List.Elements.{filter-append, filter_agree}
-use Rattle.std.proofs.lemmas.List.Kept.{IsStrictlySortedBy-filter}
-use Rattle.std.proofs.lemmas.Map.Lookups.{btree_set_from_contains}
-use Rattle.std.specs.BTreeSet.{BTreeSet}
 use Rattle.std.specs.List.{filter, flat_map}
 use Rattle.std.specs.List.Sorted.{IsPermutation}
+use Rattle.mfotl_model.proofs.AscendingLemmas.{filter_ascending}
 use Rattle.mfotl_model.proofs.RowLemmas.{row_exact}
 use Rattle.mfotl_model.proofs.ColumnLemmas.{read_own, joined_apart}
 use Rattle.mfotl_model.specs.Ascending.{ascending}
@@ -18,10 +17,10 @@ use Rattle.mfotl_model.specs.declared.value.Value.{Value}
 use Rattle.mfotl_model.specs.declared.value.Value.TheVariants.{Int}
 use Rattle.relations.specs.Operations.{has_part, joined_rows, joined_table, pairs, pairs_of, table_of_rows}
 use Rattle.relations.specs.Tables.{IsTable}
-use Rattle.relations.proofs.AscendingRows.{has_ascending, made_is, rows_ascend}
+use Rattle.relations.proofs.AscendingRows.{made_is}
 use Rattle.relations.proofs.InsideLemmas.{matched_is}
-use Rattle.relations.proofs.JoinLemmas.{among_others, kept_among}
-use Rattle.relations.proofs.OperationLaws.{filtered_has, has_joined, sized_pairs}
+use Rattle.relations.proofs.JoinLemmas.{among_others}
+use Rattle.relations.proofs.OperationLaws.{has_joined, sized_pairs}
 use Rattle.relations.proofs.PairLemmas.{join_moved}
 
 -- what a row has at a column that it lacks
@@ -29,36 +28,21 @@ absent : (columns : List ℕ) (row : List Value) (x : ℕ) → among x columns �
     → valuation columns row x ≡ Int (pos 0)
 absent [] row x out = refl
 absent (y ∷ columns) [] x out = refl
-absent (y ∷ columns) (a ∷ row) x out = by (nat_eq x y) (among x columns) refl out (absent columns row x)
-  where
-    by : (b c : Bool) → among x columns ≡ c → (b || c) ≡ false → (among x columns ≡ false
-        → valuation columns row x ≡ Int (pos 0)) → cond b a (valuation columns row x) ≡ Int (pos 0)
-    by true c e h rest = cc
-    by false c e h rest = rest (e ∙ h)
+absent (y ∷ columns) (a ∷ row) x out = grind (arith, common_steps, absent columns row x)
 
 -- a row of two, read in its first half and in its second
 front_read : (ca k : List ℕ) (ra r : List Value) (x : ℕ) → length ra ≡ length ca → among x ca ≡ true
     → valuation (ca ++ k) (ra ++ r) x ≡ valuation ca ra x
 front_read [] k ra r x size m = cc
 front_read (y ∷ ca) k [] r x size m = absurd (omega arith)
-front_read (y ∷ ca) k (a ∷ ra) r x size m = by (nat_eq x y) (front_read ca k ra r x (omega arith)) m
-  where
-    by : (b : Bool) → (among x ca ≡ true → valuation (ca ++ k) (ra ++ r) x ≡ valuation ca ra x)
-        → (b || among x ca) ≡ true → cond b a (valuation (ca ++ k) (ra ++ r) x) ≡ cond b a (valuation ca ra x)
-    by true rest h = refl
-    by false rest h = rest h
+front_read (y ∷ ca) k (a ∷ ra) r x size m = grind (arith, common_steps, front_read ca k ra r x (omega arith))
 
 back_read : (ca k : List ℕ) (ra r : List Value) (x : ℕ) → length ra ≡ length ca → among x ca ≡ false
     → valuation (ca ++ k) (ra ++ r) x ≡ valuation k r x
 back_read [] k [] r x size out = refl
 back_read [] k (a ∷ ra) r x size out = absurd (omega arith)
 back_read (y ∷ ca) k [] r x size out = absurd (omega arith)
-back_read (y ∷ ca) k (a ∷ ra) r x size out = by (nat_eq x y) (back_read ca k ra r x (omega arith)) out
-  where
-    by : (b : Bool) → (among x ca ≡ false → valuation (ca ++ k) (ra ++ r) x ≡ valuation k r x)
-        → (b || among x ca) ≡ false → cond b a (valuation (ca ++ k) (ra ++ r) x) ≡ valuation k r x
-    by true rest h = cc
-    by false rest h = rest h
+back_read (y ∷ ca) k (a ∷ ra) r x size out = grind (arith, common_steps, back_read ca k ra r x (omega arith))
 
 module _ (ca cb : List ℕ) (ra rb : List Value) (x : ℕ) (size : length ra ≡ length ca) where
   pub first_read : (more : List ℕ) → among x ca ≡ true
@@ -75,13 +59,10 @@ module _ (ca cb : List ℕ) (ra rb : List Value) (x : ℕ) (size : length ra ≡
     where
       by : (b : Bool) → among x cb ≡ b
           → valuation cb rb x ≡ valuation (others ca cb) (map (valuation cb rb) (others ca cb)) x
-      by true m = sym (read_own (valuation cb rb) (others ca cb) x (among_others ca cb x out m))
+      by true m = sym (read_own (valuation cb rb) (others ca cb) x
+          (among_others ca cb x ∙ grind (arith, common_steps)))
       by false m = absent cb rb x m ∙ sym (absent (others ca cb) (map (valuation cb rb) (others ca cb)) x
-          (lacks (among x (others ca cb)) refl))
-        where
-          lacks : (b : Bool) → among x (others ca cb) ≡ b → among x (others ca cb) ≡ false
-          lacks true h = absurd (let f : true ≡ false = sym (kept_among x ca cb h) ∙ m in cc)
-          lacks false h = h
+          (among_others ca cb x ∙ grind (arith, common_steps)))
 
 -- pairs are kept row by row
 pub kept_each : (p : List Value → Bool) (ca cb : List ℕ) (rows bs : List (List Value))
@@ -100,23 +81,11 @@ kept_alike c rows same columns xs =
     filter_agree (has_part (table_of_rows c.columns rows) columns) (has_part c columns)
     (λ row. same (part columns c.columns row)) xs
 
--- in order, before or after some are left out
-ordered_kept : (p : List Value → Bool) (xs : List (List Value))
-    → ascending row_cmp (filter p xs) ≡ filter p (ascending row_cmp xs)
-ordered_kept p xs =
-    let left : BTreeSet (List Value) = record { keys = ascending row_cmp (filter p xs) } in
-    let right : BTreeSet (List Value) = record { keys = filter p (ascending row_cmp xs) } in
-    btree_set_from_contains row_total left right (rows_ascend (filter p xs))
-    (IsStrictlySortedBy-filter row_cmp p (ascending row_cmp xs) (rows_ascend xs))
-    (λ q. has_ascending (filter p xs) q ∙ filtered_has q p xs
-    ∙ ap (λ b. b && p q) (sym (has_ascending xs q)) ∙ sym (filtered_has q p (ascending row_cmp xs)))
-    row_exact
-
 -- what is kept of the pairs that an index finds
 pub kept_of_join : (a b : TableOf) (p : List Value → Bool) (moved : List (List Value)) → IsPermutation b.rows moved
     → ascending row_cmp (filter p (pairs a.columns b.columns a.rows moved)) ≡ filter p (joined_rows a b)
 kept_of_join a b p moved perm =
-    ordered_kept p (pairs a.columns b.columns a.rows moved)
+    filter_ascending row_total row_exact p (pairs a.columns b.columns a.rows moved)
     ∙ ap (filter p) (join_moved a.columns b.columns b.rows moved perm a.rows)
 
 module _ (a b c : TableOf) (first : IsTable a.columns a.rows) (second : IsTable b.columns b.rows)

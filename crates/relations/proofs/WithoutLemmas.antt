@@ -1,7 +1,7 @@
 -- Tables without a column; and rows of which some were let go.
 use Rattle.std.proofs.Common.{subst, ◌≡◌, ◌↔◌, ℕ, Bool, true, false, not, nat_eq, List, [], ◌∷◌, length, map, refl}
-use Rattle.std.proofs.Common.{sym, ap, ◌∙◌}
-use Rattle.std.proofs.lemmas.Bool.{and_parts, and_from, cond-true, cond-false, not-true, eqb-true}
+use Rattle.std.proofs.Common.{sym, ap, ◌∙◌, arith}
+use Rattle.std.proofs.lemmas.Grind.{common_steps}
 use Rattle.std.specs.List.{items_where_true, AllByRecursion}
 use Rattle.std.specs.List.Sorted.{IsStrictlySortedBy}
 use Rattle.std.specs.declared.cmp.Ordering.TheVariants.{Less}
@@ -22,18 +22,10 @@ without_inside x columns = all_kept (λ y. not (nat_eq y x)) columns columns (λ
 module _ (v : Valuation) (x : ℕ) (columns : List ℕ) (rows : List (List Value)) (is : IsTable columns rows) where
   same_but : (w : Valuation) → ((y : ℕ) → among y (without x columns) ≡ true → w y ≡ v y)
       → (y : ℕ) → among y columns ≡ true → with_value v x (w x) y ≡ w y
-  same_but w same y m = by (nat_eq y x) refl
-    where
-      by : (b : Bool) → nat_eq y x ≡ b → with_value v x (w x) y ≡ w y
-      by true e = cond-true (nat_eq y x) (w x) (v y) e ∙ ap w (sym (eqb-true y x e))
-      by false e =
-          cond-false (nat_eq y x) (w x) (v y) e
-          ∙ sym (same y (among_without y x columns ∙ and_from (not (nat_eq y x)) (among y columns) (ap not e) m))
+  same_but w same y m = grind (arith, common_steps, same y, among_without y x columns)
 
   other_than : (a : Value) (y : ℕ) → among y (without x columns) ≡ true → with_value v x a y ≡ v y
-  other_than a y m =
-      cond-false (nat_eq y x) a (v y)
-      (not-true (nat_eq y x) (and_parts (not (nat_eq y x)) (among y columns) (sym (among_without y x columns) ∙ m)).0)
+  other_than a y m = grind (arith, common_steps, among_without y x columns)
 
   pub has_without : has_row (map (part columns (without x columns)) rows) (map v (without x columns)) ≡ true
       ↔ ((a : Value) × (has_row rows (map (with_value v x a) columns) ≡ true))
@@ -66,10 +58,8 @@ picked_sized : (n : ℕ) (bs : List Bool) (xs : List (List Value)) → all_sized
     → all_sized n (items_where_true bs xs) ≡ true
 picked_sized n [] xs h = refl
 picked_sized n (b ∷ bs) [] h = refl
-picked_sized n (true ∷ bs) (x ∷ xs) h =
-    let parts = and_parts (nat_eq (length x) n) (all_sized n xs) h in
-    and_from (nat_eq (length x) n) (all_sized n (items_where_true bs xs)) parts.0 (picked_sized n bs xs parts.1)
-picked_sized n (false ∷ bs) (x ∷ xs) h = picked_sized n bs xs (and_parts (nat_eq (length x) n) (all_sized n xs) h).1
+picked_sized n (true ∷ bs) (x ∷ xs) h = grind (arith, common_steps, picked_sized n bs xs)
+picked_sized n (false ∷ bs) (x ∷ xs) h = grind (arith, common_steps, picked_sized n bs xs)
 
 pub picked_is : (columns : List ℕ) (bs : List Bool) (rows rs : List (List Value)) → IsTable columns rows
     → rs ≡ items_where_true bs rows → IsTable columns rs

@@ -3,6 +3,7 @@ ghost use Rattle.relations.specs.Examples.{AntijoinLeavesOut, ChosenWhereItFails
 ghost use Rattle.relations.specs.Examples.{JoinAgreesInY, KeyFindsBoth, KeyFindsNone, ProjectionToY, UnionWithItself};
 
 /// Does nothing: each clause is what one operation gives.
+#[tactic(auto, unfolding(mfotl_model::specs::Tables::part, crate::specs::Operations::agree, crate::specs::Operations::chosen, crate::specs::Operations::combined, crate::specs::Operations::pairs, crate::specs::Operations::pairs_of))]
 pub fn worked_examples()
     ensures join { JoinAgreesInY }
     ensures antijoin { AntijoinLeavesOut }

@@ -24,7 +24,5 @@ returns-clause-has c = λ v.
     let b = c.args.second.now in
     let d = c.args.third.now in
     has_as c.in_ok-table.table (joined (joined a.columns b.columns) d.columns) (joined_rows (joined_table a b) d) v
-    (c.in_ok-table.ensures.columns ∙ sym (joined_within (joined a.columns b.columns) d.columns c.requires.inside))
-    (c.in_ok-table.ensures.rows ∙ kept_is a b d c.rows.ensures.is_table c.rows-2.ensures.is_table
-    c.rows-3.ensures.is_table c.requires.inside)
+    (returns-clause-columns c) (returns-clause-rows c)
     ∙ has_twice a b d c.rows.ensures.is_table c.rows-2.ensures.is_table c.rows-3.ensures.is_table v

@@ -1,30 +1,13 @@
-use Rattle.std.proofs.Common.{not, ◌∙◌}
-use Rattle.std.specs.List.{filter}
-use Rattle.mfotl_model.specs.Tables.{has_row, part}
-use Rattle.relations.specs.Operations.{unmatched_rows}
-use Rattle.relations.proofs.OperationLaws.{has_as, has_unmatched, some_of}
+use Rattle.std.proofs.Common.{rules}
+use Rattle.relations.proofs.OperationLaws.{some_is, unmatched_has}
 use Rattle.relations.proofs.table.Table.antijoin.Goals as goal
 
 pub from_ascending-requires : goal.from_ascending-requires
-from_ascending-requires c =
-    let a = c.args.self.now in
-    let b = c.args.other.now in
-    record {
-      is_table = some_of a.columns c.in_ok-columns.columns.items
-          (λ row. not (has_row b.rows (part a.columns b.columns row)))
-          a.rows c.in_ok-rows.rows.items c.rows.ensures.is_table
-          (c.in_ok-columns.ensures.ok ∙ c.columns.ensures.columns)
-          (c.in_ok-rows.ensures ∙ (λ i. filter (λ row. not (has_row (c.rows-seconds.ensures.rows i)
-          (part (c.columns-2.ensures.columns i) (c.columns-3.ensures.columns i) row))) (c.rows.ensures.rows i)));
-    }
+from_ascending-requires c = record {
+  is_table = rw (c.in_ok-rows.ensures, c.in_ok-columns.ensures.ok, c.columns.ensures.columns, c.rows.ensures.rows)
+      (some_is _ _ _ c.rows.ensures.is_table);
+}
 
 pub returns-clause-has : goal.returns-clause-has
 returns-clause-has c = λ v.
-    let a = c.args.self.now in
-    let b = c.args.other.now in
-    has_as c.from_ascending.result a.columns (unmatched_rows a b) v
-    (c.from_ascending.ensures.columns ∙ c.in_ok-columns.ensures.ok ∙ c.columns.ensures.columns)
-    (c.from_ascending.ensures.rows ∙ c.in_ok-rows.ensures
-    ∙ (λ i. filter (λ row. not (has_row (c.rows-seconds.ensures.rows i)
-    (part (c.columns-2.ensures.columns i) (c.columns-3.ensures.columns i) row))) (c.rows.ensures.rows i)))
-    ∙ has_unmatched a b v c.requires.inside
+    unmatched_has _ c.args.self.now c.args.other.now v (search rules) (search rules) c.requires.inside

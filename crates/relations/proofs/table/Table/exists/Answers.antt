@@ -1,6 +1,6 @@
-use Rattle.std.proofs.Common.{◌≡◌, not, nat_eq, length, map, sym, ap, ◌∙◌}
+use Rattle.std.proofs.Common.{◌≡◌, not, nat_eq, map, sym, ap, ◌∙◌}
 use Rattle.mfotl_model.specs.FreeVariables.{without}
-use Rattle.mfotl_model.specs.Tables.{all_apart, all_sized, has, has_row, part}
+use Rattle.mfotl_model.specs.Tables.{all_apart, has, has_row, part}
 use Rattle.mfotl_model.proofs.ColumnLemmas.{filter_apart}
 use Rattle.relations.proofs.OperationLaws.{sized_parts}
 use Rattle.relations.proofs.WithoutLemmas.{has_without}
@@ -13,9 +13,8 @@ from_rows-requires-clause-apart c =
 
 pub from_rows-requires-clause-sized : goal.from_rows-requires-clause-sized
 from_rows-requires-clause-sized c =
-    (λ i. all_sized (length c.in_ok-columns.columns.items) ((c.in_ok-rows.ensures
-    ∙ (λ j. map (part (c.columns-2.ensures.columns j) (c.as_slice.ensures j)) (c.rows.ensures.rows j))) i))
-    ∙ sized_parts c.args.self.now.columns c.in_ok-columns.columns.items c.args.self.now.rows
+    rw (c.in_ok-rows.ensures, c.columns-2.ensures.columns, c.as_slice.ensures, c.rows.ensures.rows)
+    (sized_parts c.args.self.now.columns c.in_ok-columns.columns.items c.args.self.now.rows)
 
 pub returns-clause-has : goal.returns-clause-has
 unfolding has

@@ -1,6 +1,6 @@
-use Rattle.std.proofs.Common.{map, ap, ◌∙◌}
-use Rattle.mfotl_model.specs.Tables.{has, has_row}
-use Rattle.relations.proofs.AscendingRows.{made_is, has_ascending}
+use Rattle.std.proofs.Common.{map, ◌∙◌}
+use Rattle.mfotl_model.specs.Tables.{has}
+use Rattle.relations.proofs.AscendingRows.{has_ascending, made_is}
 use Rattle.relations.proofs.table.Table.from_rows.Goals as goal
 
 pub invariant_of-result : goal.invariant_of-result
@@ -11,5 +11,4 @@ invariant_of-result c =
 pub returns-clause-has : goal.returns-clause-has
 unfolding has
 returns-clause-has c = λ v.
-    ap (λ rows. has_row rows (map v c.args.columns.items)) (c.into_vec.ensures ∙ c.in_order.ensures)
-    ∙ has_ascending c.args.rows.items (map v c.args.columns.items)
+    rw (c.into_vec.ensures, c.in_order.ensures) (has_ascending c.args.rows.items (map v c.args.columns.items))
