@@ -32,72 +32,35 @@ pub climbs_newest : (past : ℕ) (ts : List ℕ) (y : ℕ) → Climbs past ts y 
 climbs_newest past [] y climbs = omega arith
 climbs_newest past (t ∷ ts) y climbs = (climbs.0, climbs_newest t ts y climbs.1)
 
-stand_as : {X : Type 0} (P Q : ℕ → X → Type 0) (ok : X → Type 0) (p : ℕ) (xs : List X)
-    → ((i : ℕ) (x : X) → ok x → P i x → Q i x) → StandFrom (λ i x. ok x) p xs → StandFrom P p xs → StandFrom Q p xs
-stand_as P Q ok p [] gives good stands = tt
-stand_as P Q ok p (x ∷ xs) gives good stands =
-    (gives p x good.0 stands.0, stand_as P Q ok (p + 1) xs gives good.1 stands.1)
-
-over_stand : (columns : List ℕ) (p : ℕ) (tables : List TableOf) → AreOver columns tables
-    → StandFrom (λ i table. table.columns ≡ columns) p tables
-over_stand columns p [] over = tt
-over_stand columns p (x ∷ xs) over = (over.0, over_stand columns (p + 1) xs over.1)
-
--- the left operand's tables, by rows and by valuations
-pub lefts_hold : (left right : List ℕ) (negated : Bool) (a : List Bool) (v : Valuation) (p : ℕ) (tables : List TableOf)
-    → all_among left right ≡ true → AreOver left tables
-    → StandFrom (λ i table. left_has negated table.rows (part right left (map v right)) ≡ truth_at a i) p tables
-    → StandFrom (λ i table. left_holds negated table v ≡ truth_at a i) p tables
-lefts_hold left right negated a v p tables inside over stands =
-    stand_as (λ i table. left_has negated table.rows (part right left (map v right)) ≡ truth_at a i)
-    (λ i table. left_holds negated table v ≡ truth_at a i) (λ table. table.columns ≡ left) p tables
-    (λ i table columns h. sym (left_of table left right negated v inside columns) ∙ h)
-    (over_stand left p tables over) stands
-
-pub lefts_have : (left right : List ℕ) (negated : Bool) (a : List Bool) (v : Valuation) (p : ℕ) (tables : List TableOf)
-    → all_among left right ≡ true → AreOver left tables
-    → StandFrom (λ i table. left_holds negated table v ≡ truth_at a i) p tables
-    → StandFrom (λ i table. left_has negated table.rows (part right left (map v right)) ≡ truth_at a i) p tables
-lefts_have left right negated a v p tables inside over stands =
-    stand_as (λ i table. left_holds negated table v ≡ truth_at a i)
-    (λ i table. left_has negated table.rows (part right left (map v right)) ≡ truth_at a i)
-    (λ table. table.columns ≡ left) p tables
-    (λ i table columns h. left_of table left right negated v inside columns ∙ h)
-    (over_stand left p tables over) stands
-
--- the right operand's
-pub rights_hold : (right : List ℕ) (b : List Bool) (v : Valuation) (p : ℕ) (tables : List TableOf)
-    → AreOver right tables
-    → StandFrom (λ i table. has_row table.rows (map v right) ≡ truth_at b i) p tables
-    → StandFrom (λ i table. has table v ≡ truth_at b i) p tables
-rights_hold right b v p tables over stands =
-    stand_as (λ i table. has_row table.rows (map v right) ≡ truth_at b i) (λ i table. has table v ≡ truth_at b i)
-    (λ table. table.columns ≡ right) p tables
-    (λ i table columns h. sym (right_of table right v columns) ∙ h) (over_stand right p tables over) stands
-
-pub rights_have : (right : List ℕ) (b : List Bool) (v : Valuation) (p : ℕ) (tables : List TableOf)
-    → AreOver right tables
-    → StandFrom (λ i table. has table v ≡ truth_at b i) p tables
-    → StandFrom (λ i table. has_row table.rows (map v right) ≡ truth_at b i) p tables
-rights_have right b v p tables over stands =
-    stand_as (λ i table. has table v ≡ truth_at b i) (λ i table. has_row table.rows (map v right) ≡ truth_at b i)
-    (λ table. table.columns ≡ right) p tables
-    (λ i table columns h. right_of table right v columns ∙ h) (over_stand right p tables over) stands
+-- tables over the columns at which two tests say the same stand by the one as by the other
+stand_as : (test other : TableOf → Bool) (columns : List ℕ) (a : List Bool) (p : ℕ) (tables : List TableOf)
+    → ((table : TableOf) → table.columns ≡ columns → test table ≡ other table) → AreOver columns tables
+    → StandFrom (λ i table. test table ≡ truth_at a i) p tables
+    → StandFrom (λ i table. other table ≡ truth_at a i) p tables
+stand_as test other columns a p [] same over stands = tt
+stand_as test other columns a p (x ∷ xs) same over stands =
+    (sym (same x over.0) ∙ stands.0, stand_as test other columns a (p + 1) xs same over.1 stands.1)
 
 -- from a state to its data
-pub data_follows : (s : SinceOf) (kept : SinceData) (t : List ℕ) (a b : List Bool) (v : Valuation)
+pub data_follows : {s : SinceOf} {t : List ℕ} {a b : List Bool} {v : Valuation} (kept : SinceData)
+    → Follows s t a b v
     → all_among s.window.left s.window.right ≡ true → AreOver s.window.left s.lefts → AreOver s.window.right s.rights
     → kept.pulled ≡ s.pulled → kept.lefts.items ≡ s.lefts → kept.rights.items ≡ s.rights
     → ((x : ℕ) (u : List Value) → recalls s.window.interval kept.rows.items x u ≡ within s.window x u)
-    → Follows s t a b v → FollowsData (setting_of s) s.window.last s.times kept t a b v
-data_follows s kept t a b v inside over_left over pulled lefts rights rows f = record {
-  last = rw pulled f.last;
-  times = rw pulled f.times;
-  lefts = rw (pulled, lefts) (lefts_hold s.window.left s.window.right s.negated a v s.pulled s.lefts inside over_left
-      f.lefts);
-  rights = rw (pulled, rights) (rights_hold s.window.right b v s.pulled s.rights over f.rights);
-  window = rw pulled (λ x low. rows x (map v s.window.right) ∙ f.window x low);
-}
+    → FollowsData (setting_of s) s.window.last s.times kept t a b v
+data_follows {s} {t} {a} {b} {v} kept f inside over_left over pulled lefts rights rows =
+    let left = s.window.left in
+    let right = s.window.right in
+    record {
+      last = rw pulled f.last;
+      times = rw pulled f.times;
+      lefts = rw (pulled, lefts) (stand_as (λ x. left_has s.negated x.rows (part right left (map v right)))
+          (λ x. left_holds s.negated x v) left a s.pulled s.lefts
+          (λ x columns. left_of x left right s.negated v inside columns) over_left f.lefts);
+      rights = rw (pulled, rights) (stand_as (λ x. has_row x.rows (map v right)) (λ x. has x v) right b s.pulled
+          s.rights (λ x columns. right_of x right v columns) over f.rights);
+      window = rw pulled (λ x low. rows x (map v right) ∙ f.window x low);
+    }
 
 -- from data to the state that is resumed
 pub follows_resumed : (w : WindowOf) (interval : Interval) (left right : List ℕ) (negated : Bool) (past newest : ℕ)
@@ -122,8 +85,11 @@ follows_resumed w interval left right negated past newest next kept t a b v ei e
     record {
       last = λ some. ep ∙ f.last some;
       times = f.times;
-      lefts = rw (el, er) (lefts_have left right negated a v kept.pulled kept.lefts.items inside over_left f.lefts);
-      rights = rw er (rights_have right b v kept.pulled kept.rights.items over f.rights);
+      lefts = rw (el, er) (stand_as (λ x. left_holds negated x v)
+          (λ x. left_has negated x.rows (part right left (map v right))) left a kept.pulled kept.lefts.items
+          (λ x columns. sym (left_of x left right negated v inside columns)) over_left f.lefts);
+      rights = rw er (stand_as (λ x. has x v) (λ x. has_row x.rows (map v right)) right b kept.pulled
+          kept.rights.items (λ x columns. sym (right_of x right v columns)) over f.rights);
       window = λ x low.
           ap (λ ts. reaches w.interval ts x) (found (map v w.right))
           ∙ (λ i. reaches (ei i) (times_for kept.rows.items (map v (er i))) x)

@@ -1,7 +1,7 @@
 -- The queue made of the rows of plain data: it finds each of their times, the earliest first.
 use Rattle.std.proofs.Common.{◌≡◌, ℕ, suc, ◌≤◌, Bool, true, false, cond, nat_eq, nat_le, ◌&&◌, List, []}
 use Rattle.std.proofs.Common.{◌∷◌, Some, refl, arith}
-use Rattle.std.proofs.lemmas.Bool.{and_from, or_left, or_right}
+use Rattle.std.proofs.lemmas.Bool.{or_left, or_right}
 use Rattle.std.proofs.lemmas.Bool.Decides.{nat_tests}
 use Rattle.std.specs.BTreeMap.{is_at}
 use Rattle.std.specs.List.{AllByRecursion, list_all, list_any}
@@ -37,13 +37,11 @@ names_own (k ∷ ks) v = by (is_at (row_cmp v) k.row) refl (names_own ks v)
 pub past_all : (x : ℕ) (ts : List ℕ) → ArePast x ts → list_all (λ t. nat_le t x) ts ≡ true
 past_all x [] past = refl
 past_all x (t ∷ ts) past =
-    let first : t ≤ x = past 0 (omega arith) in
-    and_from (nat_le t x) (list_all (λ s. nat_le s x) ts) (grind (arith, nat_tests))
-    (past_all x ts (λ k l. past (suc k) (omega arith)))
+    let rest = past_all x ts (λ k l. past (suc k) (omega arith)) in
+    grind (arith, nat_tests, past 0 (omega arith), rest)
 
 -- what each row's times pass
 pub all_each : (p : ℕ → Bool) (rows : List KeptRow) → AllByRecursion (λ k. list_all p k.times.items ≡ true) rows
     → list_all (λ k. list_all p k.times.items) rows ≡ true
 all_each p [] all = refl
-all_each p (k ∷ ks) all =
-    and_from (list_all p k.times.items) (list_all (λ k. list_all p k.times.items) ks) all.0 (all_each p ks all.1)
+all_each p (k ∷ ks) all = grind (arith, all.0, all_each p ks all.1)

@@ -9,12 +9,12 @@ use Rattle.std.specs.BTreeMap.{is_at}
 use Rattle.std.specs.Cmp.{eq_by_cmp_equiv}
 use Rattle.std.specs.List.{AllByRecursion, IsDistinct, list_any, position, position_or_len, remove}
 use Rattle.std.specs.Map.{keys_of, remove_entry, set_value}
-use Rattle.std.specs.Option.{IfSome, IsSome, is_some, unwrap_or}
+use Rattle.std.specs.Option.{IsSome, is_some, unwrap_or}
 use Rattle.std.specs.Ordering.{eq_by_cmp}
 use Rattle.mfotl_model.specs.Values.{row_cmp, row_total}
 use Rattle.mfotl_model.specs.declared.value.Value.{Value}
 use Rattle.relations.proofs.KeptLemmas.{differ_tail, each_after, none_behind}
-use Rattle.relations.proofs.MapLemmas.{changed, same_row}
+use Rattle.relations.proofs.MapLemmas.{changed, either, same_row}
 use Rattle.relations.specs.KeptRows.{RowsDiffer, kept_for, list_for}
 use Rattle.eval_since.specs.Groups.{HaveTimes}
 
@@ -47,10 +47,9 @@ module _ {X : Type 0} (row : List Value) where
 
   found_there : (es : List (List Value × X)) (i : ℕ) (d : List Value × X) → IsPlace es i
       → kept_for es row ≡ Some (get_or es i d).1
-  found_there [] i d at = absurd (let w : i < 0 = at.1 in omega arith)
+  found_there [] i d at = grind arith
   found_there (e ∷ es) i d at = beyond (λ j. kept_for (e ∷ es) row ≡ Some (get_or (e ∷ es) j d).1) e es i at
-      (λ is. ap (λ b. cond b (Some e.1) (kept_for es row)) is)
-      (λ apart j there. ap (λ b. cond b (Some e.1) (kept_for es row)) apart ∙ found_there es j d there)
+      (λ is. grind arith) (λ apart j there. grind (arith, found_there es j d there))
 
   -- what stands at its place is kept for it
   found : (es : List (List Value × X)) (i : ℕ) (e : List Value × X) → position is_its es ≡ Some i
@@ -59,22 +58,14 @@ module _ {X : Type 0} (row : List Value) where
 
   not_found : (es : List (List Value × X)) → length es ≤ position_or_len is_its es → kept_for es row ≡ None
   not_found [] past = refl
-  not_found (e ∷ es) past = by (is_at (row_cmp row) e.0) past (not_found es)
-    where
-      by : (b : Bool) → suc (length es) ≤ cond (not b) (1 + position_or_len is_its es) 0
-          → (length es ≤ position_or_len is_its es → kept_for es row ≡ None)
-          → cond b (Some e.1) (kept_for es row) ≡ None
-      by true past rest = absurd (omega arith)
-      by false past rest = rest (omega arith)
+  not_found (e ∷ es) past = grind (arith, not_found es)
 
   pub absent : (es : List (List Value × X)) → position is_its es ≡ None → kept_for es row ≡ None
   absent es e = not_found es (grind (arith, common_steps))
 
   some_there : (es : List (List Value × X)) (i : ℕ) → IsPlace es i → is_some (kept_for es row) ≡ true
-  some_there [] i at = absurd (let w : i < 0 = at.1 in omega arith)
-  some_there (e ∷ es) i at = beyond (λ j. is_some (kept_for (e ∷ es) row) ≡ true) e es i at
-      (λ is. ap (λ b. is_some (cond b (Some e.1) (kept_for es row))) is)
-      (λ apart j there. ap (λ b. is_some (cond b (Some e.1) (kept_for es row))) apart ∙ some_there es j there)
+  some_there [] i at = grind arith
+  some_there (e ∷ es) i at = ap is_some (found_there (e ∷ es) i e at)
 
   -- it has a place where something is kept for it
   pub placed : (es : List (List Value × X)) → is_some (position is_its es) ≡ is_some (kept_for es row)
@@ -90,9 +81,7 @@ module _ {X : Type 0} (row : List Value) where
   written_is [] i d w at = refl
   written_is (e ∷ es) i d w at =
       beyond (λ j. set (e ∷ es) j ((get_or (e ∷ es) j d).0, w) ≡ set_value (is_at (row_cmp row)) (e ∷ es) w) e es i at
-      (λ is. sym (ap (λ b. cond b ((e.0, w) ∷ es) (e ∷ set_value (is_at (row_cmp row)) es w)) is))
-      (λ apart j there. ap (λ fs. e ∷ fs) (written_is es j d w there)
-      ∙ sym (ap (λ b. cond b ((e.0, w) ∷ es) (e ∷ set_value (is_at (row_cmp row)) es w)) apart))
+      (λ is. grind arith) (λ apart j there. grind (arith, written_is es j d w there))
 
   as_written : (es : List (List Value × X)) (i : ℕ) (e : List Value × X) (w : X) → position is_its es ≡ Some i
       → e ≡ get_or es i e → set es i (e.0, w) ≡ set_value (is_at (row_cmp row)) es w
@@ -114,12 +103,10 @@ module _ {X : Type 0} (row : List Value) where
   -- ---- without it
   removed_is : (es : List (List Value × X)) (i : ℕ) → IsPlace es i
       → remove es i ≡ remove_entry (is_at (row_cmp row)) es
-  removed_is [] i at = absurd (let w : i < 0 = at.1 in omega arith)
+  removed_is [] i at = grind arith
   removed_is (e ∷ es) i at =
       beyond (λ j. remove (e ∷ es) j ≡ remove_entry (is_at (row_cmp row)) (e ∷ es)) e es i at
-      (λ is. sym (ap (λ b. cond b es (e ∷ remove_entry (is_at (row_cmp row)) es)) is))
-      (λ apart j there. ap (λ fs. e ∷ fs) (removed_is es j there)
-      ∙ sym (ap (λ b. cond b es (e ∷ remove_entry (is_at (row_cmp row)) es)) apart))
+      (λ is. grind arith) (λ apart j there. grind (arith, removed_is es j there))
 
   -- what was written where it stood is gone too
   unwritten : (es : List (List Value × X)) (i : ℕ) (e : List Value × X) → remove (set es i e) i ≡ remove es i
@@ -137,22 +124,19 @@ module _ {X : Type 0} (row : List Value) where
   each_left : (P : List Value → Type 0) (es : List (List Value × X)) → AllByRecursion P (keys_of es)
       → AllByRecursion P (keys_of (remove_entry (is_at (row_cmp row)) es))
   each_left P [] all = tt
-  each_left P (e ∷ es) all = by (is_at (row_cmp row) e.0) (each_left P es all.1)
-    where
-      by : (b : Bool) → AllByRecursion P (keys_of (remove_entry (is_at (row_cmp row)) es))
-          → AllByRecursion P (keys_of (cond b es (e ∷ remove_entry (is_at (row_cmp row)) es)))
-      by true rest = all.1
-      by false rest = (all.0, rest)
+  each_left P (e ∷ es) all =
+      let rest = each_left P es all.1 in
+      either (λ fs. AllByRecursion P (keys_of fs)) (is_at (row_cmp row) e.0) es
+      (e ∷ remove_entry (is_at (row_cmp row)) es) (remove_entry (is_at (row_cmp row)) (e ∷ es)) refl all.1 (all.0, rest)
 
   differ_left : (es : List (List Value × X)) → RowsDiffer es → RowsDiffer (remove_entry (is_at (row_cmp row)) es)
   unfolding IsDistinct
   differ_left [] apart = tt
-  differ_left (e ∷ es) apart = by (is_at (row_cmp row) e.0) (differ_left es apart.1)
-    where
-      by : (b : Bool) → RowsDiffer (remove_entry (is_at (row_cmp row)) es)
-          → RowsDiffer (cond b es (e ∷ remove_entry (is_at (row_cmp row)) es))
-      by true rest = apart.1
-      by false rest = (each_left (λ y. eq_by_cmp row_cmp e.0 y ≡ false) es apart.0, rest)
+  differ_left (e ∷ es) apart =
+      let rest = differ_left es apart.1 in
+      either RowsDiffer (is_at (row_cmp row) e.0) es (e ∷ remove_entry (is_at (row_cmp row)) es)
+      (remove_entry (is_at (row_cmp row)) (e ∷ es)) refl apart.1
+      (each_left (λ y. eq_by_cmp row_cmp e.0 y ≡ false) es apart.0, rest)
 
   pub removed_differ : (es : List (List Value × X)) (i : ℕ) (e : List Value × X) → position is_its es ≡ Some i
       → RowsDiffer es → RowsDiffer (remove (set es i e) i)
@@ -162,34 +146,13 @@ module _ {X : Type 0} (row : List Value) where
   -- ---- with it behind the others, where it isn't there
   pushed : (es : List (List Value × X)) (w : X) → kept_for es row ≡ None → (v : List Value)
       → kept_for (es ++ (row, w) ∷ []) v ≡ cond (is_at (row_cmp row) v) (Some w) (kept_for es v)
-  pushed [] w none v = ap (λ b. cond b (Some w) None) ((eq_by_cmp_equiv row_total).symm v row)
-  pushed (e ∷ es) w none v = by (is_at (row_cmp row) e.0) refl none (pushed es w)
-    where
-      at_head : is_at (row_cmp row) e.0 ≡ false → (b : Bool) → is_at (row_cmp v) e.0 ≡ b
-          → kept_for (es ++ (row, w) ∷ []) v ≡ cond (is_at (row_cmp row) v) (Some w) (kept_for es v)
-          → cond b (Some e.1) (kept_for (es ++ (row, w) ∷ []) v)
-          ≡ cond (is_at (row_cmp row) v) (Some w) (cond b (Some e.1) (kept_for es v))
-      at_head apart true is rest = sym (ap (λ b. cond b (Some w) (Some e.1))
-          (ap (is_at (row_cmp row)) (same_row v e.0 is) ∙ apart))
-      at_head apart false is rest = rest
-
-      by : (b : Bool) → is_at (row_cmp row) e.0 ≡ b → cond b (Some e.1) (kept_for es row) ≡ None
-          → (kept_for es row ≡ None → (u : List Value)
-          → kept_for (es ++ (row, w) ∷ []) u ≡ cond (is_at (row_cmp row) u) (Some w) (kept_for es u))
-          → kept_for ((e ∷ es) ++ (row, w) ∷ []) v ≡ cond (is_at (row_cmp row) v) (Some w) (kept_for (e ∷ es) v)
-      by true is gone rest = absurd (let f : Some e.1 ≡ None = gone in cc)
-      by false is gone rest = at_head is (is_at (row_cmp v) e.0) refl (rest gone v)
+  pushed [] w none v = grind (arith, (eq_by_cmp_equiv row_total).symm v row)
+  pushed (e ∷ es) w none v = grind (arith, same_row v e.0, pushed es w)
 
   none_equal : (es : List (List Value × X)) → kept_for es row ≡ None
       → list_any (eq_by_cmp row_cmp row) (keys_of es) ≡ false
   none_equal [] none = refl
-  none_equal (e ∷ es) none = by (is_at (row_cmp row) e.0) refl none (none_equal es)
-    where
-      by : (b : Bool) → is_at (row_cmp row) e.0 ≡ b → cond b (Some e.1) (kept_for es row) ≡ None
-          → (kept_for es row ≡ None → list_any (eq_by_cmp row_cmp row) (keys_of es) ≡ false)
-          → list_any (eq_by_cmp row_cmp row) (keys_of (e ∷ es)) ≡ false
-      by true is gone rest = absurd (let f : Some e.1 ≡ None = gone in cc)
-      by false is gone rest = rw is (rest gone)
+  none_equal (e ∷ es) none = grind (arith, none_equal es)
 
   keys_pushed : (es : List (List Value × X)) (w : X) → keys_of (es ++ (row, w) ∷ []) ≡ keys_of es ++ row ∷ []
   keys_pushed [] w = refl
@@ -264,28 +227,14 @@ pub put_once : (es : List (List Value × List ℕ)) → RowsDiffer es → (u : L
     → put_all es u ts ≡ unwrap_or (kept_for es u) ts
 put_once [] apart u ts = refl
 put_once (e ∷ es) apart u ts =
-    put_once es (differ_tail e es apart) u (cond (is_at (row_cmp e.0) u) e.1 ts)
-    ∙ ap (λ b. unwrap_or (kept_for es u) (cond b e.1 ts)) ((eq_by_cmp_equiv row_total).symm e.0 u)
-    ∙ by (is_at (row_cmp u) e.0) refl
-  where
-    by : (b : Bool) → is_at (row_cmp u) e.0 ≡ b
-        → unwrap_or (kept_for es u) (cond b e.1 ts) ≡ unwrap_or (cond b (Some e.1) (kept_for es u)) ts
-    by true at = ap (λ o. unwrap_or o e.1) (none_behind u e es apart at)
-    by false at = refl
+    let rest = put_once es (differ_tail e es apart) u (cond (is_at (row_cmp e.0) u) e.1 ts) in
+    grind (arith, rest, (eq_by_cmp_equiv row_total).symm e.0 u, none_behind u e es apart)
 
 -- each of them has times
 pub each_has : (es : List (List Value × List ℕ)) → RowsDiffer es → HaveTimes es
     → AllByRecursion (λ (e : List Value × List ℕ). 0 < length e.1) es
 each_has [] apart have = tt
 each_has (e ∷ es) apart have = (
-  subst (λ (b : Bool). IfSome (cond b (Some e.1) (kept_for es e.0)) (λ (ts : List ℕ). 0 < length ts))
-      ((eq_by_cmp_equiv row_total).refl e.0) (have e.0),
-  each_has es (differ_tail e es apart) (λ v. by v (is_at (row_cmp v) e.0) refl (have v)),
+  grind (arith, have e.0, (eq_by_cmp_equiv row_total).refl e.0),
+  each_has es (differ_tail e es apart) (λ v. grind (arith, have v, none_behind v e es apart)),
 )
-  where
-    by : (v : List Value) (b : Bool) → is_at (row_cmp v) e.0 ≡ b
-        → IfSome (cond b (Some e.1) (kept_for es v)) (λ (ts : List ℕ). 0 < length ts)
-        → IfSome (kept_for es v) (λ (ts : List ℕ). 0 < length ts)
-    by v true at has = subst (λ (o : Option (List ℕ)). IfSome o (λ (ts : List ℕ). 0 < length ts))
-        (sym (none_behind v e es apart at)) tt
-    by v false at has = has

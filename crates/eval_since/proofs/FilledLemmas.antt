@@ -1,19 +1,19 @@
 -- Each row that is kept has a time, and each group a row.
-use Rattle.std.proofs.Common.{◌≡◌, ℕ, ◌<◌, Bool, true, false, cond, nat_eq, List, [], ◌∷◌, ◌++◌, length}
+use Rattle.std.proofs.Common.{◌≡◌, ℕ, ◌<◌, Bool, false, cond, nat_eq, List, [], ◌∷◌, ◌++◌, length}
 use Rattle.std.proofs.Common.{Option, Some, None, sym, subst, ap, ◌∙◌, arith}
-use Rattle.std.proofs.lemmas.Bool.{or_left}
+use Rattle.std.proofs.lemmas.Grind.{common_steps}
 use Rattle.std.proofs.lemmas.Map.Entries.{lookup-filter-keys}
 use Rattle.std.specs.BTreeMap.{is_at}
 use Rattle.std.specs.Cmp.{eq_by_cmp_equiv}
 use Rattle.std.specs.List.{filter}
-use Rattle.std.specs.Option.{IfSome, unwrap_or}
+use Rattle.std.specs.Option.{IfSome}
 use Rattle.mfotl_model.specs.Tables.{has_row}
 use Rattle.mfotl_model.specs.Values.{row_cmp, row_total}
 use Rattle.mfotl_model.specs.declared.value.Value.{Value}
 use Rattle.relations.specs.KeptRows.{kept_for, list_for}
 use Rattle.relations.proofs.MapLemmas.{either, same_row}
 use Rattle.eval_since.specs.Groups.{HaveTimes, NoneEmpty}
-use Rattle.eval_since.specs.Times.{added, is_new}
+use Rattle.eval_since.specs.Times.{added}
 
 -- a group has a row, and each of its rows a time
 abbrev pub IsFilled : List (List Value × List ℕ) → Type 0
@@ -49,26 +49,17 @@ found_filled key groups group is all =
 -- each row of the group at a part has a time, also where none is kept there
 pub had_times : (key : List Value) (groups : List (List Value × List (List Value × List ℕ)))
     (group : List (List Value × List ℕ)) → group ≡ list_for groups key → NoneEmpty groups → HaveTimes group
-had_times key groups group is all =
-    subst HaveTimes (sym is) (by (kept_for groups key) (all key))
-  where
-    by : (o : Option (List (List Value × List ℕ))) → IfSome o IsFilled → HaveTimes (unwrap_or o [])
-    by None _ = λ v. tt
-    by (Some found) filled = filled.1
+had_times key groups group is all v = grind (arith, all key)
 
 -- after one time more there are some
 pub some_added : (bounded : Bool) (ts : List ℕ) (x : ℕ) → 0 < length (added bounded ts x)
 unfolding added
-some_added bounded [] x = let w : 0 < length (x ∷ []) = omega arith in w
-some_added bounded (t ∷ ts) x = by (is_new bounded (t ∷ ts) x)
-  where
-    by : (b : Bool) → 0 < length (cond b ((t ∷ ts) ++ x ∷ []) (t ∷ ts))
-    by true = omega arith
-    by false = omega arith
+some_added bounded [] x = grind arith
+some_added bounded (t ∷ ts) x = grind (arith, common_steps)
 
 -- a group that has times for a row has a row
 row_there : (group : List (List Value × List ℕ)) (v : List Value) → 0 < length (list_for group v) → 0 < length group
-row_there [] v some = absurd (let w : 0 < 0 = some in omega arith)
+row_there [] v some = grind arith
 row_there (e ∷ es) v some = omega arith
 
 -- a group has the row that it was given times for
@@ -76,24 +67,16 @@ pub row_changed : (h : List ℕ → List ℕ) (row : List Value) (old new : List
     → ((v : List Value) → list_for new v ≡ cond (is_at (row_cmp row) v) (h (list_for old v)) (list_for old v))
     → 0 < length (h (list_for old row)) → 0 < length new
 row_changed h row old new is some =
-    row_there new row (subst (λ (ts : List ℕ). 0 < length ts) (sym (is row
-    ∙ ap (λ b. cond b (h (list_for old row)) (list_for old row)) ((eq_by_cmp_equiv row_total).refl row))) some)
+    row_there new row (grind (arith, is row, (eq_by_cmp_equiv row_total).refl row))
 
 -- a group has some of the rows that it was given times for
 pub rows_changed : (h : List ℕ → List ℕ) (rows : List (List Value)) (old new : List (List Value × List ℕ))
     → ((v : List Value) → list_for new v ≡ cond (has_row rows v) (h (list_for old v)) (list_for old v))
     → ((ts : List ℕ) → 0 < length (h ts)) → nat_eq (length rows) 0 ≡ false → 0 < length new
-rows_changed h [] old new is some full = absurd (let w : true ≡ false = full in cc)
+rows_changed h [] old new is some full = cc
 rows_changed h (row ∷ rows) old new is some full =
-    row_there new row (subst (λ (ts : List ℕ). 0 < length ts) (sym (is row
-    ∙ ap (λ b. cond b (h (list_for old row)) (list_for old row))
-    (or_left (is_at (row_cmp row) row) (has_row rows row) ((eq_by_cmp_equiv row_total).refl row))))
-    (some (list_for old row)))
+    row_there new row (grind (arith, is row, (eq_by_cmp_equiv row_total).refl row, some (list_for old row)))
 
 -- one row
 pub one_has : (first : List Value) (ts : List ℕ) → 0 < length ts → HaveTimes ((first, ts) ∷ [])
-one_has first ts some = λ v. by (is_at (row_cmp v) first)
-  where
-    by : (b : Bool) → IfSome (cond b (Some ts) None) (λ (times : List ℕ). 0 < length times)
-    by true = some
-    by false = tt
+one_has first ts some v = grind arith

@@ -1,11 +1,11 @@
 -- What is left where old times of a group's rows are forgotten.
-use Rattle.std.proofs.Common.{◌≡◌, ℕ, Bool, true, false, cond, ◌&&◌, nat_eq, List, [], length, Some, None, refl, sym}
-use Rattle.std.proofs.Common.{subst, ap, ◌∙◌, Option}
+use Rattle.std.proofs.Common.{arith, ◌≡◌, ℕ, Bool, true, cond, ◌&&◌, nat_eq, List, [], length, Some, None, refl}
+use Rattle.std.proofs.Common.{subst, ap, ◌∙◌}
 use Rattle.std.specs.BTreeMap.{is_at}
 use Rattle.std.specs.Cmp.{eq_by_cmp_equiv}
 use Rattle.std.specs.HashMap.{HashMap, WritesThrough}
 use Rattle.std.specs.Map.{lookup}
-use Rattle.std.specs.Option.{IfSome, IsSome, unwrap_or}
+use Rattle.std.specs.Option.{IsSome, unwrap_or}
 use Rattle.std.specs.Ordering.{eq_by_cmp}
 use Rattle.mfotl_model.specs.Values.{row_cmp, row_total}
 use Rattle.mfotl_model.specs.declared.value.Value.{Value}
@@ -14,7 +14,7 @@ use Rattle.relations.proofs.MapLemmas.{nothing_there, same_row}
 use Rattle.relations.specs.KeptRows.{kept_for, list_for}
 use Rattle.eval_since.specs.Groups.{HaveTimes, NoneEmpty, NoneEmptyBut, times_at}
 use Rattle.eval_since.specs.Times.{recent}
-use Rattle.eval_since.proofs.FilledLemmas.{IsFilled, found_filled}
+use Rattle.eval_since.proofs.FilledLemmas.{found_filled}
 use Rattle.eval_since.proofs.GroupLemmas.{nothing_recent, regrouped}
 
 -- in a group that isn't there
@@ -42,31 +42,16 @@ module _ {S : Type 0} (key : List Value) (m n : HashMap (List Value) (List (List
       (ap (λ o. unwrap_or o []) is) inner
 
   pub leaves_none : nat_eq (length g) 0 ≡ true → list_for n.entries key ≡ []
-  leaves_none none = ap (λ o. unwrap_or o []) (changes key
-      ∙ ap (λ b. cond b (Some g) (kept_for m.entries key)) ((eq_by_cmp_equiv row_total).refl key))
-      ∙ sym (empty_list g none)
+  leaves_none none = grind (arith, changes key, (eq_by_cmp_equiv row_total).refl key, empty_list g none)
 
   pub leaves_filled : (HaveTimes e → HaveTimes g) → NoneEmpty m.entries
       → NoneEmptyBut (nat_eq (length g) 0) key n.entries
-  leaves_filled stay all q = subst
-      (λ (o : Option (List (List Value × List ℕ))).
-      IfSome (cond (nat_eq (length g) 0 && is_at (row_cmp key) q) None o) IsFilled)
-      (sym (changes q)) (by (is_at (row_cmp key) q) (nat_eq (length g) 0) refl)
-    where
-      by : (b c : Bool) → nat_eq (length g) 0 ≡ c
-          → IfSome (cond (c && b) None (cond b (Some g) (kept_for m.entries q))) IsFilled
-      by true true w = tt
-      by true false w = (not_empty g w, stay (found_filled key m.entries e is all).1)
-      by false true w = all q
-      by false false w = all q
+  leaves_filled stay all q =
+      let filled = found_filled key m.entries e is all in
+      grind (arith, changes q, all q, not_empty g, stay filled.1)
 
 -- where a group without rows goes, each row keeps its times
 pub none_lost : (key q v : List Value) (old new : List (List Value × List (List Value × List ℕ)))
     → list_for old key ≡ [] → kept_for new q ≡ cond (is_at (row_cmp key) q) None (kept_for old q)
     → times_at new q v ≡ times_at old q v
-none_lost key q v old new none gone = ap (λ o. list_for (unwrap_or o []) v) gone ∙ by (is_at (row_cmp key) q) refl
-  where
-    by : (b : Bool) → is_at (row_cmp key) q ≡ b
-        → list_for (unwrap_or (cond b None (kept_for old q)) []) v ≡ times_at old q v
-    by true at = ap (λ g. list_for g v) (sym none ∙ ap (list_for old) (same_row key q at))
-    by false at = refl
+none_lost key q v old new none gone = grind (arith, same_row key q)

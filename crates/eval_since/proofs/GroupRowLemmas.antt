@@ -1,8 +1,7 @@
 -- Changes of a group's rows, one after another.
-use Rattle.std.proofs.Common.{◌≡◌, ℕ, ◌+◌, ◌<◌, Bool, true, false, cond, ◌&&◌, ◌||◌, nat_eq, List, [], ◌∷◌, length}
-use Rattle.std.proofs.Common.{get_or, take, Result, refl, sym, subst, ap, ◌∙◌}
+use Rattle.std.proofs.Common.{arith, ◌≡◌, ℕ, ◌+◌, ◌<◌, Bool, true, cond, ◌&&◌, ◌||◌, nat_eq, List, [], ◌∷◌, length}
+use Rattle.std.proofs.Common.{get_or, take, Result, sym, ap, ◌∙◌}
 use Rattle.std.proofs.lemmas.Result.{on_ok_weaker}
-use Rattle.std.proofs.Math.Bool.{and-false}
 use Rattle.std.specs.BTreeMap.{is_at}
 use Rattle.std.specs.Cmp.{eq_by_cmp_equiv}
 use Rattle.std.specs.Result.{OnOk}
@@ -27,16 +26,12 @@ pub all_together : {T E : Type 0} (result : Result T E) (right left : List ℕ) 
     → OnOk result ((q v : List Value) → times_at new q v
     ≡ cond (is_at (row_cmp (part right left v)) q && has_row rows v) (h (times_at old q v)) (times_at old q v))
 all_together result right left h rows old new none =
-    on_ok_weaker result (λ times q v.
-    subst (λ (k : List Value). times_at new q v
-    ≡ cond (is_at (row_cmp k) q && has_row rows v) (h (times_at old q v)) (times_at old q v))
-    (no_part right left v none) (times q v))
+    on_ok_weaker result (λ times q v. rw (← no_part right left v none) (times q v))
 
 -- no rows change nothing
 pub no_rows : (rows : List (List Value)) (v : List Value) (b : Bool) (more old : List ℕ) → nat_eq (length rows) 0 ≡ true
     → old ≡ cond (b && has_row rows v) more old
-no_rows rows v b more old none =
-    sym (ap (λ c. cond c more old) (ap (λ rs. b && has_row rs v) (sym (empty_list rows none)) ∙ and-false b))
+no_rows rows v b more old none = grind (arith, empty_list rows none)
 
 module _ (h : List ℕ → List ℕ) (twice : (ts : List ℕ) → h (h ts) ≡ h ts) where
   -- one more row
@@ -45,28 +40,10 @@ module _ (h : List ℕ → List ℕ) (twice : (ts : List ℕ) → h (h ts) ≡ h
       → cur ≡ cond (has_row (take i rows) v) (h old) old
       → new ≡ cond (is_at (row_cmp x) v) (h cur) cur
       → new ≡ cond (has_row (take (i + 1) rows) v) (h old) old
-  row_more rows i x v old cur new low e before step =
-      step
-      ∙ ap (λ ts. cond (is_at (row_cmp x) v) (h ts) ts) before
-      ∙ by (has_row (take i rows) v) (is_at (row_cmp x) v)
-      ∙ sym (ap (λ b. cond b (h old) old) (has_more rows i x v low e))
-    where
-      by : (b c : Bool) → cond c (h (cond b (h old) old)) (cond b (h old) old) ≡ cond (b || c) (h old) old
-      by true true = twice old
-      by true false = refl
-      by false true = refl
-      by false false = refl
+  row_more rows i x v old cur new low e before step = grind (arith, twice, has_more rows i x v low e)
 
   -- one row, before the rest
   pub row_rest : (x v : List Value) (rest : List (List Value)) (cur new : List ℕ)
       → new ≡ cond (is_at (row_cmp x) v) (h cur) cur
       → cond (has_row rest v) (h new) new ≡ cond (has_row (x ∷ rest) v) (h cur) cur
-  row_rest x v rest cur new step =
-      ap (λ ts. cond (has_row rest v) (h ts) ts) step
-      ∙ by (is_at (row_cmp x) v) (has_row rest v)
-      ∙ ap (λ b. cond (b || has_row rest v) (h cur) cur) ((eq_by_cmp_equiv row_total).symm x v)
-    where
-      by : (b c : Bool) → cond c (h (cond b (h cur) cur)) (cond b (h cur) cur) ≡ cond (b || c) (h cur) cur
-      by true true = twice cur
-      by true false = refl
-      by false c = refl
+  row_rest x v rest cur new step = grind (arith, twice, (eq_by_cmp_equiv row_total).symm x v)

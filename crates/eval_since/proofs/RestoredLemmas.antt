@@ -1,6 +1,6 @@
 -- What a window keeps, from the rows of plain data, and what the data keeps, from a window.
 use Rattle.std.proofs.Common.{◌≡◌, ℕ, ◌-◌, ◌<◌, ◌≤◌, Bool, true, false, cond, nat_le, List, [], ◌∷◌, length, map}
-use Rattle.std.proofs.Common.{Option, Some, None, refl, sym, subst, ap, ◌∙◌, arith}
+use Rattle.std.proofs.Common.{Option, Some, None, refl, ap, ◌∙◌, arith}
 use Rattle.std.specs.BTreeMap.{is_at}
 use Rattle.std.specs.List.{AllByRecursion, list_all}
 use Rattle.std.specs.List.Sorted.{IsStrictlyIncreasing}
@@ -16,6 +16,7 @@ use Rattle.eval_since.specs.Times.{ArePast}
 use Rattle.eval_since.specs.Windows.{FindsOldTimes, Keeps, Rising, names}
 use Rattle.eval_since.specs.declared.recalled.KeptRow.{KeptRow}
 use Rattle.eval_since.specs.declared.contents.Dated.{Dated}
+use Rattle.relations.proofs.MapLemmas.{either}
 use Rattle.relations.proofs.TestLemmas.{all_weaker}
 use Rattle.eval_since.proofs.DatedLemmas.{all_each, names_own, past_all}
 use Rattle.eval_since.proofs.ExpireLemmas.{bounded_is}
@@ -34,15 +35,15 @@ window_keeps hi right left last groups queue rows keeps up found =
       some = some;
       ascend = keeps.ascend (part right left u) u;
       past = keeps.past (part right left u) u;
-      bounded = by u hi (bounded_is hi last groups queue keeps.finds);
+      bounded = bounded_at u hi (bounded_is hi last groups queue keeps.finds);
       alone = λ none. keeps.alone none (part right left u) u;
     })
   where
-    by : (u : List Value) (o : Option ℕ)
+    bounded_at : (u : List Value) (o : Option ℕ)
         → IfSome o (λ h. (q v : List Value) → list_all (λ y. nat_le (last - y) h) (times_at groups q v) ≡ true)
         → IfSome o (λ h. list_all (λ y. nat_le (last - y) h) (times_at groups (part right left u) u) ≡ true)
-    by u None all = tt
-    by u (Some h) all = all (part right left u) u
+    bounded_at u None all = tt
+    bounded_at u (Some h) all = all (part right left u) u
 
 -- what is put into groups is found in the group of its part alone
 pub put_at : (right left : List ℕ) (rows : List KeptRow) (groups : List (List Value × List (List Value × List ℕ)))
@@ -57,11 +58,7 @@ in_groups : (P : List ℕ → Type 0) (right left : List ℕ) (rows : List KeptR
     → ((q v : List Value) → times_at groups q v ≡ cond (is_at (row_cmp (part right left v)) q) (times_for rows v) [])
     → P [] → ((u : List Value) → P (times_for rows u)) → (q v : List Value) → P (times_at groups q v)
 in_groups P right left rows groups is none all q v =
-    subst P (sym (is q v)) (by (is_at (row_cmp (part right left v)) q))
-  where
-    by : (b : Bool) → P (cond b (times_for rows v) [])
-    by true = all v
-    by false = none
+    either P (is_at (row_cmp (part right left v)) q) (times_for rows v) [] (times_at groups q v) (is q v) (all v) none
 
 each_times : (P : List ℕ → Type 0) (hi : Option ℕ) (last : ℕ) (rows : List KeptRow)
     → AllByRecursion (λ k. KeepsTimes hi last k.times.items) rows
@@ -85,7 +82,7 @@ each_some hi last rows all = each_times (λ (ts : List ℕ). 0 < length ts) hi l
 pub finds_none : (hi : Option ℕ) (last : ℕ) (groups : List (List Value × List (List Value × List ℕ)))
     (queue : List Dated) → is_some hi ≡ false → FindsOldTimes hi last groups queue
 finds_none None last groups queue none = tt
-finds_none (Some h) last groups queue none = absurd (let w : true ≡ false = none in cc)
+finds_none (Some h) last groups queue none = cc
 
 -- the queue of the rows' times finds them
 pub finds_rows : (hi : Option ℕ) (right left : List ℕ) (last : ℕ) (rows : List KeptRow)
@@ -97,7 +94,9 @@ pub finds_rows : (hi : Option ℕ) (right left : List ℕ) (last : ℕ) (rows : 
     → Rising queue → FindsOldTimes hi last groups queue
 finds_rows None right left last rows groups queue all is same tests rising = tt
 finds_rows (Some h) right left last rows groups queue all is same tests rising = (
-  λ q v. covered q v,
+  λ q v. either (λ ts. list_all (names queue v) ts ≡ true) (is_at (row_cmp (part right left v)) q) (times_for rows v)
+      [] (times_at groups q v) (is q v) (all_weaker (is_recalled rows v) (names queue v) (times_for rows v)
+      (λ y there. same v y ∙ there) (names_own rows v)) refl,
   rising,
   tests (λ y. nat_le y last) ∙ all_each (λ y. nat_le y last) rows
       (each_times (λ ts. list_all (λ y. nat_le y last) ts ≡ true) (Some h) last rows all
@@ -106,14 +105,6 @@ finds_rows (Some h) right left last rows groups queue all is same tests rising =
       (each_times (λ ts. list_all (λ y. nat_le (last - y) h) ts ≡ true) (Some h) last rows all
       (λ ts k. k.bounded)),
 )
-  where
-    by : (v : List Value) (b : Bool) → list_all (names queue v) (cond b (times_for rows v) []) ≡ true
-    by v true = all_weaker (is_recalled rows v) (names queue v) (times_for rows v) (λ y there. same v y ∙ there)
-        (names_own rows v)
-    by v false = refl
-
-    covered : (q v : List Value) → list_all (names queue v) (times_at groups q v) ≡ true
-    covered q v = ap (list_all (names queue v)) (is q v) ∙ by v (is_at (row_cmp (part right left v)) q)
 
 -- what the window keeps
 pub keeps_restored : (hi : Option ℕ) (right left : List ℕ) (last : ℕ) (rows : List KeptRow)
@@ -124,8 +115,7 @@ pub keeps_restored : (hi : Option ℕ) (right left : List ℕ) (last : ℕ) (row
     → NoneEmpty groups → FindsOldTimes hi last groups queue → Keeps hi right left last groups queue
 keeps_restored hi right left last rows groups queue apart sized all is some finds = record {
   apart = apart;
-  sized = λ q v other. is q v ∙ blank (is_at (row_cmp (part right left v)) q) (times_for rows v)
-      (times_sized (length right) rows v sized other);
+  sized = λ q v other. grind (arith, is q v, times_sized (length right) rows v sized other);
   ascend = in_groups IsStrictlyIncreasing right left rows groups is increasing_none
       (times_each IsStrictlyIncreasing rows (each_ascends hi last rows all) increasing_none);
   alone = λ none. in_groups (λ ts. length ts ≤ 1) right left rows groups is (omega arith)
@@ -138,7 +128,3 @@ keeps_restored hi right left last rows groups queue apart sized all is some find
       (λ k l. absurd (omega arith)));
   finds = finds;
 }
-  where
-    blank : (b : Bool) (ts : List ℕ) → ts ≡ [] → cond b ts [] ≡ []
-    blank true ts none = none
-    blank false ts none = refl

@@ -1,5 +1,5 @@
 -- What is kept for a key is kept for the row that it stands for.
-use Rattle.std.proofs.Common.{◌≡◌, ℕ, ℤ, ◌<◌, Bool, true, false, cond, List, [], ◌∷◌, length, Option, Some, None}
+use Rattle.std.proofs.Common.{arith, ◌≡◌, ℕ, ℤ, ◌<◌, Bool, true, false, cond, List, [], ◌∷◌, length, Option, Some, None}
 use Rattle.std.proofs.Common.{refl, sym, subst, ap, ap₂, ◌∙◌}
 use Rattle.std.specs.BTreeMap.{is_at}
 use Rattle.std.specs.List.{AllByRecursion, IsDistinct}
@@ -21,14 +21,7 @@ use Rattle.eval_since.specs.RowKeys.{by_rows, is_int, itself, one_int}
 pub none_changed : (h : List ℕ → List ℕ) (row v : List Value) (es : List (List Value × List ℕ)) → h [] ≡ []
     → kept_for es row ≡ None
     → list_for es v ≡ cond (is_at (row_cmp row) v) (h (list_for es v)) (list_for es v)
-none_changed h row v es none absent = by (is_at (row_cmp row) v) refl
-  where
-    nothing : is_at (row_cmp row) v ≡ true → list_for es v ≡ []
-    nothing e = ap (list_for es) (sym (same_row row v e)) ∙ ap (λ o. unwrap_or o []) absent
-
-    by : (b : Bool) → is_at (row_cmp row) v ≡ b → list_for es v ≡ cond b (h (list_for es v)) (list_for es v)
-    by true e = nothing e ∙ sym none ∙ ap h (sym (nothing e))
-    by false e = refl
+none_changed h row v es none absent = grind (arith, same_row row v)
 
 module _ {K X : Type 0} (eq : K → K → Bool) (row_of : K → List Value)
     (same : (k l : K) → is_at (row_cmp (row_of k)) (row_of l) ≡ eq k l) where
@@ -118,7 +111,7 @@ then_greater Greater = refl
 -- a row of other values isn't equal to one of one integer
 not_from : (v : List Value) (m : ℤ) → is_int v ≡ false → is_at (row_cmp v) (one_int m) ≡ false
 not_from [] m e = refl
-not_from (Int n ∷ []) m e = absurd (let w : true ≡ false = e in cc)
+not_from (Int n ∷ []) m e = cc
 not_from (Int n ∷ w ∷ ws) m e = then_greater (int_cmp n m)
 not_from (Text t ∷ ws) m e = refl
 

@@ -1,11 +1,11 @@
 -- The times of a row ascend, and without an upper end there is one at most.
-use Rattle.std.proofs.Common.{◌≡◌, ℕ, ◌-◌, ◌≤◌, Bool, true, false, cond, ◌&&◌, ◌||◌, nat_eq, not, List, [], ◌∷◌}
-use Rattle.std.proofs.Common.{◌++◌, length, slice_index, refl, sym, subst, ap, ◌∙◌, arith, inl, inr}
+use Rattle.std.proofs.Common.{◌≡◌, ℕ, ◌-◌, ◌≤◌, Bool, false, cond, ◌&&◌, ◌||◌, not, List, [], ◌∷◌}
+use Rattle.std.proofs.Common.{◌++◌, length, sym, subst, ◌∙◌, arith, inl, inr}
 use Rattle.std.proofs.lemmas.Bool.{cases_lt}
 use Rattle.std.proofs.lemmas.Bool.Decides.{nat_tests}
 use Rattle.std.proofs.lemmas.List.{length_push}
 use Rattle.std.specs.List.Sorted.{IsStrictlyIncreasing}
-use Rattle.eval_since.specs.Times.{ArePast, added, is_new, recent}
+use Rattle.eval_since.specs.Times.{ArePast, added, recent}
 use Rattle.eval_since.specs.Windows.{IsThinned}
 use Rattle.eval_since.proofs.TimesLemmas.{increasing_added, increasing_tail, recent_all, recent_front}
 
@@ -31,22 +31,10 @@ increasing_thinned hi x old new (inr thin) h = subst IsStrictlyIncreasing (sym t
 pub increasing_more : (bounded : Bool) (ys : List ℕ) (x : ℕ) → IsStrictlyIncreasing ys → ArePast x ys
     → IsStrictlyIncreasing (added bounded ys x)
 unfolding added
-increasing_more bounded ys x h past = by (is_new bounded ys x) refl
-  where
-    by : (b : Bool) → is_new bounded ys x ≡ b → IsStrictlyIncreasing (cond b (ys ++ x ∷ []) ys)
-    by true e = increasing_added bounded ys x h past e
-    by false e = h
+increasing_more bounded ys x h past = grind (arith, increasing_added bounded ys x h past)
 
 -- without an upper end a second one is not kept
 pub one_more : (bounded : Bool) (ys : List ℕ) (x : ℕ) → bounded ≡ false → length ys ≤ 1
     → length (added bounded ys x) ≤ 1
 unfolding added
-one_more bounded ys x unbounded one = by (is_new bounded ys x) refl
-  where
-    by : (b : Bool) → is_new bounded ys x ≡ b → length (cond b (ys ++ x ∷ []) ys) ≤ 1
-    by true e =
-        let none : (nat_eq (length ys) 0 || false) ≡ true =
-        sym (ap (λ c. nat_eq (length ys) 0 || (c && not (nat_eq (slice_index ys (length ys - 1)) x))) unbounded) ∙ e in
-        let empty : length ys ≡ 0 = grind (arith, nat_tests) in
-        omega (arith, length_push ys x)
-    by false e = one
+one_more bounded ys x unbounded one = grind (arith, nat_tests, length_push ys x)

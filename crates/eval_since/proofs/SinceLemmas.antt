@@ -22,11 +22,8 @@ all_more : (a : List Bool) (j p : ℕ) → j < p
 all_more a j p low =
     let one : p + 1 - (j + 1) ≡ p - (j + 1) + 1 = omega arith in
     let last : j + 1 + (p - (j + 1)) ≡ p = omega arith in
-    ap (λ n. list_all (truth_at a) (range_with_len (j + 1) n)) one
-    ∙ ap (list_all (truth_at a)) (range_suc (j + 1) (p - (j + 1)))
-    ∙ list_all-append (truth_at a) (range_with_len (j + 1) (p - (j + 1))) ((j + 1 + (p - (j + 1))) ∷ [])
-    ∙ ap (λ k. list_all (truth_at a) (range_with_len (j + 1) (p - (j + 1))) && (truth_at a k && true)) last
-    ∙ ap (λ r. list_all (truth_at a) (range_with_len (j + 1) (p - (j + 1))) && r) (and-true (truth_at a p))
+    let both = list_all-append (truth_at a) (range_with_len (j + 1) (p - (j + 1))) ((j + 1 + (p - (j + 1))) ∷ []) in
+    rw (one, range_suc (j + 1) (p - (j + 1)), both, last) (grind arith)
 
 all_none : (a : List Bool) (p : ℕ) → list_all (truth_at a) (range_with_len (p + 1) (p + 1 - (p + 1))) ≡ true
 all_none a p = let none : p + 1 - (p + 1) ≡ 0 = omega arith in ap

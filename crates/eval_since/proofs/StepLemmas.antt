@@ -1,6 +1,6 @@
 -- One position more: the left operand's table, the right operand's, and the old times forgotten.
-use Rattle.std.proofs.Common.{◌≡◌, ℕ, ◌-◌, ◌≤◌, Bool, true, false, cond, nat_eq, ◌&&◌, ◌||◌, List, [], ◌∷◌, ◌++◌}
-use Rattle.std.proofs.Common.{Option, Some, None, length, refl, sym, subst, ap, ◌∙◌, arith}
+use Rattle.std.proofs.Common.{◌≡◌, ℕ, ◌-◌, ◌≤◌, Bool, true, cond, nat_eq, ◌&&◌, ◌||◌, List, [], ◌∷◌, ◌++◌}
+use Rattle.std.proofs.Common.{Option, Some, None, length, sym, ap, ◌∙◌, arith}
 use Rattle.std.specs.BTreeMap.{is_at}
 use Rattle.std.specs.Option.{is_some}
 use Rattle.mfotl_model.specs.Intervals.{in_interval}
@@ -9,12 +9,13 @@ use Rattle.mfotl_model.specs.declared.interval.Interval.{Interval}
 use Rattle.mfotl_model.specs.declared.value.Value.{Value}
 use Rattle.eval_since.specs.PackedRows.{packed_rows}
 use Rattle.eval_since.specs.declared.contents.Dated.{Dated}
+use Rattle.eval_since.specs.declared.packed.PackedRows.{PackedRows}
 use Rattle.eval_since.specs.Groups.{NoneEmpty, times_at}
 use Rattle.mfotl_model.specs.Tables.{all_sized, has_row, part}
-use Rattle.eval_since.specs.Times.{reaches, added}
+use Rattle.eval_since.specs.Times.{ArePast, added, reaches}
 use Rattle.eval_since.specs.Windows.{Alone, Ascending, Sized, Placed, Past, IsThinned, Covered, Rising, NotAfter}
-use Rattle.eval_since.specs.Windows.{Fresh, FindsOldTimes, Keeps}
-use Rattle.eval_since.proofs.ExpireLemmas.{past_held, past_joined, placed_joined, past_thinned, placed_thinned}
+use Rattle.eval_since.specs.Windows.{Fresh, Keeps}
+use Rattle.eval_since.proofs.ExpireLemmas.{past_held, past_joined, past_thinned, placed_thinned}
 use Rattle.relations.proofs.QueueLemmas.{rises_push}
 use Rattle.eval_since.proofs.ExpireLemmas.{covered_push, not_after_later, not_after_push}
 use Rattle.std.specs.List.Sorted.{IsStrictlyIncreasing}
@@ -23,153 +24,145 @@ use Rattle.relations.proofs.MapLemmas.{either}
 use Rattle.relations.proofs.TableRows.{all_rows, lacks_other}
 use Rattle.eval_since.proofs.WithinLemmas.{reaches_step, reaches_thinned}
 
--- where nothing was kept and the row isn't added, nothing is kept
-nothing_joined : (at holds : Bool) (old more held list : List ℕ) → old ≡ [] → held ≡ cond holds old []
-    → list ≡ cond (at && false) more held → list ≡ []
-nothing_joined true true old more held list none first second = second ∙ first ∙ none
-nothing_joined true false old more held list none first second = second ∙ first
-nothing_joined false true old more held list none first second = second ∙ first ∙ none
-nothing_joined false false old more held list none first second = second ∙ first
+-- the left operand's table was applied, and the right operand's rows were added, at the time `now`
+pub record Joined (interval : Interval) (right left : List ℕ) (goes : List Value → Bool) (rows : List (List Value))
+    (last now : ℕ) (old held new : List (List Value × List (List Value × List ℕ))) (queue : List Dated) : Type 0 where
+  pub rises : last ≤ now
+  pub sized : all_sized (length right) rows ≡ true
+  pub kept : Keeps interval.hi right left last old queue
+  pub first : (q v : List Value) → times_at held q v ≡ cond (goes q) (times_at old q v) []
+  pub second : (q v : List Value) → times_at new q v
+      ≡ cond (is_at (row_cmp (part right left v)) q && has_row rows v)
+      (added (is_some interval.hi) (times_at held q v) now) (times_at held q v)
+  pub some : NoneEmpty new
 
-module _ (interval : Interval) (right left : List ℕ) (goes : List Value → Bool) (d : Dated)
-    (last : ℕ) (old held new : List (List Value × List (List Value × List ℕ))) (queue : List Dated) where
-  -- the left operand's table was applied, and the right operand's rows were added
-  pub record Joined : Type 0 where
-    pub rises : last ≤ d.ts
-    pub sized : all_sized (length right) (packed_rows d.rows) ≡ true
-    pub kept : Keeps interval.hi right left last old queue
-    pub first : (q v : List Value) → times_at held q v ≡ cond (goes q) (times_at old q v) []
-    pub second : (q v : List Value) → times_at new q v
-        ≡ cond (is_at (row_cmp (part right left v)) q && has_row (packed_rows d.rows) v)
-        (added (is_some interval.hi) (times_at held q v) d.ts) (times_at held q v)
-    pub some : NoneEmpty new
+pub past_before : {right left : List ℕ} {hi : Option ℕ} {queue : List Dated} {last now : ℕ}
+    (goes : List Value → Bool) {old : List (List Value × List (List Value × List ℕ))}
+    (held : List (List Value × List (List Value × List ℕ))) → last ≤ now → Keeps hi right left last old queue
+    → ((q v : List Value) → times_at held q v ≡ cond (goes q) (times_at old q v) []) → Past now held
+past_before {last = last} {now = now} goes {old} held rises kept first q v =
+    past_held last now (goes q) (times_at old q v) (times_at held q v) rises (kept.past q v) (first q v)
 
-  pub past_before : last ≤ d.ts → Keeps interval.hi right left last old queue
-      → ((q v : List Value) → times_at held q v ≡ cond (goes q) (times_at old q v) [])
-      → Past d.ts held
-  past_before rises kept first = λ q v. past_held last d.ts (goes q) (times_at old q v)
-      (times_at held q v) rises (kept.past q v) (first q v)
+pub joined : (interval : Interval) (goes : List Value → Bool) (rows : List (List Value)) (now : ℕ)
+    (held new : List (List Value × List (List Value × List ℕ))) {right left : List ℕ} {last : ℕ}
+    {old : List (List Value × List (List Value × List ℕ))} {queue : List Dated}
+    → Keeps interval.hi right left last old queue → last ≤ now → all_sized (length right) rows ≡ true
+    → ((q v : List Value) → times_at held q v ≡ cond (goes q) (times_at old q v) [])
+    → ((q v : List Value) → times_at new q v ≡ cond (is_at (row_cmp (part right left v)) q && has_row rows v)
+    (added (is_some interval.hi) (times_at held q v) now) (times_at held q v))
+    → NoneEmpty new → Joined interval right left goes rows last now old held new queue
+joined interval goes rows now held new kept rises sized first second some =
+    record { rises = rises; sized = sized; kept = kept; first = first; second = second; some = some }
 
-  pub past_after : Joined → Past d.ts new
-  past_after j = λ q v.
-      past_joined d.ts (is_some interval.hi) (is_at (row_cmp (part right left v)) q && has_row (packed_rows d.rows) v)
-      (times_at held q v) (times_at new q v)
-      (past_before j.rises j.kept j.first q v) (j.second q v)
+module _ {interval : Interval} {right left : List ℕ} {goes : List Value → Bool} {rows : List (List Value)}
+    {last now : ℕ} {old held new : List (List Value × List (List Value × List ℕ))} {queue : List Dated}
+    (j : Joined interval right left goes rows last now old held new queue) where
+  past_held_now : Past now held
+  past_held_now = past_before goes held j.rises j.kept j.first
 
-  pub placed_after : Joined → Placed right left new
-  placed_after j = λ q v apart.
-      placed_joined d.ts (is_some interval.hi) (goes q) (has_row (packed_rows d.rows) v)
-      (times_at old q v) (times_at held q v) (times_at new q v)
-      (j.kept.placed q v apart) (j.first q v)
-      (j.second q v ∙ ap (λ b. cond (b && has_row (packed_rows d.rows) v)
-      (added (is_some interval.hi) (times_at held q v) d.ts) (times_at held q v)) apart)
+  -- what holds of the times that were kept, of none, and after one more, holds of the times that are kept
+  each_joined : (P : List ℕ → Type 0) → ((q v : List Value) → P (times_at old q v)) → P []
+      → ((ts : List ℕ) → ArePast now ts → P ts → P (added (is_some interval.hi) ts now))
+      → (q v : List Value) → P (times_at new q v)
+  each_joined P was none more q v =
+      let kept : P (times_at held q v) =
+      either P (goes q) (times_at old q v) [] (times_at held q v) (j.first q v) (was q v) none in
+      either P (is_at (row_cmp (part right left v)) q && has_row rows v)
+      (added (is_some interval.hi) (times_at held q v) now) (times_at held q v) (times_at new q v) (j.second q v)
+      (more (times_at held q v) (past_held_now q v) kept) kept
 
-  ascend_held : Joined → Ascending held
-  ascend_held j = λ q v.
-      either IsStrictlyIncreasing (goes q) (times_at old q v) [] (times_at held q v)
-      (j.first q v)
-      (j.kept.ascend q v) increasing_none
+  past_after : Past now new
+  past_after q v =
+      past_joined now (is_some interval.hi) (is_at (row_cmp (part right left v)) q && has_row rows v)
+      (times_at held q v) (times_at new q v) (past_held_now q v) (j.second q v)
 
-  pub ascend_after : Joined → Ascending new
-  ascend_after j = λ q v.
-      either IsStrictlyIncreasing (is_at (row_cmp (part right left v)) q && has_row (packed_rows d.rows) v)
-      (added (is_some interval.hi) (times_at held q v) d.ts) (times_at held q v) (times_at new q v) (j.second q v)
-      (increasing_more (is_some interval.hi) (times_at held q v) d.ts (ascend_held j q v)
-      (past_before j.rises j.kept j.first q v))
-      (ascend_held j q v)
+  pub placed_after : Placed right left new
+  placed_after q v apart = grind (arith, j.first q v, j.second q v, j.kept.placed q v apart)
 
-  alone_held : interval.hi ≡ None → Joined → Alone held
-  alone_held e j = λ q v.
-      either (λ ys. length ys ≤ 1) (goes q) (times_at old q v) [] (times_at held q v)
-      (j.first q v)
-      (j.kept.alone e q v) (omega arith)
+  ascend_after : Ascending new
+  ascend_after = each_joined IsStrictlyIncreasing j.kept.ascend increasing_none
+      (λ ts past up. increasing_more (is_some interval.hi) ts now up past)
 
-  alone_after : interval.hi ≡ None → Joined → Alone new
-  alone_after e j = λ q v.
-      either (λ ys. length ys ≤ 1) (is_at (row_cmp (part right left v)) q && has_row (packed_rows d.rows) v)
-      (added (is_some interval.hi) (times_at held q v) d.ts) (times_at held q v) (times_at new q v) (j.second q v)
-      (one_more (is_some interval.hi) (times_at held q v) d.ts (ap is_some e) (alone_held e j q v))
-      (alone_held e j q v)
+  alone_after : interval.hi ≡ None → Alone new
+  alone_after e = each_joined (λ ts. length ts ≤ 1) (j.kept.alone e) (omega arith)
+      (λ ts past one. one_more (is_some interval.hi) ts now (ap is_some e) one)
 
-  pub sized_after : Joined → Sized (length right) new
-  sized_after j = λ q v apart.
-      nothing_joined (is_at (row_cmp (part right left v)) q) (goes q) (times_at old q v)
-      (added (is_some interval.hi) (times_at held q v) d.ts) (times_at held q v) (times_at new q v)
-      (j.kept.sized q v apart) (j.first q v)
-      (j.second q v ∙ ap (λ b. cond (is_at (row_cmp (part right left v)) q && b)
-      (added (is_some interval.hi) (times_at held q v) d.ts) (times_at held q v))
-      (lacks_other (length right) (packed_rows d.rows) v j.sized apart))
+  sized_after : Sized (length right) new
+  sized_after q v apart =
+      let lacks = lacks_other (length right) rows v j.sized apart in
+      grind (arith, j.first q v, j.second q v, j.kept.sized q v apart)
 
-  pub within_after : Joined → (x : ℕ) (u : List Value) → reaches interval (times_at new (part right left u) u) x
+  pub within_after : (x : ℕ) (u : List Value) → reaches interval (times_at new (part right left u) u) x
       ≡ ((reaches interval (times_at old (part right left u) u) x && goes (part right left u))
-      || (in_interval interval (x - d.ts) && has_row (packed_rows d.rows) u))
-  within_after j x u = reaches_step interval right left goes (packed_rows d.rows) u d.ts x old held new
-      (past_before j.rises j.kept j.first) j.first j.second
+      || (in_interval interval (x - now) && has_row rows u))
+  within_after x u = reaches_step interval right left goes rows u now x old held new past_held_now j.first j.second
 
   -- without an upper end that is all
-  pub kept_unbounded : interval.hi ≡ None → Joined → Keeps interval.hi right left d.ts new queue
-  kept_unbounded e j = record {
+  pub kept_unbounded : interval.hi ≡ None → Keeps interval.hi right left now new queue
+  kept_unbounded e = record {
     apart = j.kept.apart;
-    sized = sized_after j;
-    ascend = ascend_after j;
-    alone = λ n. alone_after e j;
+    sized = sized_after;
+    ascend = ascend_after;
+    alone = alone_after;
     some = j.some;
-    placed = placed_after j;
-    past =
-        past_after j;
-    finds = subst (λ (o : Option ℕ). FindsOldTimes o d.ts new queue) (sym e) tt;
+    placed = placed_after;
+    past = past_after;
+    finds = rw e tt;
   }
 
-  -- with one the table goes into the queue
-  pub finds_before : (hi : ℕ) → interval.hi ≡ Some hi → Joined
-      → Covered queue old × Rising queue × NotAfter last queue × Fresh hi last queue
-  finds_before hi e j = subst (λ (o : Option ℕ). FindsOldTimes o last old queue) e j.kept.finds
+  -- with one the rows go into the queue
+  module _ (packed : PackedRows) (hi : ℕ) (is : packed_rows packed ≡ rows) (e : interval.hi ≡ Some hi) where
+    -- the queue with these rows
+    abbrev queued : List Dated
+    queued = queue ++ record { ts = now; rows = packed } ∷ []
 
-  pub covered_after : (hi : ℕ) → interval.hi ≡ Some hi → Joined → Covered (queue ++ d ∷ []) new
-  covered_after hi e j = λ q v.
-      covered_push queue d v (is_some interval.hi) (goes q) (is_at (row_cmp (part right left v)) q)
-      (times_at old q v) (times_at held q v) (times_at new q v) ((finds_before hi e j).0 q v) (j.first q v)
-      (j.second q v)
+    finds_before : Covered queue old × Rising queue × NotAfter last queue × Fresh hi last queue
+    finds_before = rw e at j.kept.finds
 
-  pub rising_after : (hi : ℕ) → interval.hi ≡ Some hi → Joined → Rising (queue ++ d ∷ [])
-  rising_after hi e j = rises_push (λ (k : Dated). k.ts) queue d (finds_before hi e j).1
-      (not_after_later last d.ts queue j.rises (finds_before hi e j).2)
+    pub covered_after : Covered queued new
+    covered_after q v =
+        covered_push queue (record { ts = now; rows = packed }) v (is_some interval.hi) (goes q)
+        (is_at (row_cmp (part right left v)) q) (times_at old q v) (times_at held q v) (times_at new q v)
+        (finds_before.0 q v) (j.first q v) (rw (← is) at (j.second q v))
 
-  pub not_after : (hi : ℕ) → interval.hi ≡ Some hi → Joined → NotAfter d.ts (queue ++ d ∷ [])
-  not_after hi e j = not_after_push d.ts queue d (not_after_later last d.ts queue j.rises (finds_before hi e j).2)
-      (omega arith)
+    not_later : NotAfter now queue
+    not_later = not_after_later last now queue j.rises finds_before.2
 
-  -- and old times are forgotten
-  pub kept_bounded : (hi : ℕ) (thin : List (List Value × List (List Value × List ℕ))) (rest : List Dated)
-      → interval.hi ≡ Some hi → Joined
-      → ((q v : List Value) → IsThinned hi d.ts (times_at new q v) (times_at thin q v))
-      → NoneEmpty thin → Covered rest thin → Rising rest → Fresh hi d.ts rest
-      → ((x : ℕ) → NotAfter x (queue ++ d ∷ []) → NotAfter x rest)
-      → Keeps interval.hi right left d.ts thin rest
-  kept_bounded hi thin rest e j thins some covered rising fresh after = record {
-    apart = j.kept.apart;
-    sized = λ q v apart. placed_thinned hi d.ts (times_at new q v) (times_at thin q v) (thins q v)
-        (sized_after j q v apart);
-    ascend = λ q v. increasing_thinned hi d.ts (times_at new q v) (times_at thin q v) (thins q v) (ascend_after j q v);
-    alone = λ n. absurd (let f : Some hi ≡ None = sym e ∙ n in cc);
-    some = some;
-    placed = λ q v apart. placed_thinned hi d.ts (times_at new q v) (times_at thin q v) (thins q v)
-        (placed_after j q v apart);
-    past = λ q v. past_thinned hi d.ts d.ts (times_at new q v) (times_at thin q v) (thins q v) (past_after j q v);
-    finds = subst (λ (o : Option ℕ). FindsOldTimes o d.ts thin rest) (sym e)
-        (covered, rising, after d.ts (not_after hi e j), fresh);
-  }
+    pub rising_after : Rising queued
+    rising_after = rises_push (λ (k : Dated). k.ts) queue (record { ts = now; rows = packed }) finds_before.1 not_later
 
-  pub within_bounded : (hi : ℕ) (thin : List (List Value × List (List Value × List ℕ))) → interval.hi ≡ Some hi
-      → Joined
-      → ((q v : List Value) → IsThinned hi d.ts (times_at new q v) (times_at thin q v))
-      → (x : ℕ) (u : List Value) → d.ts ≤ x → reaches interval (times_at thin (part right left u) u) x
-      ≡ ((reaches interval (times_at old (part right left u) u) x && goes (part right left u))
-      || (in_interval interval (x - d.ts) && has_row (packed_rows d.rows) u))
-  within_bounded hi thin e j thins x u l =
-      reaches_thinned interval hi d.ts x (times_at new (part right left u) u)
-      (times_at thin (part right left u) u) e l (thins (part right left u) u)
-      ∙ within_after j x u
+    -- and old times are forgotten
+    module _ (thin : List (List Value × List (List Value × List ℕ))) (rest : List Dated)
+        (thins : (q v : List Value) → IsThinned hi now (times_at new q v) (times_at thin q v)) where
+      pub kept_bounded : NoneEmpty thin → Covered rest thin → Rising rest → Fresh hi now rest
+          → ((x : ℕ) → NotAfter x queued → NotAfter x rest) → Keeps interval.hi right left now thin rest
+      kept_bounded some covered rising fresh after = record {
+        apart = j.kept.apart;
+        sized = λ q v apart. placed_thinned hi now (times_at new q v) (times_at thin q v) (thins q v)
+            (sized_after q v apart);
+        ascend = λ q v. increasing_thinned hi now (times_at new q v) (times_at thin q v) (thins q v)
+            (ascend_after q v);
+        alone = λ n. absurd (let f : Some hi ≡ None = sym e ∙ n in cc);
+        some = some;
+        placed = λ q v apart. placed_thinned hi now (times_at new q v) (times_at thin q v) (thins q v)
+            (placed_after q v apart);
+        past = λ q v. past_thinned hi now now (times_at new q v) (times_at thin q v) (thins q v) (past_after q v);
+        finds = rw e (
+          covered,
+          rising,
+          after now (not_after_push now queue (record { ts = now; rows = packed }) not_later (omega arith)),
+          fresh,
+        );
+      }
+
+      pub within_bounded : (x : ℕ) (u : List Value) → now ≤ x
+          → reaches interval (times_at thin (part right left u) u) x
+          ≡ ((reaches interval (times_at old (part right left u) u) x && goes (part right left u))
+          || (in_interval interval (x - now) && has_row rows u))
+      within_bounded x u l =
+          reaches_thinned interval hi now x (times_at new (part right left u) u)
+          (times_at thin (part right left u) u) e l (thins (part right left u) u)
+          ∙ within_after x u
 
 -- the rows that times are kept for have as many values as columns
 pub sized_reached : (interval : Interval) (x : ℕ) (right left : List ℕ)
@@ -179,12 +172,4 @@ pub sized_reached : (interval : Interval) (x : ℕ) (right left : List ℕ)
     → all_sized (length right) rows ≡ true
 sized_reached interval x right left groups rows sized reached =
     all_rows (λ row. nat_eq (length row) (length right)) rows
-    (λ row there. by row (nat_eq (length row) (length right)) refl (reached row there))
-  where
-    by : (row : List Value) (b : Bool) → nat_eq (length row) (length right) ≡ b
-        → reaches interval (times_at groups (part right left row) row) x ≡ true
-        → nat_eq (length row) (length right) ≡ true
-    by row true e hit = e
-    by row false e hit =
-        absurd (let f : false ≡ true = sym (ap (λ ts. reaches interval ts x) (sized (part right left row) row e))
-        ∙ hit in cc)
+    (λ row there. grind (arith, sized (part right left row) row, reached row there))

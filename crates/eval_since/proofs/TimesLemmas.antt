@@ -1,13 +1,11 @@
 -- Ascending times: one more at the end, the old ones dropped, and what they reach.
-use Rattle.std.proofs.Common.{◌≡◌, ℕ, zero, suc, ◌+◌, ◌-◌, ◌<◌, ◌≤◌, Bool, true, false, not, cond, ◌&&◌, ◌||◌}
-use Rattle.std.proofs.Common.{nat_eq, nat_le, List, [], ◌∷◌, ◌++◌, length, slice_index, drop, get_or, refl, sym, ap}
+use Rattle.std.proofs.Common.{◌≡◌, ℕ, zero, suc, ◌+◌, ◌-◌, ◌<◌, ◌≤◌, Bool, true, false, cond, ◌&&◌, ◌||◌}
+use Rattle.std.proofs.Common.{List, [], ◌∷◌, ◌++◌, length, slice_index, drop, get_or, refl, sym, ap}
 use Rattle.std.proofs.Common.{◌∙◌, arith, add-one}
 use native.Mathlib.Numerals.{unary_clauses}
-use Rattle.std.proofs.lemmas.Bool.{and_parts}
 use Rattle.std.proofs.lemmas.Bool.Decides.{nat_tests}
-use Rattle.std.specs.List.{filter}
 use Rattle.std.specs.List.Sorted.{IsStrictlyIncreasing}
-use Rattle.mfotl_model.specs.Intervals.{in_interval, at_most}
+use Rattle.mfotl_model.specs.Intervals.{in_interval}
 use Rattle.mfotl_model.specs.declared.interval.Interval.{Interval}
 use Rattle.eval_since.specs.Times.{reaches, ArePast, is_new, added, recent}
 
@@ -16,11 +14,10 @@ increasing_tail y ys h = λ k l. let s : suc k + 1 < length (y ∷ ys) = omega a
     (rw add-one at (h (suc k) s))
 
 increasing_cons : (y z : ℕ) (zs : List ℕ) → y < z → IsStrictlyIncreasing (z ∷ zs) → IsStrictlyIncreasing (y ∷ z ∷ zs)
-increasing_cons y z zs low h = by
-  where
-    by : IsStrictlyIncreasing (y ∷ z ∷ zs)
-    by zero l = low
-    by (suc k) l = let s : k + 1 < length (z ∷ zs) = omega arith in rw add-one (rw add-one at (h k s))
+increasing_cons y z zs low h zero l = low
+increasing_cons y z zs low h (suc k) l =
+    let s : k + 1 < length (z ∷ zs) = omega arith in
+    rw add-one (rw add-one at (h k s))
 
 pub increasing_drop : (ys : List ℕ) → IsStrictlyIncreasing ys → IsStrictlyIncreasing (drop 1 ys)
 increasing_drop [] h = h
@@ -42,48 +39,38 @@ increasing_push (y ∷ z ∷ zs) x h last =
 -- what is old at the front is dropped
 pub recent_front : (hi x y : ℕ) (ys : List ℕ) → hi < x - y → recent hi x (y ∷ ys) ≡ recent hi x ys
 unfolding recent
-recent_front hi x y ys far = ap (λ b. cond b (y ∷ filter (λ z. nat_le (x - z) hi) ys)
-    (filter (λ z. nat_le (x - z) hi) ys)) (let e : nat_le (x - y) hi ≡ false = grind (arith, nat_tests) in e)
+recent_front hi x y ys far = grind (arith, nat_tests)
 
 -- where the first is recent, all are
 pub recent_all : (hi x : ℕ) (ys : List ℕ) → IsStrictlyIncreasing ys → (0 < length ys → x - slice_index ys 0 ≤ hi)
     → recent hi x ys ≡ ys
 unfolding recent
 recent_all hi x [] h near = refl
-recent_all hi x (y ∷ []) h near =
-    let n : x - y ≤ hi = near (omega arith) in
-    ap (λ b. cond b (y ∷ []) []) (let e : nat_le (x - y) hi ≡ true = grind (arith, nat_tests) in e)
+recent_all hi x (y ∷ []) h near = grind (arith, nat_tests, near (omega arith))
 recent_all hi x (y ∷ z ∷ zs) h near =
     let n : x - y ≤ hi = near (omega arith) in
     let l : y < z = h zero (omega arith) in
-    let e : nat_le (x - y) hi ≡ true = grind (arith, nat_tests) in
-    ap (λ b. cond b (y ∷ filter (λ w. nat_le (x - w) hi) (z ∷ zs)) (filter (λ w. nat_le (x - w) hi) (z ∷ zs))) e
-    ∙ ap (λ r. y ∷ r) (recent_all hi x (z ∷ zs) (increasing_tail y (z ∷ zs) h) (λ _. omega arith))
+    grind (arith, nat_tests, recent_all hi x (z ∷ zs) (increasing_tail y (z ∷ zs) h) (λ _. omega arith))
 
 too_near : (interval : Interval) (d : ℕ) → d < interval.lo → in_interval interval d ≡ false
-too_near interval d l = let e : nat_le interval.lo d ≡ false = grind (arith, nat_tests) in ap
-    (λ b. b && at_most interval.hi d) e
+too_near interval d l = grind (arith, nat_tests)
 
 -- where the first is too near, none reaches
 pub reaches_none : (interval : Interval) (x : ℕ) (ys : List ℕ) → IsStrictlyIncreasing ys
     → (0 < length ys → x - slice_index ys 0 < interval.lo) → reaches interval ys x ≡ false
 reaches_none interval x [] h near = refl
-reaches_none interval x (y ∷ []) h near = ap (λ b. b || false) (too_near interval (x - y) (near (omega arith)))
+reaches_none interval x (y ∷ []) h near = grind (arith, too_near interval (x - y) (near (omega arith)))
 reaches_none interval x (y ∷ z ∷ zs) h near =
     let n : x - y < interval.lo = near (omega arith) in
     let l : y < z = h zero (omega arith) in
-    ap (λ b. b || reaches interval (z ∷ zs) x) (too_near interval (x - y) n)
-    ∙ reaches_none interval x (z ∷ zs) (increasing_tail y (z ∷ zs) h) (λ _. omega arith)
+    let rest = reaches_none interval x (z ∷ zs) (increasing_tail y (z ∷ zs) h) (λ _. omega arith) in
+    grind (arith, too_near interval (x - y) n, rest)
 
 -- one more time, no earlier than those kept, keeps them ascending
 pub increasing_added : (bounded : Bool) (ys : List ℕ) (x : ℕ) → IsStrictlyIncreasing ys → ArePast x ys
     → is_new bounded ys x ≡ true → IsStrictlyIncreasing (ys ++ x ∷ [])
 increasing_added bounded ys x h past new =
     increasing_push ys x h (λ n. let p : slice_index ys (length ys - 1) ≤ x = past (length ys - 1) (omega arith) in
-    let ne : nat_eq (length ys) 0 ≡ false = grind (arith, nat_tests) in
-    let apart : (bounded && not (nat_eq (slice_index ys (length ys - 1)) x))
-    ≡ true = sym (ap (λ b. b || (bounded && not (nat_eq (slice_index ys (length ys - 1)) x))) ne) ∙ new in
-    let q : not (nat_eq (slice_index ys (length ys - 1)) x) ≡ true = (and_parts bounded _ apart).1 in
     grind (arith, nat_tests))
 
 pub added_yes : (bounded : Bool) (ys : List ℕ) (x : ℕ) → is_new bounded ys x ≡ true → ys ++ x ∷ [] ≡ added bounded ys x

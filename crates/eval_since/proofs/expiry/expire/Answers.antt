@@ -1,13 +1,11 @@
-use Rattle.std.proofs.Common.{◌≡◌, ◌&&◌, nat_le, ◌∷◌, List, subst, arith}
+use Rattle.std.proofs.Common.{◌≡◌, ◌&&◌, nat_le, ◌∷◌, arith}
 use Rattle.std.proofs.lemmas.Bool.{and_parts}
 use Rattle.std.specs.BTreeMap.{is_at}
 use Rattle.std.specs.List.{list_all}
 use Rattle.mfotl_model.specs.Values.{row_cmp}
 use Rattle.eval_since.specs.PackedRows.{packed_rows}
-use Rattle.eval_since.specs.declared.contents.Dated.{Dated}
 use Rattle.eval_since.specs.Groups.{times_at}
 use Rattle.mfotl_model.specs.Tables.{has_row, part}
-use Rattle.eval_since.specs.Windows.{Covered, NotAfter, Rising}
 use Rattle.eval_since.proofs.ExpireLemmas.{thin_more, nothing_thinned, covered_more, fresh_front, front_far}
 use Rattle.eval_since.proofs.expiry.expire.Goals as goal
 
@@ -21,9 +19,8 @@ loop-front-preserved c =
     let d = c.in-Some-pop_front.old in
     let rest = c.pop_front.new.self.items in
     let is : c.loop-front.dated.items ≡ d ∷ rest = c.in-Some-pop_front.ensures.items in
-    let covered = subst (λ (queue : List Dated). Covered queue c.loop-front.groups) is
-    c.loop-front.invariant.covered in
-    let rising = subst (λ (queue : List Dated). Rising queue) is c.loop-front.invariant.rising in
+    let covered = rw is at c.loop-front.invariant.covered in
+    let rising = rw is at c.loop-front.invariant.rising in
     let far = front_far c.args.hi c.args.now c.loop-front.dated.items rest c.in-Some.front.now d is
     c.in-Some.ensures.lookup (omega arith) in
     let step = c.in_ok-forget_packed.ensures.times in
@@ -42,5 +39,5 @@ loop-front-preserved c =
           far c.loop-front.invariant.placed (covered q v) (step q v);
       rising = rising.1;
       after = λ x all. (and_parts (nat_le d.ts x) (list_all (λ e. nat_le e.ts x) rest)
-          (subst (λ (queue : List Dated). NotAfter x queue) is (c.loop-front.invariant.after x all))).1;
+          (rw is at (c.loop-front.invariant.after x all))).1;
     }

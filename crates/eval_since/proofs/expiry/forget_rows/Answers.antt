@@ -1,7 +1,5 @@
-use Rattle.std.proofs.Common.{rules, ◌≡◌, ◌∷◌, ◌&&◌, cond, refl, sym, ap, ◌∙◌}
-use Rattle.std.specs.BTreeMap.{is_at}
-use Rattle.mfotl_model.specs.Values.{row_cmp}
-use Rattle.mfotl_model.specs.Tables.{has_row, part}
+use Rattle.std.proofs.Common.{rules, ◌≡◌, ◌∷◌, ◌&&◌, refl, ◌∙◌}
+use Rattle.mfotl_model.specs.Tables.{part}
 use Rattle.eval_since.specs.Groups.{times_at}
 use Rattle.eval_since.specs.Times.{recent}
 use Rattle.eval_since.proofs.WindowLemmas.{rows_rest, recent_twice}
@@ -12,13 +10,9 @@ loop-row-preserved c =
     let here : c.loop-row.row-iterator.rest.items ≡ c.in-Some.row ∷ c.next.new.self.rest.items = search rules in
     record {
       times = λ q v.
-          let old = times_at c.loop-row.groups q v in
           rows_rest (recent c.args.hi c.args.now) (recent_twice c.args.hi c.args.now) c.args.right.now c.args.left.now
           c.in-Some.row (part c.args.right.now c.args.left.now c.in-Some.row) q v
-          c.next.new.self.rest.items old (times_at c.forget_row.new.groups q v)
-          refl (c.in_ok-forget_row.ensures.times q v)
-          ∙ ap (λ rows. cond (is_at (row_cmp (part c.args.right.now c.args.left.now v)) q && has_row rows v)
-          (recent c.args.hi c.args.now old) old) (sym here)
-          ∙ c.loop-row.invariant.times q v;
+          c.next.new.self.rest.items (times_at c.loop-row.groups q v) (times_at c.forget_row.new.groups q v)
+          refl (c.in_ok-forget_row.ensures.times q v) ∙ (rw here at (c.loop-row.invariant.times q v));
       some = λ all. c.in_ok-forget_row.ensures.some (c.loop-row.invariant.some all);
     }

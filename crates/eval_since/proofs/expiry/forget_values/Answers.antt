@@ -1,7 +1,5 @@
-use Rattle.std.proofs.Common.{rules, ◌≡◌, ◌∷◌, [], ◌&&◌, cond, refl, sym, ap, ◌∙◌}
-use Rattle.std.specs.BTreeMap.{is_at}
-use Rattle.mfotl_model.specs.Values.{row_cmp}
-use Rattle.mfotl_model.specs.Tables.{has_row, part}
+use Rattle.std.proofs.Common.{rules, ◌≡◌, ◌∷◌, [], ◌&&◌, refl, ◌∙◌}
+use Rattle.mfotl_model.specs.Tables.{part}
 use Rattle.eval_since.specs.Groups.{times_at}
 use Rattle.eval_since.specs.PackedRows.{alone}
 use Rattle.eval_since.specs.Times.{recent}
@@ -13,13 +11,10 @@ loop-value-preserved c =
     let here : c.loop-value.value-iterator.rest.items ≡ c.in-Some.value ∷ c.next.new.self.rest.items = search rules in
     record {
       times = λ q v.
-          let old = times_at c.loop-value.groups q v in
           rows_rest (recent c.args.hi c.args.now) (recent_twice c.args.hi c.args.now) c.args.right.now c.args.left.now
           (c.in-Some.value ∷ []) (part c.args.right.now c.args.left.now (c.in-Some.value ∷ [])) q v
-          (alone c.next.new.self.rest.items) old (times_at c.forget_value.new.groups q v)
-          refl (c.in_ok-forget_value.ensures.times q v)
-          ∙ ap (λ values. cond (is_at (row_cmp (part c.args.right.now c.args.left.now v)) q && has_row (alone values) v)
-          (recent c.args.hi c.args.now old) old) (sym here)
-          ∙ c.loop-value.invariant.times q v;
+          (alone c.next.new.self.rest.items) (times_at c.loop-value.groups q v)
+          (times_at c.forget_value.new.groups q v)
+          refl (c.in_ok-forget_value.ensures.times q v) ∙ (rw here at (c.loop-value.invariant.times q v));
       some = λ all. c.in_ok-forget_value.ensures.some (c.loop-value.invariant.some all);
     }

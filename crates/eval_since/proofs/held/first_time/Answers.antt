@@ -1,4 +1,4 @@
-use Rattle.std.proofs.Common.{ℕ, ◌<◌, List, [], cond, length, sym, subst, ap, ◌∙◌}
+use Rattle.std.proofs.Common.{◌<◌, [], cond, ap, ◌∙◌}
 use Rattle.std.specs.BTreeMap.{is_at}
 use Rattle.mfotl_model.specs.Values.{row_cmp}
 use Rattle.eval_since.proofs.FilledLemmas.{one_has, some_added}
@@ -12,5 +12,4 @@ returns-clause-times c = λ v.
 
 pub returns-clause-some : goal.returns-clause-some
 returns-clause-some c =
-    one_has c.args.row c.in_ok-times.times (subst (λ (ts : List ℕ). 0 < length ts) (sym c.in_ok-times.ensures)
-    (some_added c.args.bounded [] c.args.x))
+    one_has c.args.row c.in_ok-times.times (rw c.in_ok-times.ensures (some_added c.args.bounded [] c.args.x))

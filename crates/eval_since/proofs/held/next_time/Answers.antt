@@ -1,4 +1,4 @@
-use Rattle.std.proofs.Common.{ℕ, ◌<◌, List, length, sym, subst, ◌∙◌}
+use Rattle.std.proofs.Common.{◌<◌, sym, subst, ◌∙◌}
 use Rattle.eval_since.specs.Times.{ArePast, added}
 use Rattle.eval_since.proofs.FilledLemmas.{one_has, some_added}
 use Rattle.eval_since.proofs.OneRowLemmas.{one_changed, own_times}
@@ -15,5 +15,4 @@ returns-then-eq-clause-times c =
 
 pub returns-then-eq-clause-some : goal.returns-then-eq-clause-some
 returns-then-eq-clause-some c = λ _.
-    one_has c.args.first c.add.new.self (subst (λ (ts : List ℕ). 0 < length ts) (sym c.in_ok-add.ensures)
-    (some_added c.args.bounded c.args.times c.args.x))
+    one_has c.args.first c.add.new.self (rw c.in_ok-add.ensures (some_added c.args.bounded c.args.times c.args.x))

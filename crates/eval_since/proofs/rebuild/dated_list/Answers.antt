@@ -1,8 +1,7 @@
-use Rattle.std.proofs.Common.{◌≡◌, ◌&&◌, [], drop, sym, ap, ◌∙◌, arith}
+use Rattle.std.proofs.Common.{◌≡◌, ◌&&◌, [], drop, sym, ◌∙◌, arith}
 use Rattle.std.proofs.lemmas.List.{drop_all}
 use Rattle.std.proofs.Math.Bool.{and-true}
 use Rattle.std.specs.List.{list_all}
-use Rattle.eval_since.specs.declared.recalled.KeptRow.{KeptRow}
 use Rattle.eval_since.specs.declared.contents.Dated.{Dated}
 use Rattle.eval_since.proofs.rebuild.dated_list.Goals as goal
 
@@ -11,6 +10,4 @@ returns-clause-all c = λ test.
     let end : drop c.loop-kept.kept-index c.args.rows.now ≡ [] = drop_all c.loop-kept.kept-index c.args.rows.now
     (omega arith) in
     sym (and-true (list_all (λ (d : Dated). test d.ts) c.loop-kept.list.items))
-    ∙ sym (ap (λ ks. list_all (λ (d : Dated). test d.ts) c.loop-kept.list.items
-    && list_all (λ (k : KeptRow). list_all test k.times.items) ks) end)
-    ∙ c.loop-kept.invariant.all test
+    ∙ (rw end at (c.loop-kept.invariant.all test))

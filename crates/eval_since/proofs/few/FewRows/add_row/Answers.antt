@@ -1,26 +1,21 @@
-use Rattle.std.proofs.Common.{ℕ, ◌<◌, List, [], length, sym, subst, ap, ◌∙◌}
-use Rattle.std.specs.List.{position}
-use Rattle.relations.specs.KeptRows.{RowsDiffer}
+use Rattle.std.proofs.Common.{[]}
 use Rattle.eval_since.specs.Times.{added}
-use Rattle.eval_since.proofs.FewLemmas.{is_its, list_pushed, pushed_differ, some_pushed}
+use Rattle.eval_since.proofs.FewLemmas.{list_pushed, pushed_differ, some_pushed}
 use Rattle.eval_since.proofs.FilledLemmas.{some_added}
 use Rattle.eval_since.proofs.few.FewRows.add_row.Goals as goal
 
 pub invariant_of-self-2 : goal.invariant_of-self-2
 invariant_of-self-2 c =
-    let row = c.args.row in
-    subst RowsDiffer (sym c.in_ok-push.ensures.items) (pushed_differ row c.self.inside.rows.items c.in_ok-times.times
-    (ap (position (is_its row)) c.self.view_is ∙ c.requires) c.self.invariant)
+    rw c.in_ok-push.ensures.items (pushed_differ c.args.row c.self.inside.rows.items c.in_ok-times.times
+    (rw (← c.self.view_is) at c.requires) c.self.invariant)
 
-pub returns-clause-times : goal.returns-clause-times
-returns-clause-times c = rw (← c.self.view_is, c.in_ok-push.ensures.items) (
-    let row = c.args.row in
-    list_pushed row (λ ts. added c.args.bounded ts c.args.x) c.self.inside.rows.items c.in_ok-times.times
-    (ap (position (is_its row)) c.self.view_is ∙ c.requires) c.in_ok-times.ensures)
-
-pub returns-clause-some : goal.returns-clause-some
-returns-clause-some c = rw (← c.self.view_is, c.in_ok-push.ensures.items) (
-    let row = c.args.row in
-    some_pushed row c.self.inside.rows.items c.in_ok-times.times
-    (ap (position (is_its row)) c.self.view_is ∙ c.requires)
-    (subst (λ (ts : List ℕ). 0 < length ts) (sym c.in_ok-times.ensures) (some_added c.args.bounded [] c.args.x)))
+pub returns : goal.returns
+returns c = rw (← c.self.view_is, c.in_ok-push.ensures.items) (
+    let entries = c.self.inside.rows.items in
+    let none = rw (← c.self.view_is) at c.requires in
+    record {
+      times = list_pushed c.args.row (λ ts. added c.args.bounded ts c.args.x) entries c.in_ok-times.times none
+          c.in_ok-times.ensures;
+      some = some_pushed c.args.row entries c.in_ok-times.times none
+          (rw c.in_ok-times.ensures (some_added c.args.bounded [] c.args.x));
+    })

@@ -1,7 +1,6 @@
-use Rattle.std.proofs.Common.{sym, subst, ap, ◌∙◌}
+use Rattle.std.proofs.Common.{sym, ap, ◌∙◌}
 use Rattle.std.specs.List.{position}
 use Rattle.relations.proofs.KeptLemmas.{empty_list, not_empty}
-use Rattle.relations.specs.KeptRows.{RowsDiffer}
 use Rattle.eval_since.specs.Times.{recent}
 use Rattle.eval_since.proofs.FewLemmas.{absent, is_its, list_removed, list_written, removed_differ, some_removed}
 use Rattle.eval_since.proofs.FewLemmas.{some_written, written_differ}
@@ -18,44 +17,39 @@ returns-in_default-clause-times c = rw (← c.self.view_is) (λ v.
 
 pub invariant_of-self : goal.invariant_of-self
 invariant_of-self c =
-    let row = c.args.row.now in
-    subst RowsDiffer (sym c.remove.ensures.items) (removed_differ row c.self.inside.rows.items c.in-Some.place
-    (c.index_mut.result.now.0, c.forget.new.self)
-    (ap (position (is_its row)) (sym c.as_slice.ensures.value) ∙ sym c.in-Some.ensures) c.self.invariant)
+    rw c.remove.ensures.items (removed_differ c.args.row.now c.self.inside.rows.items c.in-Some.place
+    (c.index_mut.result.now.0, c.forget.new.self) (sym (rw c.as_slice.ensures.value at c.in-Some.ensures))
+    c.self.invariant)
 
-pub returns-then-is_empty-clause-times : goal.returns-then-is_empty-clause-times
-returns-then-is_empty-clause-times c = rw (← c.self.view_is, c.remove.ensures.items) (
+pub returns-then-is_empty : goal.returns-then-is_empty
+returns-then-is_empty c = rw (← c.self.view_is, c.remove.ensures.items) (
     let row = c.args.row.now in
-    list_removed row (recent c.args.hi c.args.now) c.self.inside.rows.items c.in-Some.place c.index_mut.result.now
-    (c.index_mut.result.now.0, c.forget.new.self)
-    (ap (position (is_its row)) (sym c.as_slice.ensures.value) ∙ sym c.in-Some.ensures) c.index_mut.ensures.value
-    c.self.invariant
-    (empty_list c.forget.new.self (sym c.is_empty.ensures ∙ c.if-is_empty.true) ∙ c.forget.ensures))
-
-pub returns-then-is_empty-clause-some : goal.returns-then-is_empty-clause-some
-returns-then-is_empty-clause-some c = rw (← c.self.view_is, c.remove.ensures.items) (
-    let row = c.args.row.now in
-    some_removed row c.self.inside.rows.items c.in-Some.place (c.index_mut.result.now.0, c.forget.new.self)
-    (ap (position (is_its row)) (sym c.as_slice.ensures.value) ∙ sym c.in-Some.ensures) c.self.invariant)
+    let entries = c.self.inside.rows.items in
+    let e = c.index_mut.result.now in
+    let left = c.forget.new.self in
+    let at = sym (rw c.as_slice.ensures.value at c.in-Some.ensures) in
+    record {
+      times = list_removed row (recent c.args.hi c.args.now) entries c.in-Some.place e (e.0, left) at
+          c.index_mut.ensures.value c.self.invariant
+          (empty_list left (sym c.is_empty.ensures ∙ c.if-is_empty.true) ∙ c.forget.ensures);
+      some = some_removed row entries c.in-Some.place (e.0, left) at c.self.invariant;
+    })
 
 pub invariant_of-self-else-is_empty : goal.invariant_of-self-else-is_empty
 invariant_of-self-else-is_empty c =
-    let row = c.args.row.now in
-    written_differ row c.self.inside.rows.items c.in-Some.place c.index_mut.result.now c.forget.new.self
-    (ap (position (is_its row)) (sym c.as_slice.ensures.value) ∙ sym c.in-Some.ensures) c.index_mut.ensures.value
-    c.self.invariant
+    written_differ c.args.row.now c.self.inside.rows.items c.in-Some.place c.index_mut.result.now c.forget.new.self
+    (sym (rw c.as_slice.ensures.value at c.in-Some.ensures)) c.index_mut.ensures.value c.self.invariant
 
-pub returns-else-is_empty-clause-times : goal.returns-else-is_empty-clause-times
-returns-else-is_empty-clause-times c = rw (← c.self.view_is) (
+pub returns-else-is_empty : goal.returns-else-is_empty
+returns-else-is_empty c = rw (← c.self.view_is) (
     let row = c.args.row.now in
-    list_written row (recent c.args.hi c.args.now) c.self.inside.rows.items c.in-Some.place c.index_mut.result.now
-    c.forget.new.self
-    (ap (position (is_its row)) (sym c.as_slice.ensures.value) ∙ sym c.in-Some.ensures) c.index_mut.ensures.value
-    c.forget.ensures)
-
-pub returns-else-is_empty-clause-some : goal.returns-else-is_empty-clause-some
-returns-else-is_empty-clause-some c = rw (← c.self.view_is) (
-    let row = c.args.row.now in
-    some_written row c.self.inside.rows.items c.in-Some.place c.index_mut.result.now c.forget.new.self
-    (ap (position (is_its row)) (sym c.as_slice.ensures.value) ∙ sym c.in-Some.ensures) c.index_mut.ensures.value
-    (not_empty c.forget.new.self (sym c.is_empty.ensures ∙ c.if-is_empty.false)))
+    let entries = c.self.inside.rows.items in
+    let e = c.index_mut.result.now in
+    let left = c.forget.new.self in
+    let at = sym (rw c.as_slice.ensures.value at c.in-Some.ensures) in
+    record {
+      times = list_written row (recent c.args.hi c.args.now) entries c.in-Some.place e left at
+          c.index_mut.ensures.value c.forget.ensures;
+      some = some_written row entries c.in-Some.place e left at c.index_mut.ensures.value
+          (not_empty left (sym c.is_empty.ensures ∙ c.if-is_empty.false));
+    })

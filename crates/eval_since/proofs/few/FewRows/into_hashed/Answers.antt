@@ -1,9 +1,6 @@
-use Rattle.std.proofs.Common.{◌≡◌, ℕ, ◌<◌, List, [], length, sym, subst, ap, ap₂, ◌∙◌, rules}
+use Rattle.std.proofs.Common.{◌≡◌, ◌<◌, [], length, sym, ap, ap₂, ◌∙◌, rules}
 use Rattle.std.proofs.lemmas.List.{nil_from_length}
-use Rattle.std.specs.List.{AllByRecursion}
-use Rattle.mfotl_model.specs.declared.value.Value.{Value}
 use Rattle.relations.specs.KeptRows.{list_for}
-use Rattle.eval_since.specs.Groups.{HaveTimes}
 use Rattle.eval_since.proofs.FewLemmas.{each_has, put_all, put_once}
 use Rattle.eval_since.proofs.few.FewRows.into_hashed.Goals as goal
 
@@ -14,9 +11,8 @@ loop-row-init c =
     record {
       put = λ u. ap₂ (λ es ts. put_all es u ts) (rest ∙ c.self.view_is) (ap (λ g. list_for g u) c.new-hashed.ensures);
       some = λ have. (
-        subst (AllByRecursion (λ (e : List Value × List ℕ). 0 < length e.1)) (sym rest)
-            (each_has entries c.self.invariant (subst HaveTimes (sym c.self.view_is) have)),
-        subst HaveTimes (sym c.new-hashed.ensures) (λ v. tt),
+        rw rest (each_has entries c.self.invariant (rw (← c.self.view_is) at have)),
+        rw c.new-hashed.ensures (λ v. tt),
       );
     }
 
@@ -25,8 +21,5 @@ returns-clause-times c = λ v.
     let entries = c.self.inside.rows.items in
     let rest = c.loop-row.row-iterator.rest in
     let end : rest.items ≡ [] = nil_from_length rest.items (sym rest.ok.0 ∙ c.in-None.ensures.steps.0) in
-    sym (ap (λ es. put_all es v (list_for c.loop-row.hashed v)) end)
-    ∙ c.loop-row.invariant.put v
-    ∙ sym (ap (λ es. put_all es v []) c.self.view_is)
-    ∙ put_once entries c.self.invariant v []
-    ∙ ap (λ es. list_for es v) c.self.view_is
+    rw (← c.self.view_is) (rw (end, ← c.self.view_is, put_once entries c.self.invariant v [])
+    at (c.loop-row.invariant.put v))

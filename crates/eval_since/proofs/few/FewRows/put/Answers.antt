@@ -1,44 +1,37 @@
-use Rattle.std.proofs.Common.{refl, sym, subst, ap, ◌∙◌}
+use Rattle.std.proofs.Common.{refl, sym, ap, ◌∙◌}
 use Rattle.std.specs.List.{position}
-use Rattle.relations.specs.KeptRows.{RowsDiffer}
 use Rattle.eval_since.proofs.FewLemmas.{is_its, list_pushed, list_written, pushed_differ, some_pushed, some_written}
 use Rattle.eval_since.proofs.FewLemmas.{written_differ}
 use Rattle.eval_since.proofs.few.FewRows.put.Goals as goal
 
 pub invariant_of-self : goal.invariant_of-self
 invariant_of-self c =
-    let row = c.args.row in
-    written_differ row c.self.inside.rows.items c.in-Some.place c.index_mut.result.now c.args.times
-    (ap (position (is_its row)) (sym c.as_slice.ensures.value) ∙ sym c.in-Some.ensures) c.index_mut.ensures.value
-    c.self.invariant
+    written_differ c.args.row c.self.inside.rows.items c.in-Some.place c.index_mut.result.now c.args.times
+    (sym (rw c.as_slice.ensures.value at c.in-Some.ensures)) c.index_mut.ensures.value c.self.invariant
 
-pub returns-in-Some-clause-times : goal.returns-in-Some-clause-times
-returns-in-Some-clause-times c = rw (← c.self.view_is) (
-    let row = c.args.row in
-    list_written row (λ _. c.args.times) c.self.inside.rows.items c.in-Some.place c.index_mut.result.now c.args.times
-    (ap (position (is_its row)) (sym c.as_slice.ensures.value) ∙ sym c.in-Some.ensures) c.index_mut.ensures.value refl)
-
-pub returns-in-Some-clause-some : goal.returns-in-Some-clause-some
-returns-in-Some-clause-some c = rw (← c.self.view_is) (
-    let row = c.args.row in
-    some_written row c.self.inside.rows.items c.in-Some.place c.index_mut.result.now c.args.times
-    (ap (position (is_its row)) (sym c.as_slice.ensures.value) ∙ sym c.in-Some.ensures) c.index_mut.ensures.value)
+pub returns-in-Some : goal.returns-in-Some
+returns-in-Some c = rw (← c.self.view_is) (
+    let entries = c.self.inside.rows.items in
+    let e = c.index_mut.result.now in
+    let at = sym (rw c.as_slice.ensures.value at c.in-Some.ensures) in
+    record {
+      times = list_written c.args.row (λ _. c.args.times) entries c.in-Some.place e c.args.times at
+          c.index_mut.ensures.value refl;
+      some = some_written c.args.row entries c.in-Some.place e c.args.times at c.index_mut.ensures.value;
+    })
 
 pub invariant_of-self-2 : goal.invariant_of-self-2
 invariant_of-self-2 c =
-    let row = c.args.row in
-    subst RowsDiffer (sym c.in_ok-push.ensures.items) (pushed_differ row c.self.inside.rows.items c.args.times
-    (ap (position (is_its row)) (sym c.as_slice.ensures.value) ∙ sym c.place_of.ensures ∙ c.in_default.is)
+    rw c.in_ok-push.ensures.items (pushed_differ c.args.row c.self.inside.rows.items c.args.times
+    (ap (position (is_its c.args.row)) (sym c.as_slice.ensures.value) ∙ sym c.place_of.ensures ∙ c.in_default.is)
     c.self.invariant)
 
-pub returns-clause-times : goal.returns-clause-times
-returns-clause-times c = rw (← c.self.view_is, c.in_ok-push.ensures.items) (
+pub returns : goal.returns
+returns c = rw (← c.self.view_is, c.in_ok-push.ensures.items) (
     let row = c.args.row in
-    list_pushed row (λ _. c.args.times) c.self.inside.rows.items c.args.times
-    (ap (position (is_its row)) (sym c.as_slice.ensures.value) ∙ sym c.place_of.ensures ∙ c.in_default.is) refl)
-
-pub returns-clause-some : goal.returns-clause-some
-returns-clause-some c = rw (← c.self.view_is, c.in_ok-push.ensures.items) (
-    let row = c.args.row in
-    some_pushed row c.self.inside.rows.items c.args.times
-    (ap (position (is_its row)) (sym c.as_slice.ensures.value) ∙ sym c.place_of.ensures ∙ c.in_default.is))
+    let entries = c.self.inside.rows.items in
+    let none = ap (position (is_its row)) (sym c.as_slice.ensures.value) ∙ sym c.place_of.ensures ∙ c.in_default.is in
+    record {
+      times = list_pushed row (λ _. c.args.times) entries c.args.times none refl;
+      some = some_pushed row entries c.args.times none;
+    })

@@ -1,5 +1,4 @@
-use Rattle.std.proofs.Common.{rules, ◌≡◌, ◌∷◌, [], cond, sym, ap, ◌∙◌}
-use Rattle.mfotl_model.specs.Tables.{has_row}
+use Rattle.std.proofs.Common.{rules, ◌≡◌, ◌∷◌, [], ◌∙◌}
 use Rattle.relations.specs.KeptRows.{list_for}
 use Rattle.eval_since.specs.PackedRows.{alone}
 use Rattle.eval_since.specs.Times.{recent}
@@ -12,11 +11,9 @@ loop-value-preserved c =
     let here : c.loop-value.value-iterator.rest.items ≡ c.in-Some.value ∷ c.next.new.self.rest.items = search rules in
     record {
       times = λ v.
-          let old = list_for c.loop-value.self v in
           row_rest (recent c.args.hi c.args.now) (recent_twice c.args.hi c.args.now) (c.in-Some.value ∷ []) v
-          (alone c.next.new.self.rest.items) old (list_for c.forget.new.self v)
+          (alone c.next.new.self.rest.items) (list_for c.loop-value.self v) (list_for c.forget.new.self v)
           (rw (c.in_ok-push.ensures, c.empty.ensures) at (c.forget.ensures.times v))
-          ∙ ap (λ values. cond (has_row (alone values) v) (recent c.args.hi c.args.now old) old) (sym here)
-          ∙ c.loop-value.invariant.times v;
+          ∙ (rw here at (c.loop-value.invariant.times v));
       some = λ all. c.forget.ensures.some (c.loop-value.invariant.some all);
     }

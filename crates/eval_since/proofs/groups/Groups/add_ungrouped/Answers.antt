@@ -1,11 +1,11 @@
 use Rattle.std.proofs.lemmas.Grind.{common_steps}
-use Rattle.std.proofs.Common.{◌≡◌, ℕ, List, [], Some, arith, refl, sym, subst, ap, ap₂, ◌∙◌}
+use Rattle.std.proofs.Common.{◌≡◌, ℕ, List, [], Some, arith, refl, sym, ap, ap₂, ◌∙◌}
 use Rattle.std.specs.Option.{unwrap_or}
 use Rattle.mfotl_model.specs.Tables.{has_row}
 use Rattle.mfotl_model.specs.declared.value.Value.{Value}
 use Rattle.relations.proofs.KeptLemmas.{each_after}
 use Rattle.relations.specs.KeptRows.{list_for}
-use Rattle.eval_since.specs.Times.{ArePast, added}
+use Rattle.eval_since.specs.Times.{added}
 use Rattle.eval_since.proofs.FilledLemmas.{IsFilled, had_times, rows_changed, some_added}
 use Rattle.eval_since.proofs.GroupLemmas.{ungrouped}
 use Rattle.eval_since.proofs.GroupRowLemmas.{no_rows}
@@ -20,28 +20,23 @@ add_all-requires c = λ v.
     let is : c.or_insert-group.result.now ≡ list_for c.args.self.now [] =
     c.or_insert-group.ensures.value ∙ ap₂ (λ o d. unwrap_or o d) c.in_ok-self-inside.ensures.value c.new.ensures
     ∙ ap (list_for c.self.inside.groups.entries) c.empty.ensures ∙ ap (λ groups. list_for groups []) c.self.view_is in
-    subst (λ (group : List (List Value × List ℕ)). ArePast c.args.x (list_for group v)) (sym is) (c.requires v)
+    rw is (c.requires v)
 
-pub returns-clause-times : goal.returns-clause-times
-returns-clause-times c = rw (← c.self.view_is) (λ q v.
-    ungrouped (λ ts. added c.args.bounded ts c.args.x) c.empty.result q v (has_row c.args.rows.now v)
-    c.self.inside.groups.entries _ c.add_all.new.self c.or_insert-group.result.now (Some c.add_all.new.self)
-    c.empty.ensures
-    (grind (arith, common_steps, (c.in_ok-self-inside.ensures.update.0 c.add_all.new.self).0 q))
-    refl
-    (c.or_insert-group.ensures.value ∙ ap₂ (λ o d. unwrap_or o d) c.in_ok-self-inside.ensures.value c.new.ensures)
-    (c.in_ok-add_all.ensures.times v))
-
-pub returns-clause-some : goal.returns-clause-some
-returns-clause-some c = rw (← c.self.view_is) (λ all.
+pub returns : goal.returns
+returns c = rw (← c.self.view_is) (
+    let h = λ (ts : List ℕ). added c.args.bounded ts c.args.x in
     let old = c.self.inside.groups.entries in
     let group = c.or_insert-group.result.now in
+    let new = c.add_all.new.self in
     let is = c.or_insert-group.ensures.value
     ∙ ap₂ (λ o d. unwrap_or o d) c.in_ok-self-inside.ensures.value c.new.ensures in
-    each_after IsFilled c.empty.result old _ (Some c.add_all.new.self)
-    (λ q. grind (arith, common_steps, (c.in_ok-self-inside.ensures.update.0 c.add_all.new.self).0 q)) (
-      rows_changed (λ ts. added c.args.bounded ts c.args.x) c.args.rows.now group c.add_all.new.self
-          c.in_ok-add_all.ensures.times (λ ts. some_added c.args.bounded ts c.args.x)
-          (sym c.is_empty.ensures ∙ c.if-is_empty.false),
-      c.in_ok-add_all.ensures.some (had_times c.empty.result old group is all),
-    ) all)
+    let step = λ (q : List Value). (c.in_ok-self-inside.ensures.update.0 new).0 q in
+    record {
+      times = λ q v. ungrouped h c.empty.result q v (has_row c.args.rows.now v) old _ new group (Some new)
+          c.empty.ensures (grind (arith, common_steps, step q)) refl is (c.in_ok-add_all.ensures.times v);
+      some = λ all. each_after IsFilled c.empty.result old _ (Some new) (λ q. grind (arith, common_steps, step q)) (
+        rows_changed h c.args.rows.now group new c.in_ok-add_all.ensures.times
+            (λ ts. some_added c.args.bounded ts c.args.x) (sym c.is_empty.ensures ∙ c.if-is_empty.false),
+        c.in_ok-add_all.ensures.some (had_times c.empty.result old group is all),
+      ) all;
+    })

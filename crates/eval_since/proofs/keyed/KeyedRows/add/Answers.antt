@@ -1,5 +1,5 @@
 use Rattle.std.proofs.lemmas.Grind.{common_steps}
-use Rattle.std.proofs.Common.{ℕ, ◌<◌, List, length, Some, arith, sym, subst, ap, ap₂, ◌∙◌}
+use Rattle.std.proofs.Common.{◌<◌, Some, arith, sym, subst, ap, ap₂, ◌∙◌}
 use Rattle.std.specs.Option.{unwrap_or}
 use Rattle.relations.specs.KeptRows.{list_for}
 use Rattle.eval_since.specs.RowKeys.{by_rows}
@@ -27,5 +27,4 @@ pub returns-clause-some : goal.returns-clause-some
 returns-clause-some g c = rw (← c.self.view_is) (times_stay g.K.PartialEq.eq g.K.RowKey.row_of g.met.K.RowKey.same
     c.args.key _ _ (Some c.add.new.self)
     (λ q. grind (arith, common_steps, (c.in_ok-self-inside.ensures.update.0 c.add.new.self).0 q))
-    (subst (λ (ts : List ℕ). 0 < length ts) (sym c.in_ok-add.ensures)
-    (some_added c.args.bounded c.or_insert-times.result.now c.args.x)))
+    (rw c.in_ok-add.ensures (some_added c.args.bounded c.or_insert-times.result.now c.args.x)))

@@ -1,9 +1,6 @@
-use Rattle.std.proofs.Common.{◌&&◌, Bool, List, sym, ap, ◌∙◌, ◌||◌}
+use Rattle.std.proofs.Common.{sym, ◌∙◌}
 use Rattle.std.proofs.Math.Bool.{or-false}
-use Rattle.std.specs.List.{list_any}
 use Rattle.mfotl_model.specs.Tables.{has_row, part}
-use Rattle.mfotl_model.specs.declared.value.Value.{Value}
-use Rattle.eval_since.specs.Groups.{hit}
 use Rattle.eval_since.specs.RowKeys.{by_rows}
 use Rattle.eval_since.proofs.KeyLemmas.{matches_are}
 use Rattle.eval_since.proofs.RowKeyLemmas.{keys_differ}
@@ -13,15 +10,9 @@ pub returns : goal.returns
 returns g c = rw (← c.self.view_is) (λ u.
     let row_of = g.K.RowKey.row_of in
     let entries = c.self.inside.rows.entries in
-    let interval = c.args.interval.now in
-    let wanted : List Value → Bool = λ v.
-    has_row c.args.keys.now.rows (part c.args.columns.now c.args.keys.now.columns v) in
-    sym (or-false (has_row c.loop-key.out.items u))
-    ∙ ap (λ es. has_row c.loop-key.out.items u
-    || list_any (λ e. hit interval c.args.x u e && wanted e.0) (by_rows row_of es))
-    (sym c.in-None.ensures.steps.0) ∙ c.loop-key.invariant u
-    ∙ ap (λ es. has_row c.args.out.now.items u
-    || list_any (λ e. hit interval c.args.x u e && wanted e.0) (by_rows row_of es)) (sym c.self.view_is)
-    ∙ ap (λ b. has_row c.args.out.now.items u || b) (matches_are interval c.args.x u wanted (by_rows row_of entries)
+    let found = matches_are c.args.interval.now c.args.x u
+    (λ v. has_row c.args.keys.now.rows (part c.args.columns.now c.args.keys.now.columns v)) (by_rows row_of entries)
     (keys_differ g.K.PartialEq.eq row_of g.met.K.RowKey.same entries
-    c.into_iter-key-iterator.ensures.into_iter_gives.4)))
+    c.into_iter-key-iterator.ensures.into_iter_gives.4) in
+    sym (or-false (has_row c.loop-key.out.items u))
+    ∙ (rw (c.in-None.ensures.steps.0, ← c.self.view_is, found) at (c.loop-key.invariant u)))

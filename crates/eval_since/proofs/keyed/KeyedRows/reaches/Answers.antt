@@ -1,7 +1,6 @@
 use Rattle.std.proofs.lemmas.Grind.{common_steps}
-use Rattle.std.proofs.Common.{◌≡◌, [], Some, None, arith, sym, ap, ◌∙◌}
+use Rattle.std.proofs.Common.{◌≡◌, [], Some, None, arith, refl}
 use Rattle.std.specs.Map.{lookup}
-use Rattle.std.specs.Option.{unwrap_or}
 use Rattle.eval_since.specs.Times.{reaches}
 use Rattle.eval_since.proofs.RowKeyLemmas.{key_found}
 use Rattle.eval_since.proofs.keyed.KeyedRows.reaches.Goals as goal
@@ -12,14 +11,11 @@ returns-in-Some g c =
     let entries = c.args.self.now in
     let is : Some c.in-Some.times.now ≡ lookup (eq c.args.key.now) entries =
     grind (arith, common_steps, c.in-Some.ensures.value) in
-    c.reaches.ensures ∙ ap (λ o. reaches c.args.interval.now (unwrap_or o []) c.args.x)
-    (is ∙ sym (key_found eq g.K.RowKey.row_of g.met.K.RowKey.same c.args.key.now entries))
+    rw (key_found eq g.K.RowKey.row_of g.met.K.RowKey.same c.args.key.now entries, ← is) c.reaches.ensures
 
 pub returns-in-None : goal.returns-in-None
 returns-in-None g c =
     let eq = g.K.PartialEq.eq in
     let entries = c.args.self.now in
-    let none : None ≡ lookup (eq c.args.key.now) entries =
-    grind (arith, common_steps, c.in-None.ensures.value) in
-    sym (ap (λ o. reaches c.args.interval.now (unwrap_or o []) c.args.x)
-    (key_found eq g.K.RowKey.row_of g.met.K.RowKey.same c.args.key.now entries ∙ sym none))
+    let none : None ≡ lookup (eq c.args.key.now) entries = grind (arith, common_steps, c.in-None.ensures.value) in
+    rw (key_found eq g.K.RowKey.row_of g.met.K.RowKey.same c.args.key.now entries, ← none) refl

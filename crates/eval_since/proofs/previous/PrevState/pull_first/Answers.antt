@@ -1,7 +1,8 @@
-use Rattle.std.proofs.Common.{◌∙◌}
-use Rattle.eval_since.proofs.PreviousLemmas.{never_first}
+use Rattle.std.proofs.Common.{arith}
+use Rattle.std.proofs.lemmas.Bool.Decides.{nat_tests}
+use Rattle.mfotl_model.specs.Satisfaction.{previous}
 use Rattle.eval_since.proofs.previous.PrevState.pull_first.Goals as goal
 
 pub returns-clause-rows : goal.returns-clause-rows
-returns-clause-rows c = λ t a v f.
-    c.empty.ensures.has v ∙ never_first c.args.self.now.interval t a c.args.self.now.pulled c.requires.first
+unfolding previous
+returns-clause-rows c = λ t a v f. grind (arith, nat_tests, c.empty.ensures.has v, c.requires.first)

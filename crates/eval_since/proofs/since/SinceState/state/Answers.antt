@@ -1,6 +1,5 @@
-use Rattle.std.proofs.Common.{refl, ap, sym, subst, ◌∙◌}
+use Rattle.std.proofs.Common.{refl, ap, ◌∙◌}
 use Rattle.relations.specs.KeptRows.{filled}
-use Rattle.relations.specs.Pushed.{AreOver}
 use Rattle.mfotl_model.specs.Tables.{part}
 use Rattle.eval_since.specs.Times.{reaches}
 use Rattle.eval_since.specs.WindowView.{kept_times}
@@ -22,8 +21,8 @@ returns-clause-rule c = rw (← c.self.view_is) (
     record {
       few = c.self.invariant.few;
       climbs = climbs_newest s.window.last s.times.items s.newest c.self.invariant.climbs;
-      lefts = subst (AreOver s.window.left) (sym c.in_ok-copied_tables.ensures) c.self.invariant.over_left;
-      rights = subst (AreOver s.window.right) (sym c.in_ok-copied_tables-2.ensures) c.self.invariant.over;
+      lefts = rw c.in_ok-copied_tables.ensures c.self.invariant.over_left;
+      rights = rw c.in_ok-copied_tables-2.ensures c.self.invariant.over;
       rows = c.in_ok-kept.ensures.rows;
       sized = c.in_ok-kept.ensures.sized;
       each = c.in_ok-kept.ensures.each;
@@ -32,21 +31,6 @@ returns-clause-rule c = rw (← c.self.view_is) (
     })
 
 pub returns-clause-follows : goal.returns-clause-follows
-returns-clause-follows c = rw (← c.self.view_is) (
-    let s = c.self.inside in
-    λ t a b v f. data_follows (record {
-      window = s.window;
-      negated = s.negated;
-      pulled = s.pulled;
-      newest = s.newest;
-      times = s.times.items;
-      lefts = s.lefts.items;
-      rights = s.rights.items;
-    }) (record {
-      pulled = s.pulled;
-      lefts = c.in_ok-copied_tables.field-0;
-      rights = c.in_ok-copied_tables-2.field-0;
-      rows = c.in_ok-kept.field-0;
-    }) t a b v c.self.invariant.inside c.self.invariant.over_left c.self.invariant.over refl
-    c.in_ok-copied_tables.ensures c.in_ok-copied_tables-2.ensures
-    (rw (← c.self.view_is) at (returns-clause-rows c)) f)
+returns-clause-follows c = rw (← c.self.view_is) (λ t a b v f.
+    data_follows _ f c.self.invariant.inside c.self.invariant.over_left c.self.invariant.over refl
+    c.in_ok-copied_tables.ensures c.in_ok-copied_tables-2.ensures (rw (← c.self.view_is) at (returns-clause-rows c)))

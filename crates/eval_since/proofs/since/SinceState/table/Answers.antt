@@ -4,6 +4,6 @@ use Rattle.eval_since.proofs.since.SinceState.table.Goals as goal
 
 pub returns-clause-rows : goal.returns-clause-rows
 returns-clause-rows c = rw (← c.self.view_is) (
-    let s = c.self.inside in
-    λ t a b v f some. sym (right_of c.in_ok-table.table s.window.right v c.in_ok-table.ensures.columns)
-    ∙ c.in_ok-table.ensures.rows (map v s.window.right) ∙ table_is _ t a b (map v s.window.right) f some)
+    let right = c.self.inside.window.right in
+    λ t a b v f some. sym (right_of c.in_ok-table.table right v c.in_ok-table.ensures.columns)
+    ∙ c.in_ok-table.ensures.rows (map v right) ∙ table_is f some)

@@ -11,6 +11,6 @@ returns-clause-rows c =
     let s = c.self.inside in
     λ t a b v f some. sym (right_of c.in_ok-table.table s.window.right v c.in_ok-table.ensures.columns)
     ∙ c.in_ok-table.ensures.rows (map v s.window.right)
-    ∙ ap₂ (λ d e. d && e) (table_is _ t a b (map v s.window.right) f some)
+    ∙ ap₂ (λ d e. d && e) (table_is f some)
     (ap (has_row c.args.keys.now.rows) (part_of_own v s.window.right c.args.keys.now.columns inside)
     ∙ right_of c.args.keys.now c.args.keys.now.columns v refl))
