@@ -1,8 +1,8 @@
 -- Rows that are listed by a part of them.
 use Rattle.std.proofs.Common.{◌≡◌, ℕ, ◌+◌, ◌<◌, Bool, true, false, cond, nat_eq, ◌&&◌, ◌||◌, List, [], ◌∷◌, ◌++◌}
 use Rattle.std.proofs.Common.{get_or, length, take, Option, Some, None, refl, sym, ap, ◌∙◌, arith}
-use Rattle.std.proofs.lemmas.Bool.{and_from, and_parts, or_left, or_right}
-use Rattle.std.proofs.Math.Bool.{and-false, or_assoc, or-false}
+use Rattle.std.proofs.lemmas.Bool.{and_parts, or_left, or_right}
+use Rattle.std.proofs.Math.Bool.{and-false, or-false}
 use Rattle.std.specs.BTreeMap.{is_at}
 use Rattle.std.specs.Cmp.{eq_by_cmp_equiv}
 use Rattle.std.specs.List.{list_all, list_any}
@@ -15,7 +15,7 @@ use Rattle.mfotl_model.specs.Values.{row_cmp, row_total}
 use Rattle.mfotl_model.specs.declared.interval.Interval.{Interval}
 use Rattle.mfotl_model.specs.declared.value.Value.{Value}
 use Rattle.relations.specs.KeptRows.{list_for}
-use Rattle.relations.proofs.MapLemmas.{same_row}
+use Rattle.relations.proofs.MapLemmas.{either, same_row}
 use Rattle.relations.proofs.OperationLaws.{any_at}
 use Rattle.relations.proofs.TableRows.{has_more}
 use Rattle.eval_until.specs.ByKey.{KeyedRows, Listed, is_listed}
@@ -23,6 +23,7 @@ use Rattle.eval_until.specs.declared.entries.Entry.{Entry}
 use Rattle.eval_until.specs.Entries.{from_place, met_by}
 use Rattle.eval_until.specs.Rules.{NoneEmpty}
 use Rattle.eval_until.proofs.EntriesLemmas.{all_from_place}
+use Rattle.eval_until.proofs.RowsLemmas.{found_alike}
 
 -- a change at one row of one set
 pub changed_set : (h : Bool → Bool) (key row q u : List Value) (old new : List (List Value × List (List Value)))
@@ -33,17 +34,7 @@ pub changed_set : (h : Bool → Bool) (key row q u : List Value) (old new : List
     → has_row g u ≡ cond (is_at (row_cmp row) u) (h (has_row e u)) (has_row e u)
     → has_row (list_for new q) u ≡ cond (is_at (row_cmp key) q && is_at (row_cmp row) u)
     (h (has_row (list_for old q) u)) (has_row (list_for old q) u)
-changed_set h key row q u old new g e w outer is was inner =
-    ap (λ o. has_row (unwrap_or o []) u) outer ∙ by (is_at (row_cmp key) q) refl
-  where
-    by : (b : Bool) → is_at (row_cmp key) q ≡ b
-        → has_row (unwrap_or (cond b w (lookup (is_at (row_cmp q)) old)) []) u
-        ≡ cond (b && is_at (row_cmp row) u) (h (has_row (list_for old q) u)) (has_row (list_for old q) u)
-    by true at =
-        ap (λ rows. has_row rows u) is ∙ inner
-        ∙ ap (λ rows. cond (is_at (row_cmp row) u) (h (has_row rows u)) (has_row rows u))
-        (was ∙ ap (list_for old) (same_row key q at))
-    by false at = refl
+changed_set h key row q u old new g e w outer is was inner = grind (arith, found_alike key q old)
 
 -- an empty set has no row to lose
 pub none_out : (b : Bool) → false ≡ cond b false false
@@ -51,10 +42,7 @@ none_out true = refl
 none_out false = refl
 
 pub or_cond : (a b : Bool) → (a || b) ≡ cond b true a
-or_cond true true = refl
-or_cond true false = refl
-or_cond false true = refl
-or_cond false false = refl
+or_cond a b = grind arith
 
 -- where a row was put into the set of its part, it is listed, and each other as before
 pub listed_more : (right columns : List ℕ) (row u : List Value) (old new : List (List Value × List (List Value)))
@@ -63,30 +51,8 @@ pub listed_more : (right columns : List ℕ) (row u : List Value) (old new : Lis
     → is_listed right (record { columns = columns; sets = new }) u
     ≡ (is_listed right (record { columns = columns; sets = old }) u || is_at (row_cmp row) u)
 listed_more right columns row u old new step =
-    ap (λ b. nat_eq (length columns) 0 || b) (step (part right columns u) u)
-    ∙ by (is_at (row_cmp row) u) refl
-  where
-    there : (n a : Bool) → (n || true) ≡ ((n || a) || true)
-    there true a = refl
-    there false true = refl
-    there false false = refl
-
-    apart : (n a b : Bool) → (n || cond (b && false) true a) ≡ ((n || a) || false)
-    apart n a true = sym (or-false (n || a))
-    apart n a false = sym (or-false (n || a))
-
-    by : (b : Bool) → is_at (row_cmp row) u ≡ b → (nat_eq (length columns) 0
-        || cond (is_at (row_cmp (part right columns row)) (part right columns u) && b) true
-        (has_row (list_for old (part right columns u)) u))
-        ≡ ((nat_eq (length columns) 0 || has_row (list_for old (part right columns u)) u) || b)
-    by true at =
-        ap (λ c. nat_eq (length columns) 0 || cond (c && true) true (has_row (list_for old (part right columns u)) u))
-        (ap (λ r. is_at (row_cmp (part right columns row)) (part right columns r)) (sym (same_row row u at))
-        ∙ (eq_by_cmp_equiv row_total).refl (part right columns row))
-        ∙ there (nat_eq (length columns) 0) (has_row (list_for old (part right columns u)) u)
-    by false at =
-        apart (nat_eq (length columns) 0) (has_row (list_for old (part right columns u)) u)
-        (is_at (row_cmp (part right columns row)) (part right columns u))
+    let own = part right columns row in
+    grind (arith, step (part right columns u) u, same_row row u, (eq_by_cmp_equiv row_total).refl own)
 
 -- where it was taken out of that set, it isn't
 pub listed_gone : (right columns : List ℕ) (row : List Value) (old new : List (List Value × List (List Value)))
@@ -94,12 +60,9 @@ pub listed_gone : (right columns : List ℕ) (row : List Value) (old new : List 
     ≡ cond (is_at (row_cmp (part right columns row)) q && is_at (row_cmp row) v) false (has_row (list_for old q) v))
     → is_listed right (record { columns = columns; sets = new }) row ≡ nat_eq (length columns) 0
 listed_gone right columns row old new step =
-    let k = part right columns row in
-    ap (λ b. nat_eq (length columns) 0 || b) (step k row
-    ∙ ap (λ b. cond (b && is_at (row_cmp row) row) false (has_row (list_for old k) row))
-    ((eq_by_cmp_equiv row_total).refl k)
-    ∙ ap (λ b. cond b false (has_row (list_for old k) row)) ((eq_by_cmp_equiv row_total).refl row))
-    ∙ or-false (nat_eq (length columns) 0)
+    let own = part right columns row in
+    let itself = (eq_by_cmp_equiv row_total).refl in
+    grind (arith, step own row, itself own, itself row)
 
 -- and each other is as before
 pub listed_others : (right columns : List ℕ) (row u : List Value) (old new : List (List Value × List (List Value)))
@@ -108,38 +71,18 @@ pub listed_others : (right columns : List ℕ) (row u : List Value) (old new : L
     → is_at (row_cmp row) u ≡ false
     → is_listed right (record { columns = columns; sets = new }) u
     ≡ is_listed right (record { columns = columns; sets = old }) u
-listed_others right columns row u old new step apart =
-    ap (λ b. nat_eq (length columns) 0 || b) (step (part right columns u) u
-    ∙ ap (λ b. cond (is_at (row_cmp (part right columns row)) (part right columns u) && b) false
-    (has_row (list_for old (part right columns u)) u)) apart
-    ∙ by (is_at (row_cmp (part right columns row)) (part right columns u)))
-  where
-    by : (b : Bool) → cond (b && false) false (has_row (list_for old (part right columns u)) u)
-        ≡ has_row (list_for old (part right columns u)) u
-    by true = refl
-    by false = refl
+listed_others right columns row u old new step apart = grind (arith, step (part right columns u) u)
 
 -- one row of a table more
 pub list_more : (table : List (List Value)) (i : ℕ) (x u : List Value) (old cur new : Bool) → i < length table
     → x ≡ get_or table i x
     → cur ≡ (old || has_row (take i table) u) → new ≡ (cur || is_at (row_cmp x) u)
     → new ≡ (old || has_row (take (i + 1) table) u)
-list_more table i x u old cur new low e before step =
-    step ∙ ap (λ b. b || is_at (row_cmp x) u) before
-    ∙ or_assoc old (has_row (take i table) u) (is_at (row_cmp x) u)
-    ∙ ap (λ b. old || b) (sym (has_more table i x u low e))
+list_more table i x u old cur new low e before step = grind (arith, has_more table i x u low e)
 
 -- a row that is listed already is left out
 pub list_same : (is : List Value → Bool) (x u : List Value) → is x ≡ true → is u ≡ (is u || is_at (row_cmp x) u)
-list_same is x u there = by (is_at (row_cmp x) u) refl
-  where
-    or_true : (b : Bool) → (b || true) ≡ true
-    or_true true = refl
-    or_true false = refl
-
-    by : (b : Bool) → is_at (row_cmp x) u ≡ b → is u ≡ (is u || b)
-    by true at = ap is (sym (same_row x u at)) ∙ there ∙ sym (or_true (is u))
-    by false at = sym (or-false (is u))
+list_same is x u there = grind (arith, same_row x u)
 
 -- a row that has entries is listed
 pub kept_listed : (right : List ℕ) (keyed : KeyedRows) (rows : List (List Value × List Entry)) (row : List Value)
@@ -158,7 +101,7 @@ kept_listed right keyed rows row some listed there =
 
 pub each_of : (b : Bool) (es : List Entry) → b ≡ true → list_all (λ e. b) es ≡ true
 each_of b [] is = refl
-each_of b (e ∷ es) is = and_from b (list_all (λ f. b) es) is (each_of b es is)
+each_of b (e ∷ es) is = grind (arith, each_of b es is)
 
 -- after a table was taken, whose rows were listed
 pub listed_taken : (right : List ℕ) (old new : KeyedRows) (table : List (List Value)) (entry : List Value → Entry)
@@ -184,13 +127,10 @@ pub listed_thinned : (right : List ℕ) (keyed : KeyedRows) (next : ℕ) (at : L
     (old new : List (List Value × List Entry))
     → ((u : List Value) → list_for new u ≡ cond (at u) (from_place next (list_for old u)) (list_for old u))
     → Listed right keyed old → Listed right keyed new
-listed_thinned right keyed next at old new step listed u = ap (list_all (λ e. is_listed right keyed u)) (step u)
-    ∙ by (at u)
-  where
-    by : (b : Bool) → list_all (λ e. is_listed right keyed u)
-        (cond b (from_place next (list_for old u)) (list_for old u)) ≡ true
-    by true = all_from_place (λ e. is_listed right keyed u) next (list_for old u) (listed u)
-    by false = listed u
+listed_thinned right keyed next at old new step listed u =
+    either (λ es. list_all (λ e. is_listed right keyed u) es ≡ true) (at u) (from_place next (list_for old u))
+    (list_for old u) (list_for new u) (step u)
+    (all_from_place (λ e. is_listed right keyed u) next (list_for old u) (listed u)) (listed u)
 
 -- after a row of which nothing is kept was taken out
 pub listed_without : (right : List ℕ) (old new : KeyedRows) (rows : List (List Value × List Entry)) (row : List Value)
@@ -224,9 +164,7 @@ listed_if_kept (e ∷ es) u b if_kept = by (is_at (row_cmp u) e.0) refl (listed_
 -- one of the rows that are kept was listed
 pub list_next : (row u : List Value) (cur new rest : Bool) → new ≡ (cur || is_at (row_cmp row) u)
     → (cur || (eq_by_cmp row_cmp u row || rest)) ≡ true → (new || rest) ≡ true
-list_next row u cur new rest step before =
-    ap (λ b. b || rest) step ∙ or_assoc cur (is_at (row_cmp row) u) rest
-    ∙ ap (λ b. cur || (b || rest)) (sym ((eq_by_cmp_equiv row_total).symm u row)) ∙ before
+list_next row u cur new rest step before = grind (arith, (eq_by_cmp_equiv row_total).symm u row)
 
 -- a row that meets UNTIL is listed
 met_listed : (interval : Interval) (i x : ℕ) (b : Bool) (es : List Entry) → met_by interval i x es ≡ true

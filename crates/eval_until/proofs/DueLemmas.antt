@@ -1,7 +1,6 @@
 -- When the next position of UNTIL is due.
-use Rattle.std.proofs.Common.{◌≡◌, ℕ, zero, suc, ◌+◌, ◌-◌, ◌<◌, ◌≤◌, Bool, true, false, ◌&&◌, ◌||◌, nat_lt, min}
-use Rattle.std.proofs.Common.{List, [], ◌∷◌, Option, Some, None, length, slice_index, refl, ap, ◌∙◌, arith, inl}
-use Rattle.std.proofs.Common.{inr, lt-ltb}
+use Rattle.std.proofs.Common.{◌≡◌, ℕ, zero, suc, ◌+◌, ◌-◌, ◌<◌, ◌≤◌, Bool, true, false, ◌&&◌, ◌||◌, nat_lt, min, List}
+use Rattle.std.proofs.Common.{[], ◌∷◌, Option, Some, None, length, slice_index, refl, ap, ◌∙◌, arith, inl, inr, lt-ltb}
 use borrow.Author.Tests.{ltb-true}
 use Rattle.std.proofs.lemmas.Bool.{cases_lt, and_parts, and_from, or_cases, or_left, or_right}
 use Rattle.std.specs.Cmp.{both_ways}
@@ -44,23 +43,13 @@ module _ (t : List ℕ) (p hi : ℕ) (times : List ℕ) (l r : ℕ) (long : leng
       let f = first some in
       let at = stands_at t p times k stands (omega arith) in
       let x : time_at t p + hi < time_at t (p + k) = omega (arith, f, at) in
-      and_from (nat_lt p (length t) && list_any (λ j. nat_lt (time_at t p + hi) (time_at t j))
-      (range_with_len 0 (length t)))
-      (list_all (λ j. nat_lt (time_at t p + hi) (time_at t j) || (nat_lt j l && nat_lt j r))
-      (range_with_len p (length t - p)))
-      (and_from (nat_lt p (length t))
-      (list_any (λ j. nat_lt (time_at t p + hi) (time_at t j)) (range_with_len 0 (length t)))
-      (lt-ltb p (length t) (omega arith))
-      (any_from (λ j. nat_lt (time_at t p + hi) (time_at t j)) 0 (length t) (p + k) (omega arith) (omega arith)
-      (lt-ltb _ _ x)))
-      (all_from (λ j. nat_lt (time_at t p + hi) (time_at t j) || (nat_lt j l && nat_lt j r)) p (length t - p)
-      (λ j a b. elim (cases_lt j (min l r)) [
-        | inl below ↦ or_right (nat_lt (time_at t p + hi) (time_at t j)) (nat_lt j l && nat_lt j r)
-            (and_from (nat_lt j l) (nat_lt j r) (lt-ltb j l (omega arith)) (lt-ltb j r (omega arith)))
+      and_from _ _ (and_from _ _ (lt-ltb p (length t) (omega arith))
+      (any_from _ 0 (length t) (p + k) (omega arith) (omega arith) (lt-ltb _ _ x)))
+      (all_from _ p (length t - p) (λ j a b. elim (cases_lt j (min l r)) [
+        | inl below ↦ or_right _ _ (and_from _ _ (lt-ltb j l (omega arith)) (lt-ltb j r (omega arith)))
         | inr above ↦
             let g : time_at t (p + k) ≤ time_at t j = never (p + k) j (omega arith) (omega arith) in
-            or_left (nat_lt (time_at t p + hi) (time_at t j)) (nat_lt j l && nat_lt j r)
-            (lt-ltb (time_at t p + hi) (time_at t j) (omega arith))
+            or_left _ _ (lt-ltb (time_at t p + hi) (time_at t j) (omega arith))
       ]))
 
   far_from : until_settled (Some hi) t (λ j. nat_lt j l && nat_lt j r) p ≡ true

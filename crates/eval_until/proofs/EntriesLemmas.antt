@@ -1,16 +1,13 @@
 -- The entries of a row: one more behind the others, and those without what was pulled.
-use Rattle.std.proofs.Common.{◌≡◌, ℕ, ◌-◌, ◌<◌, ◌≤◌, Bool, true, false, cond, ◌&&◌, ◌||◌, nat_le, nat_lt, List, []}
-use Rattle.std.proofs.Common.{◌∷◌, ◌++◌, drop, refl, sym, subst, ap, ◌∙◌, arith, inl, inr}
-use borrow.Author.Tests.{ltb-true}
-use Rattle.std.proofs.lemmas.Bool.{and_parts, and_from}
+use Rattle.std.proofs.Common.{◌≡◌, ℕ, ◌<◌, ◌≤◌, Bool, true, false, cond, nat_le, nat_lt, List, [], ◌∷◌, ◌++◌, drop}
+use Rattle.std.proofs.Common.{refl, sym, subst, ap, ◌∙◌, arith, inl, inr}
+use Rattle.std.proofs.lemmas.Bool.{and_parts}
 use Rattle.std.proofs.lemmas.Bool.Decides.{nat_tests}
-use Rattle.std.proofs.lemmas.List.Folds.{list_all-append}
-use Rattle.std.proofs.Math.Bool.{and-false}
 use Rattle.std.specs.List.{list_all}
-use Rattle.mfotl_model.specs.Intervals.{in_interval}
 use Rattle.mfotl_model.specs.declared.interval.Interval.{Interval}
+use Rattle.relations.proofs.TestLemmas.{all_push}
 use Rattle.eval_until.specs.declared.entries.Entry.{Entry}
-use Rattle.eval_until.specs.Entries.{meets, met_by, from_place}
+use Rattle.eval_until.specs.Entries.{met_by, from_place}
 use Rattle.eval_until.specs.Keeping.{IsThinned}
 use Rattle.eval_until.specs.Rules.{PlacesAscend, all_before}
 
@@ -22,54 +19,31 @@ from_none next = refl
 pub from_front : (next : ℕ) (e : Entry) (es : List Entry) → e.place < next
     → from_place next (e ∷ es) ≡ from_place next es
 unfolding from_place
-from_front next e es l = let f : nat_le next e.place ≡ false = grind (arith, nat_tests) in
-    ap (λ b. cond b (e ∷ from_place next es) (from_place next es)) f
+from_front next e es l = grind (arith, nat_tests)
 
 later_stay : (next y : ℕ) (es : List Entry) → next ≤ y → list_all (λ f. nat_lt y f.place) es ≡ true
     → from_place next es ≡ es
 unfolding from_place
 later_stay next y [] l all = refl
-later_stay next y (e ∷ es) l all =
-    let parts = and_parts (nat_lt y e.place) (list_all (λ f. nat_lt y f.place) es) all in
-    let m : y < e.place = ltb-true y e.place parts.0 in
-    let f : nat_le next e.place ≡ true = grind (arith, nat_tests) in
-    ap (λ b. cond b (e ∷ from_place next es) (from_place next es)) f
-    ∙ ap (λ r. e ∷ r) (later_stay next y es l parts.1)
+later_stay next y (e ∷ es) l all = grind (arith, nat_tests, later_stay next y es l)
 
 -- where the first stays, all do
 pub from_here : (next : ℕ) (e : Entry) (es : List Entry) → next ≤ e.place → PlacesAscend (e ∷ es)
     → from_place next (e ∷ es) ≡ e ∷ es
 unfolding from_place
-from_here next e es l ascend = let f : nat_le next e.place ≡ true = grind (arith, nat_tests) in
-    ap (λ b. cond b (e ∷ from_place next es) (from_place next es)) f
-    ∙ ap (λ r. e ∷ r) (later_stay next e.place es l ascend.0)
+from_here next e es l ascend = grind (arith, nat_tests, later_stay next e.place es l ascend.0)
 
 pub from_twice : (next : ℕ) (es : List Entry) → from_place next (from_place next es) ≡ from_place next es
 unfolding from_place
 from_twice next [] = refl
-from_twice next (e ∷ es) = by (nat_le next e.place) refl (from_twice next es)
-  where
-    by : (b : Bool) → nat_le next e.place ≡ b → from_place next (from_place next es) ≡ from_place next es
-        → from_place next (cond b (e ∷ from_place next es) (from_place next es))
-        ≡ cond b (e ∷ from_place next es) (from_place next es)
-    by true at rest =
-        ap (λ b. cond b (e ∷ from_place next (from_place next es)) (from_place next (from_place next es))) at
-        ∙ ap (λ r. e ∷ r) rest
-    by false at rest = rest
+from_twice next (e ∷ es) = grind (arith, nat_tests, from_twice next es)
 
 -- what holds of each entry holds of those that are left
 pub all_from_place : (p : Entry → Bool) (next : ℕ) (es : List Entry) → list_all p es ≡ true
     → list_all p (from_place next es) ≡ true
 unfolding from_place
 all_from_place p next [] all = refl
-all_from_place p next (e ∷ es) all =
-    let parts = and_parts (p e) (list_all p es) all in
-    by (nat_le next e.place) parts.0 (all_from_place p next es parts.1)
-  where
-    by : (b : Bool) → p e ≡ true → list_all p (from_place next es) ≡ true
-        → list_all p (cond b (e ∷ from_place next es) (from_place next es)) ≡ true
-    by true here rest = and_from (p e) (list_all p (from_place next es)) here rest
-    by false here rest = rest
+all_from_place p next (e ∷ es) all = grind (arith, nat_tests, all_from_place p next es)
 
 pub ascend_from : (next : ℕ) (es : List Entry) → PlacesAscend es → PlacesAscend (from_place next es)
 unfolding from_place
@@ -90,32 +64,15 @@ pub ascend_push : (es : List Entry) (e : Entry) → PlacesAscend es → all_befo
     → PlacesAscend (es ++ e ∷ [])
 ascend_push [] e ascend all = (refl, tt)
 ascend_push (f ∷ fs) e ascend all =
-    let parts = and_parts (nat_lt f.place e.place) (all_before e.place fs) all in (
-      list_all-append (λ g. nat_lt f.place g.place) fs (e ∷ [])
-          ∙ and_from (list_all (λ g. nat_lt f.place g.place) fs) (nat_lt f.place e.place && true) ascend.0
-          (and_from (nat_lt f.place e.place) true parts.0 refl),
-      ascend_push fs e ascend.1 parts.1,
-    )
-
-gone : (interval : Interval) (i x next : ℕ) (e : Entry) → next ≤ i → e.place < next → meets interval i x e ≡ false
-gone interval i x next e l m =
-    let f : nat_le i e.place ≡ false = grind (arith, nat_tests) in
-    ap (λ b. nat_le e.start i && b && in_interval interval (e.ts - x)) f
-    ∙ ap (λ b. b && in_interval interval (e.ts - x)) (and-false (nat_le e.start i))
+    let parts = and_parts (nat_lt f.place e.place) (all_before e.place fs) all in
+    (all_push (λ g. nat_lt f.place g.place) fs e ascend.0 parts.0, ascend_push fs e ascend.1 parts.1)
 
 -- what stands before a position meets nothing from there on
 pub met_from : (interval : Interval) (i x next : ℕ) (es : List Entry) → next ≤ i
     → met_by interval i x (from_place next es) ≡ met_by interval i x es
 unfolding from_place
 met_from interval i x next [] l = refl
-met_from interval i x next (e ∷ es) l = by (nat_le next e.place) refl (met_from interval i x next es l)
-  where
-    by : (b : Bool) → nat_le next e.place ≡ b → met_by interval i x (from_place next es) ≡ met_by interval i x es
-        → met_by interval i x (cond b (e ∷ from_place next es) (from_place next es))
-        ≡ (meets interval i x e || met_by interval i x es)
-    by true f rest = ap (λ b. meets interval i x e || b) rest
-    by false f rest = let m : e.place < next = grind (arith, nat_tests) in
-        rest ∙ ap (λ b. b || met_by interval i x es) (sym (gone interval i x next e l m))
+met_from interval i x next (e ∷ es) l = grind (arith, nat_tests, met_from interval i x next es l)
 
 -- of a list that may have been thinned
 pub met_thinned : (interval : Interval) (i x next : ℕ) (old new : List Entry) → next ≤ i → IsThinned next old new
@@ -139,7 +96,4 @@ none_thinned next old new (inr thin) none = thin ∙ ap (from_place next) none �
 -- one row more of a table whose entries are forgotten
 pub thin_more : (next : ℕ) (old cur new : List Entry) (b : Bool) → IsThinned next old cur
     → new ≡ cond b (from_place next cur) cur → IsThinned next old new
-thin_more next old cur new true (inl same) e = inr (e ∙ ap (from_place next) same)
-thin_more next old cur new false (inl same) e = inl (e ∙ same)
-thin_more next old cur new true (inr thin) e = inr (e ∙ ap (from_place next) thin ∙ from_twice next old)
-thin_more next old cur new false (inr thin) e = inr (e ∙ thin)
+thin_more next old cur new b thin e = grind (arith, from_twice next old)

@@ -1,7 +1,7 @@
 -- The state of UNTIL: what a push, a position that is taken, and one that is pulled keep, and what it answers.
 use Rattle.std.proofs.Common.{◌≡◌, ℕ, zero, suc, ◌+◌, ◌-◌, ◌<◌, ◌≤◌, Bool, true, false, cond, ◌&&◌, ◌||◌, nat_le}
-use Rattle.std.proofs.Common.{nat_lt, min, List, [], ◌∷◌, ◌++◌, Option, Some, None, length, map, get_or}
-use Rattle.std.proofs.Common.{slice_index, refl, sym, subst, ap, ap₂, ◌∙◌, arith, inl, inr}
+use Rattle.std.proofs.Common.{nat_lt, min, List, [], ◌∷◌, ◌++◌, Option, Some, None, length, map, get_or, slice_index}
+use Rattle.std.proofs.Common.{refl, sym, ap, ap₂, ◌∙◌, arith, inl, inr}
 use borrow.Author.Tests.{ltb-true}
 use Rattle.std.proofs.lemmas.Bool.{cases_lt, eqb-true}
 use Rattle.std.proofs.lemmas.Bool.Decides.{nat_tests}
@@ -76,52 +76,40 @@ more_anywhere interval t a b p i = elim (cases_lt p i) [
 ]
   where
     none : (m c s d : Bool) → (m || (c && (s && false && d))) ≡ m
-    none true c s d = refl
-    none false true true d = refl
-    none false true false d = refl
-    none false false s d = refl
+    none m c s d = grind arith
 
     turned_round : (c s d : Bool) → (c && (s && true && d)) ≡ (d && c && s)
-    turned_round true true true = refl
-    turned_round true true false = refl
-    turned_round true false true = refl
-    turned_round true false false = refl
-    turned_round false true true = refl
-    turned_round false true false = refl
-    turned_round false false true = refl
-    turned_round false false false = refl
+    turned_round c s d = grind arith
 
 -- one position is taken
-module _ (k n : AheadOf) (ts : ℕ) (times : List ℕ) (l : TableOf) (ls : List TableOf) (r : TableOf)
-    (rs : List TableOf) where
-  pub record Taken : Type 0 where
-    pub interval : n.interval ≡ k.interval
-    pub left : n.left ≡ k.left
-    pub right : n.right ≡ k.right
-    pub negated : n.negated ≡ k.negated
-    pub pulled : n.pulled ≡ k.pulled
-    pub taken : n.taken ≡ k.taken + 1
-    pub inside : all_among k.left k.right ≡ true
-    pub lefts : l.columns ≡ k.left
-    pub rights : r.columns ≡ k.right
-    pub met : (i x : ℕ) (u : List Value) → met n i x u ≡ (met k i x u || (has_row r.rows u
-        && (nat_le (run_start k (part k.right k.left u)) i && nat_le i k.taken && in_interval k.interval (ts - x))))
-    pub start : (w : List Value) → run_start n w
-        ≡ cond (turned k.negated (has_row l.rows w)) (run_start k w) (k.taken + 1)
+pub record Taken (k n : AheadOf) (ts : ℕ) (l r : TableOf) : Type 0 where
+  pub interval : n.interval ≡ k.interval
+  pub left : n.left ≡ k.left
+  pub right : n.right ≡ k.right
+  pub negated : n.negated ≡ k.negated
+  pub pulled : n.pulled ≡ k.pulled
+  pub taken : n.taken ≡ k.taken + 1
+  pub inside : all_among k.left k.right ≡ true
+  pub lefts : l.columns ≡ k.left
+  pub rights : r.columns ≡ k.right
+  pub met : (i x : ℕ) (u : List Value) → met n i x u ≡ (met k i x u || (has_row r.rows u
+      && (nat_le (run_start k (part k.right k.left u)) i && nat_le i k.taken && in_interval k.interval (ts - x))))
+  pub start : (w : List Value) → run_start n w
+      ≡ cond (turned k.negated (has_row l.rows w)) (run_start k w) (k.taken + 1)
 
-  pub left_taken : Taken → (a : List Bool) (v : Valuation)
+module _ {k n : AheadOf} {ts : ℕ} {times : List ℕ} {l r : TableOf} {ls rs : List TableOf} (j : Taken k n ts l r) where
+  pub left_taken : (a : List Bool) (v : Valuation)
       → FollowsLeft (record { ahead = k; times = times; lefts = l ∷ ls; rights = r ∷ rs }) a v
       → FollowsLeft (record { ahead = n; times = times; lefts = ls; rights = rs }) a v
-  left_taken j a v f = record {
-    lefts = subst (λ (p : ℕ). StandFrom (λ i table. left_holds n.negated table v ≡ truth_at a i) p ls) (sym j.taken)
-        (subst (λ (g : Bool). StandFrom (λ i table. left_holds g table v ≡ truth_at a i) (k.taken + 1) ls)
-        (sym j.negated) f.lefts.1);
+  left_taken a v f = record {
+    lefts = rw (j.taken, j.negated) f.lefts.1;
     runs = λ i low.
+        let before = f.runs i (omega (arith, low, j.pulled)) in
         ap (λ c. nat_le (run_start n (map v c)) i) j.left
         ∙ ap (λ s. nat_le s i) (j.start (map v k.left))
         ∙ ap (λ b. nat_le (cond b (run_start k (map v k.left)) (k.taken + 1)) i)
         (ap (turned k.negated) (sym (has_as l k.left l.rows v j.lefts refl)) ∙ f.lefts.0)
-        ∙ by i (truth_at a k.taken) (f.runs i (omega (arith, low, j.pulled)))
+        ∙ by i (truth_at a k.taken) before
         ∙ ap (λ s. nat_le s i) (sym (start_more a k.taken) ∙ ap (start a) (sym j.taken));
   }
     where
@@ -131,14 +119,14 @@ module _ (k n : AheadOf) (ts : ℕ) (times : List ℕ) (l : TableOf) (ls : List 
       by i true e = e
       by i false e = refl
 
-  pub follows_taken : Taken → (t : List ℕ) (a b : List Bool) (v : Valuation) → ts ≡ time_at t k.taken
+  pub follows_taken : (t : List ℕ) (a b : List Bool) (v : Valuation) → ts ≡ time_at t k.taken
       → Follows (record { ahead = k; times = times; lefts = l ∷ ls; rights = r ∷ rs }) t a b v
       → Follows (record { ahead = n; times = times; lefts = ls; rights = rs }) t a b v
-  follows_taken j t a b v time f = record {
-    left = left_taken j a v f.left;
+  follows_taken t a b v time f = record {
+    left = left_taken a v f.left;
     long = omega (arith, f.long, j.pulled);
-    times = subst (λ (p : ℕ). StandFrom (λ i x. x ≡ time_at t i) p times) (sym j.pulled) f.times;
-    rights = subst (λ (p : ℕ). StandFrom (λ i table. has table v ≡ truth_at b i) p rs) (sym j.taken) f.rights.1;
+    times = rw j.pulled f.times;
+    rights = rw j.taken f.rights.1;
     window = λ i low.
         let m : k.pulled ≤ i = omega (arith, low, j.pulled) in
         ap (λ c. met n i (time_at t i) (map v c)) j.right
@@ -152,24 +140,22 @@ module _ (k n : AheadOf) (ts : ℕ) (times : List ℕ) (l : TableOf) (ls : List 
   }
 
 -- one position is pulled
-module _ (k n : AheadOf) (x : ℕ) (times : List ℕ) (ls rs : List TableOf) where
-  pub record Pulled : Type 0 where
-    pub interval : n.interval ≡ k.interval
-    pub left : n.left ≡ k.left
-    pub right : n.right ≡ k.right
-    pub negated : n.negated ≡ k.negated
-    pub pulled : n.pulled ≡ k.pulled + 1
-    pub taken : n.taken ≡ k.taken
-    pub met : (i y : ℕ) (u : List Value) → k.pulled + 1 ≤ i → met n i y u ≡ met k i y u
-    pub start : (i : ℕ) (w : List Value) → k.pulled + 1 ≤ i → nat_le (run_start n w) i ≡ nat_le (run_start k w) i
+pub record Pulled (k n : AheadOf) : Type 0 where
+  pub interval : n.interval ≡ k.interval
+  pub left : n.left ≡ k.left
+  pub right : n.right ≡ k.right
+  pub negated : n.negated ≡ k.negated
+  pub pulled : n.pulled ≡ k.pulled + 1
+  pub taken : n.taken ≡ k.taken
+  pub met : (i y : ℕ) (u : List Value) → k.pulled + 1 ≤ i → met n i y u ≡ met k i y u
+  pub start : (i : ℕ) (w : List Value) → k.pulled + 1 ≤ i → nat_le (run_start n w) i ≡ nat_le (run_start k w) i
 
-  pub left_pulled : Pulled → (a : List Bool) (v : Valuation)
+module _ {k n : AheadOf} {x : ℕ} {times : List ℕ} {ls rs : List TableOf} (j : Pulled k n) where
+  pub left_pulled : (a : List Bool) (v : Valuation)
       → FollowsLeft (record { ahead = k; times = x ∷ times; lefts = ls; rights = rs }) a v
       → FollowsLeft (record { ahead = n; times = times; lefts = ls; rights = rs }) a v
-  left_pulled j a v f = record {
-    lefts = subst (λ (p : ℕ). StandFrom (λ i table. left_holds n.negated table v ≡ truth_at a i) p ls) (sym j.taken)
-        (subst (λ (g : Bool). StandFrom (λ i table. left_holds g table v ≡ truth_at a i) k.taken ls)
-        (sym j.negated) f.lefts);
+  left_pulled a v f = record {
+    lefts = rw (j.taken, j.negated) f.lefts;
     runs = λ i low.
         let m : k.pulled + 1 ≤ i = omega (arith, low, j.pulled) in
         ap (λ c. nat_le (run_start n (map v c)) i) j.left
@@ -178,14 +164,14 @@ module _ (k n : AheadOf) (x : ℕ) (times : List ℕ) (ls rs : List TableOf) whe
         ∙ ap (λ p. nat_le (start a p) i) (sym j.taken);
   }
 
-  pub follows_pulled : Pulled → (t : List ℕ) (a b : List Bool) (v : Valuation)
+  pub follows_pulled : (t : List ℕ) (a b : List Bool) (v : Valuation)
       → Follows (record { ahead = k; times = x ∷ times; lefts = ls; rights = rs }) t a b v
       → Follows (record { ahead = n; times = times; lefts = ls; rights = rs }) t a b v
-  follows_pulled j t a b v f = record {
-    left = left_pulled j a v f.left;
+  follows_pulled t a b v f = record {
+    left = left_pulled a v f.left;
     long = omega (arith, f.long, j.pulled);
-    times = subst (λ (p : ℕ). StandFrom (λ i y. y ≡ time_at t i) p times) (sym j.pulled) f.times.1;
-    rights = subst (λ (p : ℕ). StandFrom (λ i table. has table v ≡ truth_at b i) p rs) (sym j.taken) f.rights;
+    times = rw j.pulled f.times.1;
+    rights = rw j.taken f.rights;
     window = λ i low.
         let m : k.pulled + 1 ≤ i = omega (arith, low, j.pulled) in
         ap (λ c. met n i (time_at t i) (map v c)) j.right
@@ -221,11 +207,11 @@ same_place : (pulled taken l r m : ℕ) → pulled ≤ taken → taken ≤ pulle
 same_place pulled taken l r m low high none = omega arith
 
 -- what the next table has, where it is due
-pub met_next : (s : UntilOf) (x : ℕ) (rest : List ℕ) (t : List ℕ) (a b : List Bool) (v : Valuation)
+pub met_next : {s : UntilOf} {x : ℕ} {rest : List ℕ} (t : List ℕ) (a b : List Bool) (v : Valuation)
     → Follows s t a b v → NeverFalls t → due s ≡ true → took_all s ≡ true
     → s.times ≡ x ∷ rest → s.ahead.pulled ≤ s.ahead.taken → s.ahead.taken ≤ s.ahead.pulled + length s.times
     → met s.ahead s.ahead.pulled x (map v s.ahead.right) ≡ until s.ahead.interval t a b s.ahead.pulled
-met_next s x rest t a b v f never is all times low high = by s.ahead.interval.hi refl is
+met_next {s} {x} t a b v f never is all times low high = by s.ahead.interval.hi refl is
   where
     none : to_take s ≡ 0
     none = eqb-true (to_take s) 0 all

@@ -1,8 +1,7 @@
 -- What UNTIL keeps with given starts and entries, and that maps with the same look-ups keep alike.
-use Rattle.std.proofs.Common.{◌≡◌, ℕ, ◌+◌, ◌-◌, ◌<◌, ◌≤◌, Bool, true, false, cond, nat_eq, nat_le, nat_lt, ◌&&◌}
-use Rattle.std.proofs.Common.{◌||◌, List, [], ◌∷◌, length, Option, Some, None, refl, sym, subst, ap}
-use Rattle.std.proofs.Common.{◌∙◌, arith}
-use Rattle.std.proofs.lemmas.Bool.{and_from, and_parts, or_left, or_right}
+use Rattle.std.proofs.Common.{◌≡◌, ℕ, ◌-◌, ◌<◌, ◌≤◌, Bool, true, false, cond, nat_eq, nat_le, nat_lt, ◌&&◌, ◌||◌, List}
+use Rattle.std.proofs.Common.{[], ◌∷◌, length, Option, Some, None, refl, sym, subst, ap, ◌∙◌, arith}
+use Rattle.std.proofs.lemmas.Bool.{and_from, or_left, or_right}
 use Rattle.std.proofs.lemmas.Bool.Decides.{nat_tests}
 use Rattle.std.specs.BTreeMap.{is_at}
 use Rattle.std.specs.List.{AllByRecursion, list_all, list_any}
@@ -43,47 +42,25 @@ named_own (r ∷ rs) u = by (is_at (row_cmp u) r.0) refl (named_own rs u)
 broken_own : (starts : List (List Value × ℕ)) (w : List Value) → IfSome (kept_for starts w) (λ s. 0 < s)
     → IfSome (kept_for starts w) (λ s. run_begins starts w s ≡ true)
 broken_own [] w low = tt
-broken_own (r ∷ rs) w low = by (is_at (row_cmp w) r.0) refl low (broken_own rs w)
-  where
-    own : ℕ → Bool
-    own s = nat_eq (r.1 - 1 + 1) s && has_row (r.0 ∷ []) w
+broken_own (r ∷ rs) w low = grind (arith, nat_tests, broken_own rs w)
 
-    later : (o : Option ℕ) → IfSome o (λ s. run_begins rs w s ≡ true)
-        → IfSome o (λ s. (own s || run_begins rs w s) ≡ true)
-    later None there = tt
-    later (Some s) there = or_right (own s) (run_begins rs w s) there
-
-    by : (b : Bool) → is_at (row_cmp w) r.0 ≡ b → IfSome (cond b (Some r.1) (kept_for rs w)) (λ s. 0 < s)
-        → (IfSome (kept_for rs w) (λ s. 0 < s) → IfSome (kept_for rs w) (λ s. run_begins rs w s ≡ true))
-        → IfSome (cond b (Some r.1) (kept_for rs w)) (λ s. (own s || run_begins rs w s) ≡ true)
-    by true at low rest =
-        let some : 0 < r.1 = low in
-        or_left (own r.1) (run_begins rs w r.1)
-        (and_from (nat_eq (r.1 - 1 + 1) r.1) (has_row (r.0 ∷ []) w) (grind (arith, nat_tests))
-        (or_left (is_at (row_cmp w) r.0) false at))
-    by false at low rest = later (kept_for rs w) (rest low)
+-- a list each of whose items passes
+all_pass : {X : Type 0} (p : X → Bool) (xs : List X) → AllByRecursion (λ x. p x ≡ true) xs → list_all p xs ≡ true
+all_pass p [] each = refl
+all_pass p (x ∷ xs) each = and_from (p x) (list_all p xs) each.0 (all_pass p xs each.1)
 
 -- what each row's entries pass, by look-ups
 rows_all : (p : Entry → Bool) (rows : List (List Value × List Entry)) → RowsAscend rows
     → ((u : List Value) → list_all p (list_for rows u) ≡ true) → list_all (λ r. list_all p r.1) rows ≡ true
-rows_all p rows up all = each rows (each_kept (λ u es. list_all p es ≡ true) rows up (λ u es is.
-    sym (ap (λ o. list_all p (unwrap_or o [])) is) ∙ all u))
-  where
-    each : (rs : List (List Value × List Entry))
-        → AllByRecursion (λ (r : List Value × List Entry). list_all p r.1 ≡ true) rs
-        → list_all (λ r. list_all p r.1) rs ≡ true
-    each [] h = refl
-    each (r ∷ rs) h = and_from (list_all p r.1) (list_all (λ r. list_all p r.1) rs) h.0 (each rs h.1)
+rows_all p rows up all =
+    all_pass (λ (r : List Value × List Entry). list_all p r.1) rows (each_kept (λ u es. list_all p es ≡ true) rows up
+    (λ u es is. sym (ap (λ o. list_all p (unwrap_or o [])) is) ∙ all u))
 
 starts_all : (p : ℕ → Bool) (starts : List (List Value × ℕ)) → RowsAscend starts
     → ((w : List Value) → IfSome (kept_for starts w) (λ s. p s ≡ true)) → list_all (λ r. p r.1) starts ≡ true
-starts_all p starts up all = each starts (each_kept (λ w s. p s ≡ true) starts up (λ w s is.
-    subst (λ (o : Option ℕ). IfSome o (λ s. p s ≡ true)) is (all w)))
-  where
-    each : (rs : List (List Value × ℕ)) → AllByRecursion (λ (r : List Value × ℕ). p r.1 ≡ true) rs
-        → list_all (λ r. p r.1) rs ≡ true
-    each [] h = refl
-    each (r ∷ rs) h = and_from (p r.1) (list_all (λ r. p r.1) rs) h.0 (each rs h.1)
+starts_all p starts up all =
+    all_pass (λ (r : List Value × ℕ). p r.1) starts (each_kept (λ w s. p s ≡ true) starts up
+    (λ w s is. subst (λ (o : Option ℕ). IfSome o (λ s. p s ≡ true)) is (all w)))
 
 both_some : (P Q R : ℕ → Type 0) → ((s : ℕ) → P s → Q s → R s) → (o : Option ℕ) → IfSome o P → IfSome o Q → IfSome o R
 both_some P Q R gives None p q = tt
@@ -104,16 +81,14 @@ pub keeps_resumed : (negated : Bool) (right : List ℕ) (pulled taken : ℕ) (st
     → Rising queue → Keeps negated right pulled taken starts rows queue
 keeps_resumed negated right pulled taken starts rows queue apart sized some waiting ascend below above up ups same
     breaks tests rising =
+    let waits : Entry → Bool = λ e. nat_le pulled e.place && nat_lt e.place taken && nat_le e.start e.place in
     record {
       apart = apart;
       sized = sized;
       some = some;
       ascend = ascend;
-      below = λ u. all_weaker (λ e. nat_le pulled e.place && nat_lt e.place taken && nat_le e.start e.place)
-          (λ e. nat_lt e.place taken && nat_le e.start e.place) (list_for rows u)
-          (λ e h. let parts = and_parts (nat_le pulled e.place && nat_lt e.place taken) (nat_le e.start e.place) h in
-          and_from (nat_lt e.place taken) (nat_le e.start e.place)
-          (and_parts (nat_le pulled e.place) (nat_lt e.place taken) parts.0).1 parts.1) (waiting u);
+      below = λ u. all_weaker waits (λ e. nat_lt e.place taken && nat_le e.start e.place) (list_for rows u)
+          (λ e h. grind arith) (waiting u);
       low = below;
       covered = λ u. all_weaker (λ e. is_recalled rows u e.place) (λ e. names queue u e.place) (list_for rows u)
           (λ e there. same u e.place ∙ there) (named_own rows u);
@@ -126,18 +101,12 @@ keeps_resumed negated right pulled taken starts rows queue apart sized some wait
       after = tests (λ p. nat_lt p taken) ∙ and_from (list_all (λ r. list_all (λ e. nat_lt e.place taken) r.1) rows)
           (cond negated (list_all (λ r. nat_lt (r.1 - 1) taken) starts) true)
           (rows_all (λ e. nat_lt e.place taken) rows up (λ u.
-          all_weaker (λ e. nat_le pulled e.place && nat_lt e.place taken && nat_le e.start e.place)
-          (λ e. nat_lt e.place taken) (list_for rows u)
-          (λ e h. let parts = and_parts (nat_le pulled e.place && nat_lt e.place taken) (nat_le e.start e.place) h in
-          (and_parts (nat_le pulled e.place) (nat_lt e.place taken) parts.0).1) (waiting u)))
+          all_weaker waits (λ e. nat_lt e.place taken) (list_for rows u) (λ e h. grind arith) (waiting u)))
           (only negated refl (λ s. nat_lt (s - 1) taken) (λ s low high. grind (arith, nat_tests)));
       fresh = tests (λ p. nat_le pulled p) ∙ and_from (list_all (λ r. list_all (λ e. nat_le pulled e.place) r.1) rows)
           (cond negated (list_all (λ r. nat_le pulled (r.1 - 1)) starts) true)
           (rows_all (λ e. nat_le pulled e.place) rows up (λ u.
-          all_weaker (λ e. nat_le pulled e.place && nat_lt e.place taken && nat_le e.start e.place)
-          (λ e. nat_le pulled e.place) (list_for rows u)
-          (λ e h. let parts = and_parts (nat_le pulled e.place && nat_lt e.place taken) (nat_le e.start e.place) h in
-          (and_parts (nat_le pulled e.place) (nat_lt e.place taken) parts.0).0) (waiting u)))
+          all_weaker waits (λ e. nat_le pulled e.place) (list_for rows u) (λ e h. grind arith) (waiting u)))
           (only negated refl (λ s. nat_le pulled (s - 1)) (λ s low high. grind (arith, nat_tests)));
     }
   where
@@ -169,52 +138,22 @@ pub each_some : (rows : List (List Value × List Entry)) → RowsAscend rows →
 each_some rows up some = each_kept (λ u es. 0 < length es) rows up (λ u es is.
     subst (λ (o : Option (List Entry)). IfSome o (λ fs. 0 < length fs)) is (some u))
 
--- maps with the same look-ups keep the same rules
-pub sized_as : (n : ℕ) (rows new : List (List Value × List Entry))
-    → ((u : List Value) → kept_for new u ≡ kept_for rows u)
-    → Sized n rows → Sized n new
-sized_as n rows new same sized u other = ap (λ o. unwrap_or o []) (same u) ∙ sized u other
-
-pub some_as : (rows new : List (List Value × List Entry)) → ((u : List Value) → kept_for new u ≡ kept_for rows u)
-    → NoneEmpty rows → NoneEmpty new
-some_as rows new same some u =
-    subst (λ (o : Option (List Entry)). IfSome o (λ es. 0 < length es)) (sym (same u)) (some u)
-
-pub waiting_as : (pulled taken : ℕ) (rows new : List (List Value × List Entry))
-    → ((u : List Value) → kept_for new u ≡ kept_for rows u) → Waiting pulled taken rows → Waiting pulled taken new
-waiting_as pulled taken rows new same waiting u =
-    ap (λ o. list_all (λ e. nat_le pulled e.place && nat_lt e.place taken && nat_le e.start e.place) (unwrap_or o []))
-    (same u) ∙ waiting u
-
-pub ascend_as : (rows new : List (List Value × List Entry)) → ((u : List Value) → kept_for new u ≡ kept_for rows u)
-    → Ascending rows → Ascending new
-ascend_as rows new same ascend u = subst PlacesAscend (sym (ap (λ o. unwrap_or o []) (same u))) (ascend u)
-
-pub starts_as : (P : ℕ → Type 0) (starts new : List (List Value × ℕ))
-    → ((w : List Value) → kept_for new w ≡ kept_for starts w)
-    → ((w : List Value) → IfSome (kept_for starts w) P) → (w : List Value) → IfSome (kept_for new w) P
-starts_as P starts new same all w = subst (λ (o : Option ℕ). IfSome o P) (sym (same w)) (all w)
-
 -- what is kept in maps with the same look-ups is kept alike
 pub keeps_alike : (negated : Bool) (right : List ℕ) (pulled taken : ℕ) (starts more : List (List Value × ℕ))
     (rows new : List (List Value × List Entry)) (queue : List Taken)
     → ((w : List Value) → kept_for more w ≡ kept_for starts w)
     → ((u : List Value) → kept_for new u ≡ kept_for rows u)
     → Keeps negated right pulled taken starts rows queue → Keeps negated right pulled taken more new queue
-keeps_alike negated right pulled taken starts more rows new queue starts_same rows_same keeps =
-    record {
-      apart = keeps.apart;
-      sized = sized_as (length right) rows new rows_same keeps.sized;
-      some = some_as rows new rows_same keeps.some;
-      ascend = ascend_as rows new rows_same keeps.ascend;
-      below = λ u. ap (λ o. list_all (λ e. nat_lt e.place taken && nat_le e.start e.place) (unwrap_or o []))
-          (rows_same u) ∙ keeps.below u;
-      low = starts_as (λ s. s ≤ taken) starts more starts_same keeps.low;
-      covered = λ u. ap (λ o. list_all (λ e. names queue u e.place) (unwrap_or o [])) (rows_same u)
-          ∙ keeps.covered u;
-      breaks = λ is w. subst (λ (o : Option ℕ). IfSome o (λ s. breaks_before queue w s ≡ true))
-          (sym (starts_same w)) (keeps.breaks is w);
-      rising = keeps.rising;
-      after = keeps.after;
-      fresh = keeps.fresh;
-    }
+keeps_alike negated right pulled taken starts more rows new queue starts_same rows_same keeps = record {
+  apart = keeps.apart;
+  sized = λ u other. rw (rows_same u) (keeps.sized u other);
+  some = λ u. rw (rows_same u) (keeps.some u);
+  ascend = λ u. rw (rows_same u) (keeps.ascend u);
+  below = λ u. rw (rows_same u) (keeps.below u);
+  low = λ w. rw (starts_same w) (keeps.low w);
+  covered = λ u. rw (rows_same u) (keeps.covered u);
+  breaks = λ is w. rw (starts_same w) (keeps.breaks is w);
+  rising = keeps.rising;
+  after = keeps.after;
+  fresh = keeps.fresh;
+}

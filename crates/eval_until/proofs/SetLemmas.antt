@@ -1,5 +1,5 @@
 -- Sets of rows: one row more, and one row less.
-use Rattle.std.proofs.Common.{◌≡◌, Bool, true, false, cond, ◌&&◌, ◌||◌, List, [], ◌∷◌, ◌++◌, refl, sym, ap, ◌∙◌}
+use Rattle.std.proofs.Common.{◌≡◌, Bool, true, false, cond, ◌&&◌, ◌||◌, List, [], ◌∷◌, ◌++◌, arith, ◌∙◌}
 use Rattle.std.proofs.lemmas.List.Folds.{list_any-append}
 use Rattle.std.proofs.Math.Bool.{or-false}
 use Rattle.std.specs.BTreeMap.{is_at}
@@ -14,55 +14,28 @@ use Rattle.relations.proofs.MapLemmas.{same_row}
 pub one_row : (row u : List Value) → has_row (row ∷ []) u ≡ is_at (row_cmp row) u
 one_row row u = or-false (eq_by_cmp row_cmp u row) ∙ (eq_by_cmp_equiv row_total).symm u row
 
-twice : (b : Bool) → b ≡ (b || b)
-twice true = refl
-twice false = refl
-
 -- a row that is there already
 pub same_twice : (first row u : List Value) → is_at (row_cmp first) row ≡ true
     → has_row (first ∷ []) u ≡ (is_at (row_cmp first) u || is_at (row_cmp row) u)
-same_twice first row u same =
-    one_row first u ∙ twice (is_at (row_cmp first) u)
-    ∙ ap (λ r. is_at (row_cmp first) u || is_at (row_cmp r) u) (same_row first row same)
+same_twice first row u same = grind (arith, one_row first u, same_row first row)
 
 -- without its only row
 pub only_gone : (first row u : List Value) → is_at (row_cmp first) row ≡ true
     → false ≡ cond (is_at (row_cmp row) u) false (is_at (row_cmp first) u)
-only_gone first row u same =
-    by (is_at (row_cmp row) u)
-    ∙ ap (λ r. cond (is_at (row_cmp row) u) false (is_at (row_cmp r) u)) (sym (same_row first row same))
-  where
-    by : (b : Bool) → false ≡ cond b false b
-    by true = refl
-    by false = refl
+only_gone first row u same = grind (arith, same_row first row)
 
 -- without a row that isn't there
 pub other_stays : (first row u : List Value) → is_at (row_cmp first) row ≡ false
     → has_row (first ∷ []) u ≡ cond (is_at (row_cmp row) u) false (is_at (row_cmp first) u)
-other_stays first row u apart = one_row first u ∙ by (is_at (row_cmp row) u) refl
-  where
-    by : (b : Bool) → is_at (row_cmp row) u ≡ b
-        → is_at (row_cmp first) u ≡ cond b false (is_at (row_cmp first) u)
-    by true at = ap (is_at (row_cmp first)) (sym (same_row row u at)) ∙ apart
-    by false at = refl
+other_stays first row u apart = grind (arith, one_row first u, same_row row u)
 
 -- a row that passes was appended
 pub pass_pushed : (p : List Value → Bool) (out : List (List Value)) (row u : List Value) → p row ≡ true
     → has_row (out ++ row ∷ []) u ≡ (has_row out u || (is_at (row_cmp u) row && p u))
 pass_pushed p out row u passes =
-    list_any-append (eq_by_cmp row_cmp u) out (row ∷ [])
-    ∙ ap (λ b. has_row out u || b) (by (is_at (row_cmp u) row) refl)
-  where
-    by : (b : Bool) → is_at (row_cmp u) row ≡ b → (b || false) ≡ (b && p u)
-    by true at = sym (ap p (same_row u row at) ∙ passes)
-    by false at = refl
+    grind (arith, list_any-append (eq_by_cmp row_cmp u) out (row ∷ []), same_row u row)
 
 -- a row that doesn't pass wasn't
 pub fail_left : (p : List Value → Bool) (out : List (List Value)) (row u : List Value) → p row ≡ false
     → has_row out u ≡ (has_row out u || (is_at (row_cmp u) row && p u))
-fail_left p out row u fails =
-    sym (ap (λ b. has_row out u || b) (by (is_at (row_cmp u) row) refl) ∙ or-false (has_row out u))
-  where
-    by : (b : Bool) → is_at (row_cmp u) row ≡ b → (b && p u) ≡ false
-    by true at = ap p (same_row u row at) ∙ fails
-    by false at = refl
+fail_left p out row u fails = grind (arith, same_row u row)

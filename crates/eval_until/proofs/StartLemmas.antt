@@ -1,6 +1,5 @@
 -- Starts of runs where one has no others beside it.
-use Rattle.std.proofs.Common.{◌≡◌, ℕ, Bool, true, false, cond, List, [], ◌∷◌, Some, None, length}
-use Rattle.std.proofs.Common.{get_or, refl, sym, ap, ◌∙◌, arith}
+use Rattle.std.proofs.Common.{◌≡◌, ℕ, true, false, cond, List, [], ◌∷◌, Some, None, length, get_or, sym, ap, ◌∙◌, arith}
 use Rattle.std.proofs.Math.Bool.{or-false}
 use Rattle.std.specs.BTreeMap.{is_at}
 use Rattle.std.specs.Cmp.{eq_by_cmp_equiv}
@@ -32,39 +31,18 @@ one_put row w s none e = one_found row w s
 pub one_removed : (row lone w : List Value) (s : ℕ) (none : List (List Value × ℕ)) → none ≡ []
     → is_at (row_cmp row) lone ≡ true
     → kept_for none w ≡ cond (is_at (row_cmp row) w) None (kept_for ((lone, s) ∷ []) w)
-one_removed row lone w s none e at = ap (λ es. kept_for es w) e ∙ by (is_at (row_cmp row) w)
-    ∙ ap (cond (is_at (row_cmp row) w) None) (ap (λ b. cond b (Some s) None) (ap (λ r. is_at (row_cmp r) w)
-    (same_row row lone at)) ∙ sym (one_found lone w s))
-  where
-    by : (b : Bool) → None ≡ cond b None (cond b (Some s) None)
-    by true = refl
-    by false = refl
+one_removed row lone w s none e at = grind (arith, one_found lone w s, same_row row lone)
 
 -- the one start, where another is removed
 pub one_left : (row lone w : List Value) (s : ℕ) → is_at (row_cmp row) lone ≡ false
     → kept_for ((lone, s) ∷ []) w ≡ cond (is_at (row_cmp row) w) None (kept_for ((lone, s) ∷ []) w)
-one_left row lone w s apart = by (is_at (row_cmp row) w) refl
-  where
-    by : (b : Bool) → is_at (row_cmp row) w ≡ b
-        → kept_for ((lone, s) ∷ []) w ≡ cond b None (kept_for ((lone, s) ∷ []) w)
-    by true at = ap (λ b. cond b (Some s) None)
-        (ap (λ r. is_at (row_cmp r) lone) (sym (same_row row w at)) ∙ apart)
-    by false at = refl
+one_left row lone w s apart = grind (arith, same_row row w)
 
 -- the only start, which goes on
 pub only_found : (row lone w : List Value) (s p : ℕ) → is_at (row_cmp row) lone ≡ true
     → kept_for ((lone, s) ∷ []) w
     ≡ cond (is_at (row_cmp row) w) (Some (unwrap_or (kept_for ((lone, s) ∷ []) w) p)) None
-only_found row lone w s p at =
-    ap (λ b. cond b (Some s) None) same ∙ by (is_at (row_cmp row) w)
-    ∙ ap (λ b. cond (is_at (row_cmp row) w) (Some (unwrap_or (cond b (Some s) None) p)) None) (sym same)
-  where
-    same : is_at (row_cmp w) lone ≡ is_at (row_cmp row) w
-    same = (eq_by_cmp_equiv row_total).symm w lone ∙ ap (λ r. is_at (row_cmp r) w) (sym (same_row row lone at))
-
-    by : (b : Bool) → cond b (Some s) None ≡ cond b (Some (unwrap_or (cond b (Some s) None) p)) None
-    by true = refl
-    by false = refl
+only_found row lone w s p at = grind (arith, same_row row lone, (eq_by_cmp_equiv row_total).symm w lone)
 
 -- the one row of a table
 pub only_row : (table : List (List Value)) (row w : List Value) → length table ≡ 1 → row ≡ get_or table 0 row
@@ -77,9 +55,4 @@ only_row (r ∷ []) row w one is = (eq_by_cmp_equiv row_total).symm row w ∙ ap
 -- a start that is put in place of all
 pub only_put : (row copy w : List Value) (starts : List Value → ℕ) (s : ℕ) → copy ≡ row → s ≡ starts row
     → kept_for ((copy, s) ∷ []) w ≡ cond (is_at (row_cmp row) w) (Some (starts w)) None
-only_put row copy w starts s is from = one_found copy w s ∙ ap (λ r. cond (is_at (row_cmp r) w) (Some s) None) is
-    ∙ by (is_at (row_cmp row) w) refl
-  where
-    by : (b : Bool) → is_at (row_cmp row) w ≡ b → cond b (Some s) None ≡ cond b (Some (starts w)) None
-    by true at = ap (λ n. Some n) (from ∙ ap starts (same_row row w at))
-    by false at = refl
+only_put row copy w starts s is from = grind (arith, one_found copy w s, same_row row w)

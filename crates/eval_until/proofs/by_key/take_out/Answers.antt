@@ -21,35 +21,26 @@ returns-in-Err c = λ q u.
 
 pub returns-then-is_empty : goal.returns-then-is_empty
 returns-then-is_empty c = λ q u.
+    let written = c.get_mut-set.ensures.written c.remove.new.self in
     let old = c.args.sets.now.entries in
     let is : Some c.get_mut-set.result.now ≡ lookup (is_at (row_cmp c.args.key)) old =
     grind (arith, common_steps, c.in-Ok.ensures.value, c.get_mut-set.ensures.value, c.in-Occupied.is) in
     changed_set (λ _. false) c.args.key c.args.row.now q u old _
     c.remove.new.self c.get_mut-set.result.now None
-    (grind (
-      arith,
-      common_steps,
-      c.in-Ok.ensures.removal.0.0 q,
-      c.get_mut-set.ensures.written c.remove.new.self,
-      c.remove-then-is_empty.ensures.removed,
-    ))
+    (grind (arith, common_steps, c.in-Ok.ensures.removal.0.0 q, written, c.remove-then-is_empty.ensures.removed))
     (empty_list c.remove.new.self (sym c.is_empty.ensures ∙ c.if-is_empty.true))
     (ap (λ o. unwrap_or o []) is)
     (c.remove.ensures u)
 
 pub returns-else-is_empty : goal.returns-else-is_empty
 returns-else-is_empty c = λ q u.
+    let written = c.get_mut-set.ensures.written c.remove.new.self in
     let old = c.args.sets.now.entries in
     let is : Some c.get_mut-set.result.now ≡ lookup (is_at (row_cmp c.args.key)) old =
     grind (arith, common_steps, c.in-Ok.ensures.value, c.get_mut-set.ensures.value, c.in-Occupied.is) in
     changed_set (λ _. false) c.args.key c.args.row.now q u old _
     c.remove.new.self c.get_mut-set.result.now (Some c.remove.new.self)
-    (grind (
-      arith,
-      common_steps,
-      (c.in-Ok.ensures.update.0 c.remove.new.self).0 q,
-      c.get_mut-set.ensures.written c.remove.new.self,
-    ))
+    (grind (arith, common_steps, (c.in-Ok.ensures.update.0 c.remove.new.self).0 q, written))
     refl
     (ap (λ o. unwrap_or o []) is)
     (c.remove.ensures u)

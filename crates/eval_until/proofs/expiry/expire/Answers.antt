@@ -1,10 +1,8 @@
-use Rattle.std.proofs.Common.{◌≡◌, ◌∷◌, nat_lt, List, subst}
+use Rattle.std.proofs.Common.{◌≡◌, ◌∷◌, nat_lt}
 use Rattle.std.proofs.lemmas.Bool.{and_parts}
 use Rattle.std.specs.List.{list_all}
 use Rattle.mfotl_model.specs.Tables.{has_row}
 use Rattle.relations.specs.KeptRows.{kept_for, list_for}
-use Rattle.eval_until.specs.declared.contents.Taken.{Taken}
-use Rattle.eval_until.specs.Keeping.{Covered, CoveredStarts, NotAfter, Rising}
 use Rattle.eval_until.proofs.EntriesLemmas.{thin_more}
 use Rattle.eval_until.proofs.QueueLemmas.{breaks_more, covered_more, fresh_front, front_before, later_more}
 use Rattle.eval_until.proofs.expiry.expire.Goals as goal
@@ -19,9 +17,8 @@ loop-front-preserved c =
     let q = c.in-Some-pop_front.old in
     let rest = c.pop_front.new.self.items in
     let is : c.loop-front.queue.items ≡ q ∷ rest = c.in-Some-pop_front.ensures.items in
-    let covered = subst (λ (queue : List Taken). Covered queue c.loop-front.rows.entries) is
-    c.loop-front.invariant.covered in
-    let rising = subst (λ (queue : List Taken). Rising queue) is c.loop-front.invariant.rising in
+    let covered = rw is at c.loop-front.invariant.covered in
+    let rising = rw is at c.loop-front.invariant.rising in
     let low = front_before c.args.next c.loop-front.queue.items rest c.in-Some.front.now q is
     c.in-Some.ensures.lookup c.if-front-next.false in
     let rows = c.forget_rows.ensures.entries in
@@ -39,9 +36,8 @@ loop-front-preserved c =
           (list_for c.forget_rows.new.rows.entries u) low (covered u) (rows u);
       breaks = λ negated before w. breaks_more c.args.negated c.args.next q rest w
           (kept_for c.loop-front.starts w) (kept_for c.forget_breaks.new.starts w) negated low
-          (subst (λ (queue : List Taken). CoveredStarts queue c.loop-front.starts) is
-          (c.loop-front.invariant.breaks negated before) w) (starts w);
+          ((rw is at (c.loop-front.invariant.breaks negated before)) w) (starts w);
       rising = rising.1;
       after = λ p all. (and_parts (nat_lt q.place p) (list_all (λ r. nat_lt r.place p) rest)
-          (subst (λ (queue : List Taken). NotAfter p queue) is (c.loop-front.invariant.after p all))).1;
+          (rw is at (c.loop-front.invariant.after p all))).1;
     }

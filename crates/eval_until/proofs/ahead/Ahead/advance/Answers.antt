@@ -1,21 +1,36 @@
-use Rattle.std.proofs.Common.{◌+◌, cond, nat_le, sym, ap, ◌∙◌}
+use Rattle.std.proofs.Common.{◌+◌, cond, ◌&&◌, nat_le, nat_lt, sym, ap, ◌∙◌}
 use Rattle.std.specs.Option.{unwrap_or}
 use Rattle.relations.specs.KeptRows.{kept_for, list_for}
 use Rattle.eval_until.specs.Entries.{met_by}
-use Rattle.eval_until.proofs.EntriesLemmas.{met_thinned}
-use Rattle.eval_until.proofs.KeepingLemmas.{kept_pulled, start_later}
+use Rattle.eval_until.proofs.EntriesLemmas.{all_thinned, ascend_thinned, met_thinned, none_thinned}
+use Rattle.eval_until.proofs.KeepingLemmas.{later_low, start_later}
 use Rattle.eval_until.proofs.OrderLemmas.{entries_in_order, kept_in_order}
 use Rattle.eval_until.proofs.ahead.Ahead.advance.Goals as goal
 
 pub invariant_of-self : goal.invariant_of-self
 invariant_of-self c =
     let k = c.self.inside in
+    let next = k.pulled + 1 in
+    let kept = c.self.invariant.keeps in
+    let old = list_for k.contents.rows.entries in
+    let new = list_for c.expire.new.rows.entries in
+    let thin = c.expire.ensures.rows in
     record {
-      keeps = kept_pulled k.negated k.right.items k.pulled k.taken (k.pulled + 1) k.contents.starts
-          c.expire.new.starts k.contents.rows.entries c.expire.new.rows.entries k.contents.queue.items
-          c.expire.new.queue.items c.self.invariant.keeps c.expire.ensures.rows c.expire.ensures.some
-          c.expire.ensures.starts c.expire.ensures.covered c.expire.ensures.breaks c.expire.ensures.rising
-          c.expire.ensures.fresh c.expire.ensures.after;
+      keeps = record {
+        apart = kept.apart;
+        sized = λ u other. none_thinned next (old u) (new u) (thin u) (kept.sized u other);
+        some = c.expire.ensures.some kept.some;
+        ascend = λ u. ascend_thinned next (old u) (new u) (thin u) (kept.ascend u);
+        below = λ u. all_thinned (λ e. nat_lt e.place k.taken && nat_le e.start e.place) next (old u) (new u) (thin u)
+            (kept.below u);
+        low = λ w. later_low k.negated next k.taken (kept_for k.contents.starts w) (kept_for c.expire.new.starts w)
+            (c.expire.ensures.starts w) (kept.low w);
+        covered = c.expire.ensures.covered;
+        breaks = λ is. c.expire.ensures.breaks is (kept.breaks is);
+        rising = c.expire.ensures.rising;
+        after = c.expire.ensures.after k.taken kept.after;
+        fresh = c.expire.ensures.fresh;
+      };
       listed = (rw c.as_slice-right.ensures.value at c.expire.ensures.listed) c.self.invariant.listed;
     }
 

@@ -1,7 +1,7 @@
 use Rattle.std.proofs.Common.{◌∙◌}
 use Rattle.eval_until.specs.InOrder.{in_order}
 use Rattle.eval_until.proofs.OrderLemmas.{in_order_ascends, kept_in_order, ordered_is}
-use Rattle.eval_until.proofs.ResumeLemmas.{each_some, some_as}
+use Rattle.eval_until.proofs.ResumeLemmas.{each_some}
 use Rattle.eval_until.proofs.ahead.Ahead.kept_marks.Goals as goal
 
 pub returns-clause-rows : goal.returns-clause-rows
@@ -14,7 +14,7 @@ pub returns-clause-some : goal.returns-clause-some
 returns-clause-some c = rw (← c.self.view_is) (
     let rows = c.self.inside.contents.rows.entries in
     each_some (in_order rows) (in_order_ascends rows)
-    (some_as rows (in_order rows) (kept_in_order rows) c.self.invariant.keeps.some))
+    (λ u. rw (kept_in_order rows u) (c.self.invariant.keeps.some u)))
 
 pub returns-clause-ascend : goal.returns-clause-ascend
 returns-clause-ascend c = rw (← c.self.view_is) (in_order_ascends c.self.inside.contents.rows.entries)

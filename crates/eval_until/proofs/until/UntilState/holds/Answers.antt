@@ -1,4 +1,4 @@
-use Rattle.std.proofs.Common.{drop, map, ap, ◌∙◌}
+use Rattle.std.proofs.Common.{map, ap, ◌∙◌}
 use Rattle.mfotl_model.specs.Tables.{part, valuation}
 use Rattle.eval_until.specs.AheadView.{met}
 use Rattle.eval_until.proofs.FollowsLemmas.{met_next}
@@ -17,10 +17,4 @@ returns c =
     ∙ ap (λ i. met s.ahead i c.first_pushed-now.result.now c.in_ok-own.own) c.pulled.ensures
     ∙ ap (met s.ahead s.ahead.pulled c.first_pushed-now.result.now) (c.in_ok-own.ensures
     ∙ (λ i. map (valuation c.args.columns.now (c.values.ensures i)) (c.right.ensures.right i)))
-    ∙ met_next (record {
-      ahead = s.ahead;
-      times = s.times.items;
-      lefts = s.lefts.items;
-      rights = s.rights.items;
-    }) c.first_pushed-now.result.now (drop 1 s.times.items) t a b v f never due all c.first_pushed-now.ensures
-    c.self.invariant.low c.self.invariant.high)
+    ∙ met_next t a b v f never due all c.first_pushed-now.ensures c.self.invariant.low c.self.invariant.high)

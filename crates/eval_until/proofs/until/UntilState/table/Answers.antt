@@ -1,4 +1,4 @@
-use Rattle.std.proofs.Common.{drop, map, refl, ap, ◌∙◌}
+use Rattle.std.proofs.Common.{map, refl, ap, ◌∙◌}
 use Rattle.relations.proofs.OperationLaws.{has_as}
 use Rattle.eval_until.specs.AheadView.{met}
 use Rattle.eval_until.proofs.FollowsLemmas.{met_next}
@@ -14,10 +14,4 @@ returns-clause-rows c =
     has_as c.in_ok-table.table s.ahead.right c.in_ok-table.table.rows v c.in_ok-table.ensures.columns refl
     ∙ c.in_ok-table.ensures.rows (map v s.ahead.right)
     ∙ ap (λ i. met s.ahead i c.first_pushed-now.result.now (map v s.ahead.right)) c.pulled.ensures
-    ∙ met_next (record {
-      ahead = s.ahead;
-      times = s.times.items;
-      lefts = s.lefts.items;
-      rights = s.rights.items;
-    }) c.first_pushed-now.result.now (drop 1 s.times.items) t a b v f never due all c.first_pushed-now.ensures
-    c.self.invariant.low c.self.invariant.high)
+    ∙ met_next t a b v f never due all c.first_pushed-now.ensures c.self.invariant.low c.self.invariant.high)

@@ -1,4 +1,4 @@
-use Rattle.std.proofs.Common.{drop, map, refl, sym, ap, ◌∙◌}
+use Rattle.std.proofs.Common.{map, refl, sym, ap, ◌∙◌}
 use Rattle.mfotl_model.specs.Tables.{has_row}
 use Rattle.relations.proofs.OperationLaws.{has_as, part_of_own}
 use Rattle.eval_until.specs.AheadView.{met}
@@ -18,10 +18,4 @@ returns-clause-rows c =
     (ap (has_row c.args.keys.now.rows) (part_of_own v s.ahead.right c.args.keys.now.columns inside)
     ∙ sym (has_as c.args.keys.now c.args.keys.now.columns c.args.keys.now.rows v refl refl) ∙ asked)
     ∙ ap (λ i. met s.ahead i c.first_pushed-now.result.now (map v s.ahead.right)) c.pulled.ensures
-    ∙ met_next (record {
-      ahead = s.ahead;
-      times = s.times.items;
-      lefts = s.lefts.items;
-      rights = s.rights.items;
-    }) c.first_pushed-now.result.now (drop 1 s.times.items) t a b v f never due all c.first_pushed-now.ensures
-    c.self.invariant.low c.self.invariant.high)
+    ∙ met_next t a b v f never due all c.first_pushed-now.ensures c.self.invariant.low c.self.invariant.high)
