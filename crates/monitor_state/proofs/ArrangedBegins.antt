@@ -1,6 +1,5 @@
 -- What the fragment gives a core it gives the arranged one.
-use Rattle.std.proofs.Common.{◌≡◌, ℕ, Bool, true, false, None, ◌||◌, cond, List, ◌∷◌, []}
-use Rattle.std.proofs.Common.{refl, sym, ap, ap₂, ◌∙◌}
+use Rattle.std.proofs.Common.{◌≡◌, ℕ, Bool, true, false, None, ◌||◌, List, ◌∷◌, [], refl, sym, ap, ap₂, ◌∙◌}
 use Rattle.std.proofs.Math.Bool.{or_assoc, or_comm}
 use Rattle.mfotl_model.specs.ActiveDomain.{constants}
 use Rattle.mfotl_model.specs.Domains.{in_domain}
@@ -11,13 +10,13 @@ use Rattle.mfotl_model.specs.declared.value.Value.{Value}
 use Rattle.monitorable.proofs.FragmentLemmas.{asked_kept, no_first, no_variable, none_first, none_outside}
 use Rattle.monitorable.specs.CoreForms.{CoreForm, meaning, And, Exists, Next, Not, Or, Previous, Since, Until}
 use Rattle.monitorable.specs.Fragment.{Names, asked, at_variable, bound_by, covers, evens, fault_in, first}
-use Rattle.monitorable.specs.Fragment.{first_outside, guards, is_conjunction, judges_not, looks_within}
-use Rattle.monitorable.specs.Fragment.{named_variable, needed_by, under_not, uses, with_name}
+use Rattle.monitorable.specs.Fragment.{first_outside, guards, is_conjunction, judges_not, looks_within, named_variable}
+use Rattle.monitorable.specs.Fragment.{needed_by, under_not, with_name}
 use Rattle.monitorable.specs.Soundness.{HasVariablesOf, IsWellFormedIn}
 use Rattle.monitorable.specs.declared.fault.FragmentFault.TheVariants.{LooseLeft, Unguarded, Uneven, UnusedBound}
 use Rattle.monitorable.specs.declared.role.Role.{Role}
 use Rattle.monitorable.specs.declared.role.Role.TheVariants as role
-use Rattle.monitor_state.proofs.ArrangedLemmas.{fv_arranged, has_conjuncts}
+use Rattle.monitor_state.proofs.ArrangedLemmas.{fv_arranged, has_conjuncts, of_either}
 use Rattle.monitor_state.proofs.NarrowedBegins.{among_both, within_both}
 use Rattle.monitor_state.proofs.WholeLemmas.{guarded}
 use Rattle.monitor_state.specs.Nodes.{arranged, before_windows, goes_before, windowed, with_conjunct, with_conjuncts}
@@ -28,23 +27,14 @@ use Rattle.monitor_state.specs.Steps.{SameNear}
 module _ (P : CoreForm → Type 0) (pair : (f g : CoreForm) → P f → P g → P (And f g))
     (parts : (f g : CoreForm) → P (And f g) → P f × P g) where
   stays_before : (f h : CoreForm) → P f → P h → P (before_windows f h)
-  stays_before (And f g) h p q = by (stays_before f h (parts f g p).0 q) (windowed g)
-    where
-      by : P (before_windows f h) → (b : Bool) → P (cond b (And (before_windows f h) g) (And (And f g) h))
-      by moved true = pair (before_windows f h) g moved (parts f g p).1
-      by moved false = pair (And f g) h p q
-  stays_before f h p q = by (windowed f)
-    where
-      by : (b : Bool) → P (cond b (And h f) (And f h))
-      by true = pair h f q p
-      by false = pair f h p q
+  stays_before (And f g) h p q =
+      of_either P (windowed g) (And (before_windows f h) g) (And (And f g) h)
+      (pair (before_windows f h) g (stays_before f h (parts f g p).0 q) (parts f g p).1) (pair (And f g) h p q)
+  stays_before f h p q = of_either P (windowed f) (And h f) (And f h) (pair h f q p) (pair f h p q)
 
   stays_conjunct : (f h : CoreForm) → P f → P h → P (with_conjunct f h)
-  stays_conjunct f h p q = by (goes_before f h)
-    where
-      by : (b : Bool) → P (cond b (before_windows f h) (And f h))
-      by true = stays_before f h p q
-      by false = pair f h p q
+  stays_conjunct f h p q =
+      of_either P (goes_before f h) (before_windows f h) (And f h) (stays_before f h p q) (pair f h p q)
 
   pub stays_conjuncts : (f g : CoreForm) → P f → P g → P (with_conjuncts f g)
   stays_conjuncts f (And g h) p q =
@@ -95,52 +85,33 @@ is_and (And f g) = true
 is_and f = false
 
 and_before : (f h : CoreForm) → is_and (before_windows f h) ≡ true
-and_before (And f g) h = by (windowed g)
-  where
-    by : (b : Bool) → is_and (cond b (And (before_windows f h) g) (And (And f g) h)) ≡ true
-    by true = refl
-    by false = refl
-and_before f h = by (windowed f)
-  where
-    by : (b : Bool) → is_and (cond b (And h f) (And f h)) ≡ true
-    by true = refl
-    by false = refl
+and_before (And f g) h =
+    of_either (λ k. is_and k ≡ true) (windowed g) (And (before_windows f h) g) (And (And f g) h) refl refl
+and_before f h = of_either (λ k. is_and k ≡ true) (windowed f) (And h f) (And f h) refl refl
 
 and_conjuncts : (f g : CoreForm) → is_and (with_conjuncts f g) ≡ true
 and_conjuncts f (And g h) = and_conjuncts (with_conjuncts f g) h
-and_conjuncts f g = by (goes_before f g)
-  where
-    by : (b : Bool) → is_and (cond b (before_windows f g) (And f g)) ≡ true
-    by true = and_before f g
-    by false = refl
+and_conjuncts f g =
+    of_either (λ k. is_and k ≡ true) (goes_before f g) (before_windows f g) (And f g) (and_before f g) refl
 
 -- a conjunction has no fault where none of its sides has one, and its variables are guarded where they are judged
 judged : (names : Names) (r : Role) (k : CoreForm) → is_and k ≡ true → fault_in names role.Part k ≡ None
     → asked (is_conjunction r) (guards names k) ≡ None → fault_in names r k ≡ None
 unfolding fault_in
 judged names r (And f g) is e guard =
-    let left = no_first (fault_in names role.Part f) (first (fault_in names role.Part g) None) e in
-    let right = no_first (fault_in names role.Part g) None left.1 in
-    none_first (fault_in names role.Part f)
-    (first (fault_in names role.Part g) (asked (is_conjunction r) (guards names (And f g)))) left.0
-    (none_first (fault_in names role.Part g) (asked (is_conjunction r) (guards names (And f g))) right.0 guard)
+    let left = no_first _ _ e in
+    none_first _ _ left.0 (none_first _ _ (no_first _ _ left.1).0 guard)
 judged names r k is e guard = absurd (let clash : false ≡ true = is in cc)
 
 both_parts : (names : Names) (f g : CoreForm) → fault_in names role.Part f ≡ None → fault_in names role.Part g ≡ None
     → fault_in names role.Part (And f g) ≡ None
 unfolding fault_in
-both_parts names f g e d =
-    none_first (fault_in names role.Part f) (first (fault_in names role.Part g) None) e
-    (none_first (fault_in names role.Part g) None d refl)
+both_parts names f g e d = none_first _ _ e (none_first _ _ d refl)
 
 each_part : (names : Names) (f g : CoreForm) → fault_in names role.Part (And f g) ≡ None
     → (fault_in names role.Part f ≡ None) × (fault_in names role.Part g ≡ None)
 unfolding fault_in
-each_part names f g e =
-    let left = no_first (fault_in names role.Part f) (first (fault_in names role.Part g) None) e in (
-      left.0,
-      (no_first (fault_in names role.Part g) None left.1).0,
-    )
+each_part names f g e = let left = no_first _ _ e in (left.0, (no_first _ _ left.1).0)
 
 evens_arranged : (f g : CoreForm) → evens (arranged f) (arranged g) ≡ evens f g
 evens_arranged f g =
@@ -157,60 +128,40 @@ pub fault_arranged : (names : Names) (r : Role) (f : CoreForm) → fault_in name
     → fault_in names r (arranged f) ≡ None
 unfolding fault_in
 fault_arranged names r (Not f) e =
-    let parts = no_first (fault_in names (under_not r) f) (asked (judges_not r) (guards names (Not f))) e in
-    none_first (fault_in names (under_not r) (arranged f)) (asked (judges_not r) (guards names (Not (arranged f))))
-    (fault_arranged names (under_not r) f parts.0)
+    let parts = no_first _ _ e in
+    none_first _ _ (fault_arranged names (under_not r) f parts.0)
     (asked_kept (judges_not r) (guards names (Not f)) (guards names (Not (arranged f)))
     (guards_arranged names (Not f)) parts.1)
 fault_arranged names r (And f g) e =
-    let left = no_first (fault_in names role.Part f)
-    (first (fault_in names role.Part g) (asked (is_conjunction r) (guards names (And f g)))) e in
-    let right = no_first (fault_in names role.Part g) (asked (is_conjunction r) (guards names (And f g))) left.1 in
+    let left = no_first _ _ e in
+    let right = no_first _ _ left.1 in
     judged names r (arranged (And f g)) (and_conjuncts (arranged f) (arranged g))
     (stays_conjuncts (λ k. fault_in names role.Part k ≡ None) (both_parts names) (each_part names) (arranged f)
-    (arranged g)
-    (fault_arranged names role.Part f left.0) (fault_arranged names role.Part g right.0))
+    (arranged g) (fault_arranged names role.Part f left.0) (fault_arranged names role.Part g right.0))
     (asked_kept (is_conjunction r) (guards names (And f g)) (guards names (arranged (And f g)))
     (guards_arranged names (And f g)) right.1)
 fault_arranged names r (Or f g) e =
-    let left = no_first (fault_in names role.Whole f) (first (fault_in names role.Whole g) (evens f g)) e in
-    let right = no_first (fault_in names role.Whole g) (evens f g) left.1 in
-    none_first (fault_in names role.Whole (arranged f))
-    (first (fault_in names role.Whole (arranged g)) (evens (arranged f) (arranged g)))
-    (fault_arranged names role.Whole f left.0)
-    (none_first (fault_in names role.Whole (arranged g)) (evens (arranged f) (arranged g))
-    (fault_arranged names role.Whole g right.0)
-    (evens_arranged f g ∙ right.1))
+    let left = no_first _ _ e in
+    let right = no_first _ _ left.1 in
+    none_first _ _ (fault_arranged names role.Whole f left.0)
+    (none_first _ _ (fault_arranged names role.Whole g right.0) (evens_arranged f g ∙ right.1))
 fault_arranged names r (Exists x f) e =
-    let parts = no_first (fault_in (with_name names x) role.Whole f) (uses x f) e in
-    none_first (fault_in (with_name names x) role.Whole (arranged f)) (uses x (arranged f))
-    (fault_arranged (with_name names x) role.Whole f parts.0)
+    let parts = no_first _ _ e in
+    none_first _ _ (fault_arranged (with_name names x) role.Whole f parts.0)
     (ap (λ xs. at_variable (λ y. UnusedBound (record { number = y; name = x.name }))
-    (first_outside xs (x.number ∷ [])))
-    (fv_arranged f)
-    ∙ parts.1)
+    (first_outside xs (x.number ∷ []))) (fv_arranged f) ∙ parts.1)
 fault_arranged names r (Previous i f) e = fault_arranged names role.Whole f e
 fault_arranged names r (Next i f) e = fault_arranged names role.Whole f e
 fault_arranged names r (Since i f g) e =
-    let left = no_first (fault_in names role.Left f) (first (fault_in names role.Whole g) (covers names f g)) e in
-    let right = no_first (fault_in names role.Whole g) (covers names f g) left.1 in
-    none_first (fault_in names role.Left (arranged f))
-    (first (fault_in names role.Whole (arranged g)) (covers names (arranged f) (arranged g)))
-    (fault_arranged names role.Left f left.0)
-    (none_first (fault_in names role.Whole (arranged g)) (covers names (arranged f) (arranged g))
-    (fault_arranged names role.Whole g right.0)
-    (covers_arranged names f g ∙ right.1))
+    let left = no_first _ _ e in
+    let right = no_first _ _ left.1 in
+    none_first _ _ (fault_arranged names role.Left f left.0)
+    (none_first _ _ (fault_arranged names role.Whole g right.0) (covers_arranged names f g ∙ right.1))
 fault_arranged names r (Until i f g) e =
-    let left = no_first (fault_in names role.Left f)
-    (first (fault_in names role.Whole g) (first (looks_within i.hi) (covers names f g))) e in
-    let right = no_first (fault_in names role.Whole g) (first (looks_within i.hi) (covers names f g)) left.1 in
-    none_first (fault_in names role.Left (arranged f))
-    (first (fault_in names role.Whole (arranged g))
-    (first (looks_within i.hi) (covers names (arranged f) (arranged g))))
-    (fault_arranged names role.Left f left.0)
-    (none_first (fault_in names role.Whole (arranged g))
-    (first (looks_within i.hi) (covers names (arranged f) (arranged g)))
-    (fault_arranged names role.Whole g right.0)
+    let left = no_first _ _ e in
+    let right = no_first _ _ left.1 in
+    none_first _ _ (fault_arranged names role.Left f left.0)
+    (none_first _ _ (fault_arranged names role.Whole g right.0)
     (ap (first (looks_within i.hi)) (covers_arranged names f g) ∙ right.1))
 fault_arranged names r f e = e
 
@@ -225,21 +176,12 @@ constants_arranged (And f g) b =
     (λ h k. within_both b (constants (meaning h)) (constants (meaning k))) (arranged f) (arranged g)
     ∙ ap₂ (λ x y. x || y) (constants_arranged f b) (constants_arranged g b)
     ∙ sym (within_both b (constants (meaning f)) (constants (meaning g)))
-constants_arranged (Or f g) b =
-    within_both b (constants (meaning (arranged f))) (constants (meaning (arranged g)))
-    ∙ ap₂ (λ x y. x || y) (constants_arranged f b) (constants_arranged g b)
-    ∙ sym (within_both b (constants (meaning f)) (constants (meaning g)))
+constants_arranged (Or f g) b = simp (within_both, constants_arranged f b, constants_arranged g b)
 constants_arranged (Exists x f) b = constants_arranged f b
 constants_arranged (Previous i f) b = constants_arranged f b
 constants_arranged (Next i f) b = constants_arranged f b
-constants_arranged (Since i f g) b =
-    within_both b (constants (meaning (arranged f))) (constants (meaning (arranged g)))
-    ∙ ap₂ (λ x y. x || y) (constants_arranged f b) (constants_arranged g b)
-    ∙ sym (within_both b (constants (meaning f)) (constants (meaning g)))
-constants_arranged (Until i f g) b =
-    within_both b (constants (meaning (arranged f))) (constants (meaning (arranged g)))
-    ∙ ap₂ (λ x y. x || y) (constants_arranged f b) (constants_arranged g b)
-    ∙ sym (within_both b (constants (meaning f)) (constants (meaning g)))
+constants_arranged (Since i f g) b = simp (within_both, constants_arranged f b, constants_arranged g b)
+constants_arranged (Until i f g) b = simp (within_both, constants_arranged f b, constants_arranged g b)
 constants_arranged f b = refl
 
 variables_arranged : (f g : CoreForm) → HasVariablesOf g f → HasVariablesOf (arranged g) (arranged f)
@@ -266,16 +208,10 @@ sound_arranged whole (Exists x f) sound = (
 )
 sound_arranged whole (Previous i f) sound = sound_arranged whole f sound
 sound_arranged whole (Next i f) sound = sound_arranged whole f sound
-sound_arranged whole (Since i f g) sound = (
-  variables_arranged f g sound.0,
-  sound_arranged whole f sound.1,
-  sound_arranged whole g sound.2,
-)
-sound_arranged whole (Until i f g) sound = (
-  variables_arranged f g sound.0,
-  sound_arranged whole f sound.1,
-  sound_arranged whole g sound.2,
-)
+sound_arranged whole (Since i f g) sound =
+    (variables_arranged f g sound.0, sound_arranged whole f sound.1, sound_arranged whole g sound.2)
+sound_arranged whole (Until i f g) sound =
+    (variables_arranged f g sound.0, sound_arranged whole f sound.1, sound_arranged whole g sound.2)
 sound_arranged whole f sound = sound
 
 pub same_arranged : (view : View) (f : CoreForm) (given db : List Event) → SameNear view f given db

@@ -1,6 +1,6 @@
 -- An arranged core means what the core means.
-use Rattle.std.proofs.Common.{◌≡◌, ℕ, Bool, true, false, not, ◌&&◌, ◌||◌, cond, nat_eq, List, length}
-use Rattle.std.proofs.Common.{refl, sym, ap, ap₂, ◌∙◌, inl, inr}
+use Rattle.std.proofs.Common.{◌≡◌, ℕ, Bool, true, false, not, ◌&&◌, ◌||◌, cond, nat_eq, List, length, refl, sym, ap}
+use Rattle.std.proofs.Common.{ap₂, ◌∙◌, inl, inr}
 use Rattle.std.proofs.Math.Bool.{and_assoc, and_comm}
 use Rattle.std.proofs.lemmas.Bool.{and_parts, cases_Bool, cond-false, cond-true}
 use Rattle.std.proofs.lemmas.Slice.Eq.{bytes_eq-Decides}
@@ -18,6 +18,11 @@ use Rattle.monitorable.specs.CoreForms.{CoreForm, meaning, And, Exists, Next, No
 use Rattle.monitor_state.specs.Nodes.{arranged, before_windows, connects, goes_before, last_conjunct, windowed}
 use Rattle.monitor_state.specs.Nodes.{with_conjunct, with_conjuncts, without_windows}
 
+-- what both branches have
+pub of_either : (P : CoreForm → Type 0) (b : Bool) (f g : CoreForm) → P f → P g → P (cond b f g)
+of_either P true f g p q = p
+of_either P false f g p q = q
+
 -- ---- a test that a conjunction meets by both sides, whatever their order
 
 module _ (op : Bool → Bool → Bool) (assoc : (a b c : Bool) → op (op a b) c ≡ op a (op b c))
@@ -27,27 +32,19 @@ module _ (op : Bool → Bool → Bool) (assoc : (a b c : Bool) → op (op a b) c
   swapped a b c = assoc a c b ∙ ap (op a) (comm c b) ∙ sym (assoc a b c)
 
   has_before : (f h : CoreForm) → has (before_windows f h) ≡ op (has f) (has h)
-  has_before (And f g) h = by (has_before f h) (windowed g)
-    where
-      by : has (before_windows f h) ≡ op (has f) (has h) → (b : Bool)
-          → has (cond b (And (before_windows f h) g) (And (And f g) h)) ≡ op (has (And f g)) (has h)
-      by moved true =
-          both (before_windows f h) g ∙ ap (λ b. op b (has g)) moved
-          ∙ swapped (has f) (has g) (has h)
-          ∙ ap (λ b. op b (has h)) (sym (both f g))
-      by moved false = both (And f g) h
-  has_before f h = by (windowed f)
-    where
-      by : (b : Bool) → has (cond b (And h f) (And f h)) ≡ op (has f) (has h)
-      by true = both h f ∙ comm (has h) (has f)
-      by false = both f h
+  has_before (And f g) h =
+      of_either (λ k. has k ≡ op (has (And f g)) (has h)) (windowed g) (And (before_windows f h) g) (And (And f g) h)
+      (both (before_windows f h) g ∙ ap (λ b. op b (has g)) (has_before f h)
+      ∙ swapped (has f) (has g) (has h)
+      ∙ ap (λ b. op b (has h)) (sym (both f g))) (both (And f g) h)
+  has_before f h =
+      of_either (λ k. has k ≡ op (has f) (has h)) (windowed f) (And h f) (And f h)
+      (both h f ∙ comm (has h) (has f)) (both f h)
 
   has_conjunct : (f h : CoreForm) → has (with_conjunct f h) ≡ op (has f) (has h)
-  has_conjunct f h = by (goes_before f h)
-    where
-      by : (b : Bool) → has (cond b (before_windows f h) (And f h)) ≡ op (has f) (has h)
-      by true = has_before f h
-      by false = both f h
+  has_conjunct f h =
+      of_either (λ k. has k ≡ op (has f) (has h)) (goes_before f h) (before_windows f h) (And f h)
+      (has_before f h) (both f h)
 
   pub has_conjuncts : (f g : CoreForm) → has (with_conjuncts f g) ≡ op (has f) (has g)
   has_conjuncts f (And g h) =

@@ -1,26 +1,21 @@
 -- The nodes with which a monitor begins stand for the empty log.
-use Rattle.std.proofs.Common.{subst, ◌≡◌, ℕ, ◌+◌, ◌-◌, ◌≤◌, Bool, true, false, ◌&&◌, cond, List, [], ◌∷◌, ◌++◌, length}
-use Rattle.std.proofs.Common.{map, drop, refl, sym, ap, ap₂, ◌∙◌, ◌⊎◌, arith, append_assoc, append-nil, inl, inr}
+use Rattle.std.proofs.Common.{subst, ◌≡◌, ◌+◌, ◌≤◌, Bool, true, false, ◌&&◌, cond, List, [], ◌∷◌, ◌++◌, length, map}
+use Rattle.std.proofs.Common.{drop, refl, sym, ap, ◌∙◌, ◌⊎◌, arith, append_assoc, inl, inr}
 use Rattle.relations.proofs.InsideLemmas.{joined_within}
-use Rattle.mfotl_model.specs.Exact.{AllExact, View}
+use Rattle.mfotl_model.specs.Exact.{View}
 use Rattle.mfotl_model.specs.FreeVariables.{fv}
 use Rattle.mfotl_model.specs.Log.{times}
 use Rattle.mfotl_model.specs.Satisfaction.{Valuation, sat}
 use Rattle.mfotl_model.specs.Tables.{TableOf, has}
-use Rattle.mfotl_model.specs.declared.event.TimePoint.{TimePoint}
-use Rattle.mfotl_model.specs.declared.formula.Bound.{Bound}
 use Rattle.mfotl_model.specs.declared.interval.Interval.{Interval}
-use Rattle.mfotl_model.specs.declared.term.Atom.{Atom as OneAtom}
-use Rattle.mfotl_model.specs.declared.term.Comparison.{Comparison}
 use Rattle.eval_bool.specs.OrView.{OrOf}
 use Rattle.eval_since.specs.PreviousView.{PrevOf}
 use Rattle.eval_since.specs.SinceView.{SinceOf}
-use Rattle.eval_until.specs.NextView.{NextOf, tables_pushed}
-use Rattle.monitorable.specs.CoreForms.{CoreForm, meaning, True, False, Atom, Compare, Not, And, Or, Exists, Previous}
-use Rattle.monitorable.specs.CoreForms.{Next, Since}
+use Rattle.eval_until.specs.NextView.{NextOf}
+use Rattle.monitorable.specs.CoreForms.{CoreForm, meaning, True, False, Not, And, Or, Previous, Next, Since}
 use Rattle.monitorable.specs.Conjuncts.{PartForm, conjuncts_of}
 use Rattle.monitorable.specs.Conjuncts.PartForm.{Child as ChildPart, Test as TestPart}
-use Rattle.monitorable.specs.Fragment.{binds, is_conjunction, judges_not, under_not}
+use Rattle.monitorable.specs.Fragment.{is_conjunction, judges_not, under_not}
 use Rattle.eval_bool.specs.JoinView.{ChildOf, JoinOf, children_of}
 use Rattle.monitorable.specs.declared.role.Role.{Role}
 use Rattle.monitorable.specs.declared.role.Role.TheVariants as role
@@ -29,17 +24,14 @@ use Rattle.monitor_state.proofs.MonitorSteps.{nodes_append}
 use Rattle.monitor_state.proofs.SinceSteps.{free_operand}
 use Rattle.monitor_state.specs.Beginnings.{Adds, AddsIf, Begins, BeginsJoin, BeginsNode, IsJoined, NextBegun, OrBegun}
 use Rattle.monitor_state.specs.Beginnings.{PreviousBegun, SinceBegun}
-use Rattle.monitor_state.specs.Constants.{stands_alone}
-use Rattle.monitor_state.specs.Nodes.{children, filters, left_operand, nodes_in, nodes_of, operands, true_in}
-use Rattle.monitor_state.specs.Nodes.{without_last}
+use Rattle.monitor_state.specs.Nodes.{children, filters, nodes_in, nodes_of, operands, true_in, without_last}
 use Rattle.monitor_state.specs.Stands.{ChildrenStand, IsConstant, IsNodeFor, IsConjunction, IsOr, JoinStands}
-use Rattle.monitor_state.specs.Stands.{NextStands, OrStands}
-use Rattle.monitor_state.specs.Stands.{PreviousStands, bare, conjunct_as, NodeStands, NodesStand, StateOf}
+use Rattle.monitor_state.specs.Stands.{NextStands, OrStands, PreviousStands, bare, conjunct_as, NodeStands, NodesStand}
+use Rattle.monitor_state.specs.Stands.{StateOf}
 use Rattle.monitor_state.specs.SinceNode.{IsSince, IsSinceState, SinceStands, SinceStandsAt}
 use Rattle.monitor_state.specs.Views.{reached}
 use Rattle.monitor_state.specs.declared.node.Node.{Node}
 use Rattle.monitor_state.specs.declared.node.Node.TheVariants as node
-use Rattle.monitor_state.specs.Stamps.{stamps}
 
 pub adds_then : (fs gs : List CoreForm) (old mid new : List Node) → Adds fs old mid → Adds gs mid new
     → Adds (fs ++ gs) old new
@@ -76,33 +68,15 @@ false_adds table old new columns rows is =
     adds_one False (node.Constant table) old new is
     (record { columns = columns; rows = λ log dom v i. rows v; alone = refl }) (λ view empty. tt)
 
-pub true_left : (r : Role) (old new : List Node) → r ≡ role.Left → Adds (False ∷ []) old new
-    → Adds (true_in r ∷ []) old new
-true_left r old new is adds = subst (λ q. Adds (true_in q ∷ []) old new) (sym is) adds
-
 pub true_elsewhere : (r : Role) (old new : List Node) → (r ≡ role.Whole) ⊎ ((r ≡ role.Part) ⊎ (r ≡ role.Negated))
     → Adds (True ∷ []) old new → Adds (true_in r ∷ []) old new
-true_elsewhere r old new (inl is) adds = subst (λ q. Adds (true_in q ∷ []) old new) (sym is) adds
-true_elsewhere r old new (inr (inl is)) adds = subst (λ q. Adds (true_in q ∷ []) old new) (sym is) adds
-true_elsewhere r old new (inr (inr is)) adds = subst (λ q. Adds (true_in q ∷ []) old new) (sym is) adds
-
-pub exists_adds : (r : Role) (h : CoreForm) (x : Bound) (f : CoreForm) (old mid new : List Node) → h ≡ Exists x f
-    → Adds (nodes_in role.Whole f) old mid
-    → new ≡ mid ++ node.Exists x.number ∷ [] → Adds (nodes_in r h) old new
-unfolding nodes_in
-exists_adds r h x f old mid new same first is =
-    subst (λ k. Adds (nodes_in r k) old new) (sym same)
-    (adds_then (nodes_in role.Whole f) (Exists x f ∷ []) old mid new first
-    (adds_one (Exists x f) (node.Exists x.number) mid new is refl (λ view empty. tt)))
+true_elsewhere r old new (inl is) adds = rw is adds
+true_elsewhere r old new (inr (inl is)) adds = rw is adds
+true_elsewhere r old new (inr (inr is)) adds = rw is adds
 
 pub since_state_is : (i : Interval) (f g : CoreForm) (s : SinceOf) → SinceBegun i f g s → IsSinceState i f g s
 since_state_is i f g s begun =
-    record {
-      interval = ap (λ (x : SinceOf). x.window.interval) begun.begun;
-      negated = ap (λ (x : SinceOf). x.negated) begun.begun;
-      left = ap (λ (x : SinceOf). x.window.left) begun.begun ∙ sym (free_operand f);
-      right = ap (λ (x : SinceOf). x.window.right) begun.begun;
-    }
+    rw begun.begun (record { interval = refl; negated = refl; left = sym (free_operand f); right = refl })
 
 since_is : (i : Interval) (f g : CoreForm) (s : SinceOf) (order : TableOf) → SinceBegun i f g s
     → order.columns ≡ fv (meaning (Since i f g)) → IsSince i f g s order
@@ -113,25 +87,17 @@ since_is i f g s order begun columns =
 pub since_begins_at : (i : Interval) (f g : CoreForm) (s : SinceOf) → SinceBegun i f g s → (view : View) → view.log ≡ []
     → SinceStandsAt view 0 i f g s
 since_begins_at i f g s begun view empty =
-    let pulled : s.pulled ≡ 0 = ap (λ (x : SinceOf). x.pulled) begun.begun in
-    let none_kept : length s.times ≡ 0 = ap (λ (x : SinceOf). length x.times) begun.begun in
-    let lefts : length s.lefts ≡ 0 = ap (λ (x : SinceOf). length x.lefts) begun.begun in
-    let rights : length s.rights ≡ 0 = ap (λ (x : SinceOf). length x.rights) begun.begun in
     let size : length view.log ≡ 0 = ap length empty in
     let left : 0 ≡ reached view f = none_reached view empty f in
     let right : 0 ≡ reached view g = none_reached view empty g in
     record {
-      pulled = pulled;
-      timed = omega arith;
-      known =
-          ap (λ (x : SinceOf). stamps x.pulled x.window.last x.times) begun.begun
-          ∙ sym (ap₂ (λ (n : ℕ) (log : List TimePoint). drop (n - 1) (times log)) pulled empty);
-      left_pushed = omega arith;
-      right_pushed = omega arith;
-      lefts = subst (λ xs. AllExact view (meaning (left_operand f)) s.pulled xs)
-          (sym (ap (λ (x : SinceOf). x.lefts) begun.begun)) tt;
-      rights = subst (λ xs. AllExact view (meaning g) s.pulled xs) (sym (ap (λ (x : SinceOf). x.rights) begun.begun))
-          tt;
+      pulled = rw begun.begun;
+      timed = rw begun.begun (omega arith);
+      known = rw (begun.begun, empty);
+      left_pushed = rw begun.begun (omega arith);
+      right_pushed = rw begun.begun (omega arith);
+      lefts = rw begun.begun tt;
+      rights = rw begun.begun tt;
       follows = λ dom v covers near t a b dates tells tells_right. begun.follows t a b v;
     }
 
@@ -140,17 +106,6 @@ since_begins : (i : Interval) (f g : CoreForm) (s : SinceOf) → SinceBegun i f 
 since_begins i f g s begun view empty =
     subst (λ p. SinceStandsAt view p i f g s) (none_reached view empty (Since i f g))
     (since_begins_at i f g s begun view empty)
-
-pub since_adds : (r : Role) (h : CoreForm) (i : Interval) (f g : CoreForm) (old more new : List Node) → h ≡ Since i f g
-    → Adds (nodes_in role.Left f ++ nodes_in role.Whole g) old more
-    → (h ≡ Since i f g → Adds (h ∷ []) more new)
-    → Adds (nodes_in r h) old new
-unfolding nodes_in
-since_adds r h i f g old more new same both own =
-    subst (λ k. Adds (nodes_in r k) old new) (sym same)
-    (adds_then (nodes_in role.Left f ++ nodes_in role.Whole g) (Since i f g ∷ []) old more new
-    both
-    (subst (λ k. Adds (k ∷ []) more new) same (own same)))
 
 pub since_added : (h : CoreForm) (i : Interval) (f g : CoreForm) (s : SinceOf) (order : TableOf) (old new : List Node)
     → SinceBegun i f g s → order.columns ≡ fv (meaning h) → new ≡ old ++ node.Since s order ∷ []
@@ -175,22 +130,6 @@ begins core state taken given first times_are adds view empty =
       nodes = subst (NodesStand view (nodes_of core)) (sym added.1) added.2;
     }
 
--- a core without operands has one node
-pub true_at : (r : Role) (h : CoreForm) (old new : List Node) → h ≡ True → Adds (true_in r ∷ []) old new
-    → Adds (nodes_in r h) old new
-unfolding nodes_in
-true_at r h old new same adds = subst (λ k. Adds (nodes_in r k) old new) (sym same) adds
-
-pub false_at : (r : Role) (h : CoreForm) (old new : List Node) → h ≡ False → Adds (False ∷ []) old new
-    → Adds (nodes_in r h) old new
-unfolding nodes_in
-false_at r h old new same adds = subst (λ k. Adds (nodes_in r k) old new) (sym same) adds
-
-pub atom_at : (r : Role) (h : CoreForm) (a : OneAtom) (old new : List Node) → h ≡ Atom a → Adds (Atom a ∷ []) old new
-    → Adds (nodes_in r h) old new
-unfolding nodes_in
-atom_at r h a old new same adds = subst (λ k. Adds (nodes_in r k) old new) (sym same) adds
-
 begun_children : (view : View) → view.log ≡ [] → (ps : List PartForm)
     → ChildrenStand view 0 (children ps) (children_of (map conjunct_as ps))
 begun_children view empty [] = tt
@@ -206,49 +145,33 @@ bare_begun (TestPart c w ∷ ps) = bare_begun ps
 
 join_is : (f : CoreForm) (s : JoinOf) → operands f ≡ children (conjuncts_of f) → BeginsJoin f s → IsConjunction f s
 join_is f s same begins =
-    record {
-      columns = ap (λ (x : JoinOf). x.columns) begins.begun;
-      tests = ap (λ (x : JoinOf). x.tests) begins.begun;
-      parts = ap (λ (x : JoinOf). map bare x.children) begins.begun ∙ bare_begun (conjuncts_of f);
-      some = begins.some;
-      whole = same;
-    }
+    rw begins.begun
+    (record { columns = refl; tests = refl; parts = bare_begun (conjuncts_of f); some = begins.some; whole = same })
 
 join_begins : (f : CoreForm) (s : JoinOf) → operands f ≡ children (conjuncts_of f) → BeginsJoin f s → (view : View)
     → view.log ≡ [] → JoinStands view f s
 join_begins f s same begins view empty =
-    record {
-      pulled = ap (λ (x : JoinOf). x.pulled) begins.begun ∙ none_reached view empty f;
-      children =
-          subst (λ (x : JoinOf). ChildrenStand view x.pulled (operands f) x.children) (sym begins.begun)
-          (subst (λ fs. ChildrenStand view 0 fs (children_of (map conjunct_as (conjuncts_of f)))) (sym same)
-          (begun_children view empty (conjuncts_of f)));
-    }
-
-adds_none : (old : List Node) → Adds [] old old
-adds_none old view empty = ([], sym (append-nil old), tt)
+    rw begins.begun
+    (record {
+      pulled = none_reached view empty f;
+      children = rw same (begun_children view empty (conjuncts_of f));
+    })
 
 -- the node of a conjunction that has a child
 pub join_node : (h : CoreForm) (s : JoinOf) → IsJoined h → operands h ≡ children (conjuncts_of h) → BeginsJoin h s
     → BeginsNode h (node.Join s)
 join_node h s (inl same) whole begins =
-    let own = subst (λ k. BeginsJoin k s) same.2 begins in
-    let all = subst (λ k. operands k ≡ children (conjuncts_of k)) same.2 whole in
-    subst (λ k. BeginsNode k (node.Join s)) (sym same.2)
-    (join_is (And same.0 same.1) s all own, join_begins (And same.0 same.1) s all own)
+    let own = rw same.2 at begins in
+    let all = rw same.2 at whole in
+    rw same.2 (join_is (And same.0 same.1) s all own, join_begins (And same.0 same.1) s all own)
 join_node h s (inr same) whole begins =
-    let own = subst (λ k. BeginsJoin k s) same.1 begins in
-    subst (λ k. BeginsNode k (node.Join s)) (sym same.1)
-    (join_is (Not same.0) s refl own, join_begins (Not same.0) s refl own)
+    let own = rw same.1 at begins in
+    rw same.1 (join_is (Not same.0) s refl own, join_begins (Not same.0) s refl own)
 
 -- the node of one that has none
 pub tests_node : (h : CoreForm) (table : TableOf) → IsJoined h → IsConstant h table → BeginsNode h (node.Constant table)
-tests_node h table (inl same) is =
-    subst (λ k. BeginsNode k (node.Constant table)) (sym same.2)
-    (subst (λ k. IsConstant k table) same.2 is, λ view empty. tt)
-tests_node h table (inr same) is =
-    subst (λ k. BeginsNode k (node.Constant table)) (sym same.1)
-    (subst (λ k. IsConstant k table) same.1 is, λ view empty. tt)
+tests_node h table (inl same) is = rw same.2 (rw same.2 at is, λ view empty. tt)
+tests_node h table (inr same) is = rw same.1 (rw same.1 at is, λ view empty. tt)
 
 pub and_adds : (r : Role) (h f g : CoreForm) (own : Bool) (old mid new : List Node) → h ≡ And f g
     → own ≡ is_conjunction r
@@ -257,12 +180,9 @@ pub and_adds : (r : Role) (h f g : CoreForm) (own : Bool) (old mid new : List No
     → AddsIf own h mid new → Adds (nodes_in r h) old new
 unfolding nodes_in
 and_adds r h f g own old mid new same is joins first last =
-    subst (λ k. Adds (nodes_in r k) old new) (sym same)
-    (subst (λ b. Adds (cond b (nodes_in role.Whole f ++ without_last (nodes_in role.Part g) ++ And f g ∷ [])
-    (nodes_in role.Part f ++ nodes_in role.Part g ++ cond (is_conjunction r) (And f g ∷ []) [])) old new) (sym joins)
+    rw (same, joins)
     (adds_then (nodes_in role.Part f ++ nodes_in role.Part g) (cond (is_conjunction r) (And f g ∷ []) []) old mid new
-    first
-    (subst (λ b. Adds (cond b (And f g ∷ []) []) mid new) is (subst (λ k. AddsIf own k mid new) same last))))
+    first (rw (← is, ← same) last))
 
 pub filter_adds : (r : Role) (h f g : CoreForm) (old mid more new : List Node) → h ≡ And f g
     → (is_conjunction r && filters f g) ≡ true
@@ -270,141 +190,80 @@ pub filter_adds : (r : Role) (h f g : CoreForm) (old mid more new : List Node) �
     → Adds (And f g ∷ []) more new → Adds (nodes_in r h) old new
 unfolding nodes_in
 filter_adds r h f g old mid more new same only first second own =
-    subst (λ k. Adds (nodes_in r k) old new) (sym same)
-    (subst (λ b. Adds (cond b (nodes_in role.Whole f ++ without_last (nodes_in role.Part g) ++ And f g ∷ [])
-    (nodes_in role.Part f ++ nodes_in role.Part g ++ cond (is_conjunction r) (And f g ∷ []) [])) old new) (sym only)
-    (adds_then (nodes_in role.Whole f ++ without_last (nodes_in role.Part g)) (And f g ∷ []) old more new
-    (adds_then (nodes_in role.Whole f) (without_last (nodes_in role.Part g)) old mid more first second) own))
+    rw (same, only) (adds_then _ _ old more new (adds_then _ _ old mid more first second) own)
 
 pub not_adds : (r s : Role) (h f : CoreForm) (own : Bool) (old mid new : List Node) → h ≡ Not f → own ≡ judges_not r
     → s ≡ under_not r
     → Adds (nodes_in s f) old mid → AddsIf own h mid new → Adds (nodes_in r h) old new
 unfolding nodes_in
 not_adds r s h f own old mid new same is under first last =
-    subst (λ k. Adds (nodes_in r k) old new) (sym same)
-    (adds_then (nodes_in (under_not r) f) (cond (judges_not r) (Not f ∷ []) []) old mid new
-    (subst (λ q. Adds (nodes_in q f) old mid) under first)
-    (subst (λ b. Adds (cond b (Not f ∷ []) []) mid new) is (subst (λ k. AddsIf own k mid new) same last)))
+    rw same
+    (adds_then (nodes_in (under_not r) f) (cond (judges_not r) (Not f ∷ []) []) old mid new (rw (← under) first)
+    (rw (← is, ← same) last))
 
 pub judged_adds : (own : Bool) (h : CoreForm) (n : Node) (old new : List Node) → own ≡ true → BeginsNode h n
     → new ≡ old ++ n ∷ [] → AddsIf own h old new
-judged_adds own h n old new is begins made =
-    subst (λ b. AddsIf b h old new) (sym is) (adds_one h n old new made begins.0 begins.1)
-
-pub compare_adds : (r : Role) (h : CoreForm) (c : Comparison) (old new : List Node) → h ≡ Compare c
-    → AddsIf (stands_alone r (binds c)) (Compare c) old new → Adds (nodes_in r h) old new
-unfolding nodes_in
-compare_adds r h c old new same adds = subst (λ k. Adds (nodes_in r k) old new) (sym same) adds
+judged_adds own h n old new is begins made = rw is (adds_one h n old new made begins.0 begins.1)
 
 or_begins : (f g : CoreForm) (s : OrOf) → OrBegun f g s → (view : View) → view.log ≡ [] → OrStands view f g s
 or_begins f g s begun view empty =
-    let pulled : s.pulled ≡ 0 = ap (λ (x : OrOf). x.pulled) begun.begun in
-    let lefts : length s.lefts ≡ 0 = ap (λ (x : OrOf). length x.lefts) begun.begun in
-    let rights : length s.rights ≡ 0 = ap (λ (x : OrOf). length x.rights) begun.begun in
     let left : 0 ≡ reached view f = none_reached view empty f in
     let right : 0 ≡ reached view g = none_reached view empty g in
     record {
-      pulled = pulled ∙ none_reached view empty (Or f g);
-      left_pushed = omega arith;
-      right_pushed = omega arith;
-      lefts = subst (λ xs. AllExact view (meaning f) s.pulled xs) (sym (ap (λ (x : OrOf). x.lefts) begun.begun)) tt;
-      rights = subst (λ xs. AllExact view (meaning g) s.pulled xs) (sym (ap (λ (x : OrOf). x.rights) begun.begun)) tt;
+      pulled = rw begun.begun (none_reached view empty (Or f g));
+      left_pushed = rw begun.begun (omega arith);
+      right_pushed = rw begun.begun (omega arith);
+      lefts = rw begun.begun tt;
+      rights = rw begun.begun tt;
     }
 
 or_is : (f g : CoreForm) (s : OrOf) → OrBegun f g s → IsOr f g s
 unfolding fv
 or_is f g s begun =
-    record {
-      columns =
-          ap (λ (x : OrOf). x.left) begun.begun ∙ sym (joined_within (fv (meaning f)) (fv (meaning g)) begun.within);
-      right = ap (λ (x : OrOf). x.right) begun.begun;
-    }
+    rw begun.begun
+    (record { columns = sym (joined_within (fv (meaning f)) (fv (meaning g)) begun.within); right = refl })
 
 pub or_added : (f g : CoreForm) (s : OrOf) (old new : List Node) → OrBegun f g s → new ≡ old ++ node.Or s ∷ []
     → Adds (Or f g ∷ []) old new
 or_added f g s old new begun is =
     adds_one (Or f g) (node.Or s) old new is (or_is f g s begun) (λ view empty. or_begins f g s begun view empty)
 
-pub or_adds : (r : Role) (h f g : CoreForm) (old more new : List Node) → h ≡ Or f g
-    → Adds (nodes_in role.Whole f ++ nodes_in role.Whole g) old more
-    → Adds (Or f g ∷ []) more new → Adds (nodes_in r h) old new
-unfolding nodes_in
-or_adds r h f g old more new same both last =
-    subst (λ k. Adds (nodes_in r k) old new) (sym same)
-    (adds_then (nodes_in role.Whole f ++ nodes_in role.Whole g) (Or f g ∷ []) old more new
-    both last)
-
 previous_begins : (i : Interval) (f : CoreForm) (s : PrevOf) → PreviousBegun i f s → (view : View) → view.log ≡ []
     → PreviousStands view i f s
 previous_begins i f s begun view empty =
-    let pulled : s.pulled ≡ 0 = ap (λ (x : PrevOf). x.pulled) begun.begun in
-    let none_kept : length s.times ≡ 0 = ap (λ (x : PrevOf). length x.times) begun.begun in
-    let tables : length s.tables ≡ 0 = ap (λ (x : PrevOf). length x.tables) begun.begun in
     let size : length view.log ≡ 0 = ap length empty in
     let none : 0 ≡ reached view f = none_reached view empty f in
     record {
-      pulled = pulled ∙ none_reached view empty (Previous i f);
-      timed = omega arith;
-      known =
-          ap (λ (x : PrevOf). stamps x.pulled x.last x.times) begun.begun
-          ∙ sym (ap₂ (λ (n : ℕ) (log : List TimePoint). drop (n - 1) (times log)) pulled empty);
-      pushed = omega arith;
-      tables = subst (λ xs. AllExact view (meaning f) (s.pulled - 1) xs)
-          (sym (ap (λ (x : PrevOf). x.tables) begun.begun)) tt;
+      pulled = rw begun.begun (none_reached view empty (Previous i f));
+      timed = rw begun.begun (omega arith);
+      known = rw (begun.begun, empty);
+      pushed = rw begun.begun (omega arith);
+      tables = rw begun.begun tt;
       follows = λ dom v covers near t a dates tells. begun.follows t a v;
     }
 
 pub previous_added : (i : Interval) (f : CoreForm) (s : PrevOf) (old new : List Node) → PreviousBegun i f s
     → new ≡ old ++ node.Previous s ∷ [] → Adds (Previous i f ∷ []) old new
 previous_added i f s old new begun is =
-    adds_one (Previous i f) (node.Previous s) old new is
-    (record {
-      interval = ap (λ (x : PrevOf). x.interval) begun.begun;
-      columns =
-          ap (λ (x : PrevOf). x.columns) begun.begun;
-    })
+    adds_one (Previous i f) (node.Previous s) old new is (rw begun.begun (record { interval = refl; columns = refl }))
     (λ view empty. previous_begins i f s begun view empty)
-
-pub previous_adds : (r : Role) (h : CoreForm) (i : Interval) (f : CoreForm) (old mid new : List Node) → h ≡ Previous i f
-    → Adds (nodes_in role.Whole f) old mid → Adds (Previous i f ∷ []) mid new → Adds (nodes_in r h) old new
-unfolding nodes_in
-previous_adds r h i f old mid new same first last =
-    subst (λ k. Adds (nodes_in r k) old new) (sym same)
-    (adds_then (nodes_in role.Whole f) (Previous i f ∷ []) old mid new first last)
 
 next_begins : (i : Interval) (f : CoreForm) (s : NextOf) → NextBegun i f s → (view : View) → view.log ≡ []
     → NextStands view i f s
 next_begins i f s begun view empty =
-    let pulled : s.pulled ≡ 0 = ap (λ (x : NextOf). x.pulled) begun.begun in
-    let none_kept : length s.times ≡ 0 = ap (λ (x : NextOf). length x.times) begun.begun in
     let size : length view.log ≡ 0 = ap length empty in
     record {
-      pulled = pulled ∙ none_reached view empty (Next i f);
-      timed = omega arith;
-      kept =
-          ap (λ (x : NextOf). x.times) begun.begun
-          ∙ sym (ap₂ (λ (n : ℕ) (log : List TimePoint). drop n (times log)) pulled empty);
-      pushed = ap tables_pushed begun.begun ∙ none_reached view empty f;
-      bare = λ h. (pulled, ap (λ (x : NextOf). length x.tables) begun.begun);
-      tables = subst (λ xs. AllExact view (meaning f) (s.pulled + 1) xs)
-          (sym (ap (λ (x : NextOf). x.tables) begun.begun)) tt;
+      pulled = rw begun.begun (none_reached view empty (Next i f));
+      timed = rw begun.begun (omega arith);
+      kept = rw (begun.begun, empty);
+      pushed = rw begun.begun (none_reached view empty f);
+      bare = λ h. (rw begun.begun, rw begun.begun);
+      tables = rw begun.begun tt;
       follows = λ dom v covers near t a dates long tells. begun.follows t a v;
     }
 
 pub next_added : (i : Interval) (f : CoreForm) (s : NextOf) (old new : List Node) → NextBegun i f s
     → new ≡ old ++ node.Next s ∷ [] → Adds (Next i f ∷ []) old new
 next_added i f s old new begun is =
-    adds_one (Next i f) (node.Next s) old new is
-    (record {
-      interval = ap (λ (x : NextOf). x.interval) begun.begun;
-      columns =
-          ap (λ (x : NextOf). x.columns) begun.begun;
-    })
+    adds_one (Next i f) (node.Next s) old new is (rw begun.begun (record { interval = refl; columns = refl }))
     (λ view empty. next_begins i f s begun view empty)
-
-pub next_adds : (r : Role) (h : CoreForm) (i : Interval) (f : CoreForm) (old mid new : List Node) → h ≡ Next i f
-    → Adds (nodes_in role.Whole f) old mid → Adds (Next i f ∷ []) mid new → Adds (nodes_in r h) old new
-unfolding nodes_in
-next_adds r h i f old mid new same first last =
-    subst (λ k. Adds (nodes_in r k) old new) (sym same)
-    (adds_then (nodes_in role.Whole f) (Next i f ∷ []) old mid new first last)

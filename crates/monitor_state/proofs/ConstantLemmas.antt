@@ -1,16 +1,15 @@
 -- What has the same table at each position: equations with a constant, and tests of constants alone.
-use Rattle.std.proofs.Common.{◌≡◌, ℕ, true, false, ◌&&◌, ◌||◌, List, [], ◌∷◌, map, None, refl, sym, ap, ap₂, ◌∙◌, inl}
-use Rattle.std.proofs.Common.{inr}
+use Rattle.std.proofs.Common.{◌≡◌, ℕ, true, false, ◌&&◌, List, [], ◌∷◌, map, None, refl, sym, ap, ap₂, ◌∙◌, inl, inr}
 use Rattle.std.proofs.lemmas.Bool.{and_parts, and_from, cases_Bool, cond-false, or_left, or_right}
 use Rattle.std.specs.List.{list_all, list_any}
-use Rattle.std.specs.Ordering.{eq_by_cmp, is_eq, ordering_reverse, ordering_then}
+use Rattle.std.specs.Ordering.{eq_by_cmp, is_eq, ordering_reverse}
 use Rattle.std.specs.declared.cmp.Ordering.{Ordering}
 use Rattle.std.specs.declared.cmp.Ordering.TheVariants as order
 use Rattle.mfotl_model.proofs.LogicLemmas.{same_number}
 use Rattle.mfotl_model.proofs.VariableLemmas.{joined_none}
 use Rattle.mfotl_model.specs.FreeVariables.{among, fv, joined, variables_in}
 use Rattle.mfotl_model.specs.Satisfaction.{Valuation, compares, sat, term_value}
-use Rattle.mfotl_model.specs.Tables.{TableOf, has, has_row}
+use Rattle.mfotl_model.specs.Tables.{TableOf, has}
 use Rattle.mfotl_model.specs.Values.{value_cmp, value_total}
 use Rattle.mfotl_model.specs.declared.event.TimePoint.{TimePoint}
 use Rattle.mfotl_model.specs.declared.term.Comparison.{Comparison}
@@ -52,15 +51,6 @@ equal_is (Int x) (Int y) = refl
 equal_is (Int x) (Text t) = refl
 equal_is (Text s) (Int y) = refl
 equal_is (Text s) (Text t) = refl
-
--- the one row of one value
-pub one_row : (a b : Value) → has_row ((b ∷ []) ∷ []) (a ∷ []) ≡ eq_by_cmp value_cmp a b
-one_row a b = alone (value_cmp a b)
-  where
-    alone : (o : Ordering) → (is_eq (ordering_then o order.Equal) || false) ≡ is_eq o
-    alone order.Less = refl
-    alone order.Equal = refl
-    alone order.Greater = refl
 
 equal_sign : (s : Sign) → is_equal s ≡ true → s ≡ sign.Equal
 equal_sign sign.Equal h = refl

@@ -1,20 +1,16 @@
 -- How many positions are settled.
 use Rattle.std.proofs.Common.{◌≡◌, ℕ, zero, suc, ◌+◌, ◌-◌, ◌<◌, ◌≤◌, Bool, true, false, ◌&&◌, ◌||◌, nat_lt, nat_eq}
-use Rattle.std.proofs.Common.{List, ◌++◌, length, refl, sym, ap, ◌∙◌, inl, inr, arith}
+use Rattle.std.proofs.Common.{List, ◌++◌, length, refl, sym, ap, ◌∙◌, inl, inr, arith, ap₂}
 use Rattle.std.proofs.lemmas.Bool.{and_parts, and_from, cases_lt, eqb-true, ltb-true, lt-ltb, or_cases, or_left}
 use Rattle.std.proofs.lemmas.Bool.{or_right}
 use Rattle.std.specs.Cmp.{both_ways}
 use Rattle.mfotl_model.proofs.CountLemmas.{counted_settled, next_unsettled}
-use Rattle.mfotl_model.proofs.LogicLemmas.{all_in, all_from}
+use Rattle.mfotl_model.proofs.LogicLemmas.{all_in, all_from, funext}
 use Rattle.mfotl_model.specs.Counts.{settled_count}
 use Rattle.mfotl_model.specs.Formulas.{Form}
-use Rattle.mfotl_model.specs.Formulas.Form.{And, Next, Or, Previous, Since}
-use Rattle.mfotl_model.specs.Settled.{settled, next_settled, previous_settled, since_settled}
+use Rattle.mfotl_model.specs.Formulas.Form.{And, Next, Or, Previous, Since, Until}
+use Rattle.mfotl_model.specs.Settled.{settled, next_settled, previous_settled, since_settled, until_settled}
 use Rattle.mfotl_model.specs.Times.{NeverFalls}
-use Rattle.std.proofs.Common.{ap₂}
-use Rattle.mfotl_model.proofs.LogicLemmas.{funext}
-use Rattle.mfotl_model.specs.Formulas.Form.{Until}
-use Rattle.mfotl_model.specs.Settled.{until_settled}
 use Rattle.mfotl_model.specs.declared.interval.Interval.{Interval}
 use Rattle.monitorable.proofs.SettledLemmas.{settled_before, settled_in_log}
 use Rattle.monitorable.proofs.SettledStays.{settled_stays}
@@ -76,8 +72,7 @@ count_since t rising interval f g n left right done =
     count_is t rising (Since interval f g) n
     (λ j low.
     all_from (λ k. settled t f k && settled t g k) 0 (j + 1)
-    (λ k least most. and_from (settled t f k) (settled t g k) (counted_settled t f k (omega arith))
-    (counted_settled t g k (omega arith))))
+    (λ k least most. and_from _ _ (counted_settled t f k (omega arith)) (counted_settled t g k (omega arith))))
     (λ h.
     let both = and_parts (settled t f n) (settled t g n)
     (all_in (λ k. settled t f k && settled t g k) 0 (n + 1) n h (omega arith) (omega arith)) in
@@ -90,8 +85,7 @@ pub count_or : (t : List ℕ) → NeverFalls t → (f g : Form) (n : ℕ) → n 
 unfolding settled
 count_or t rising f g n left right done =
     count_is t rising (Or f g) n
-    (λ j low. and_from (settled t f j) (settled t g j) (counted_settled t f j (omega arith))
-    (counted_settled t g j (omega arith)))
+    (λ j low. and_from _ _ (counted_settled t f j (omega arith)) (counted_settled t g j (omega arith)))
     (λ h.
     let both = and_parts (settled t f n) (settled t g n) h in
     done (count_below t rising f n both.0) (count_below t rising g n both.1))
@@ -100,14 +94,8 @@ count_or t rising f g n left right done =
 pub count_and : (t : List ℕ) → NeverFalls t → (f g : Form) (n : ℕ) → n ≤ settled_count t f → n ≤ settled_count t g
     → (n < settled_count t f → n < settled_count t g → ⊥)
     → n ≡ settled_count t (And f g)
-unfolding settled
-count_and t rising f g n left right done =
-    count_is t rising (And f g) n
-    (λ j low. and_from (settled t f j) (settled t g j) (counted_settled t f j (omega arith))
-    (counted_settled t g j (omega arith)))
-    (λ h.
-    let both = and_parts (settled t f n) (settled t g n) h in
-    done (count_below t rising f n both.0) (count_below t rising g n both.1))
+unfolding settled settled_count
+count_and t rising f g n left right done = count_or t rising f g n left right done
 
 -- an AND is settled no further than its second operand
 pub and_below : (t : List ℕ) → NeverFalls t → (f g : Form) → settled_count t (And f g) ≤ settled_count t g
@@ -115,8 +103,7 @@ unfolding settled
 and_below t rising f g =
     elim (cases_lt (settled_count t g) (settled_count t (And f g))) [
       | inl more ↦
-          let both = and_parts (settled t f (settled_count t g)) (settled t g (settled_count t g))
-          (counted_settled t (And f g) (settled_count t g) more) in
+          let both = and_parts _ _ (counted_settled t (And f g) (settled_count t g) more) in
           let low : settled_count t g < settled_count t g = count_below t rising g (settled_count t g) both.1 in
           absurd (omega arith)
       | inr most ↦ most
@@ -134,8 +121,7 @@ since_counted t rising interval f g n = (
       (count_below t rising f n both.0, count_below t rising g n both.1),
   λ left right.
       all_from (λ k. settled t f k && settled t g k) 0 (n + 1)
-      (λ k least most. and_from (settled t f k) (settled t g k) (counted_settled t f k (omega arith))
-      (counted_settled t g k (omega arith))),
+      (λ k least most. and_from _ _ (counted_settled t f k (omega arith)) (counted_settled t g k (omega arith))),
 )
 
 -- the first position, or what holds of any later one
@@ -151,7 +137,7 @@ unfolding settled previous_settled
 count_previous t rising interval f n inside most done =
     count_is t rising (Previous interval f) n
     (λ j low.
-    and_from (nat_lt j (length t)) (nat_eq j 0 || settled t f (j - 1)) (lt-ltb j (length t) (omega arith))
+    and_from _ _ (lt-ltb j (length t) (omega arith))
     (ready_or_first j (settled t f (j - 1)) (λ some. counted_settled t f (j - 1) (omega arith))))
     (λ h.
     let both = and_parts (nat_lt n (length t)) (nat_eq n 0 || settled t f (n - 1)) h in
@@ -172,7 +158,7 @@ count_next t rising interval f n most done =
     let high : n + 1 ≤ settled_count t f = most (omega arith) in
     let ready : settled t f (j + 1) ≡ true = counted_settled t f (j + 1) (omega arith) in
     let inside : j + 1 < length t = settled_in_log t f (j + 1) ready in
-    and_from (nat_lt (j + 1) (length t)) (settled t f (j + 1)) (lt-ltb (j + 1) (length t) inside) ready)
+    and_from _ _ (lt-ltb (j + 1) (length t) inside) ready)
     (λ h.
     let both = and_parts (nat_lt (n + 1) (length t)) (settled t f (n + 1)) h in
     done (ltb-true (n + 1) (length t) both.0) (count_below t rising f (n + 1) both.1))

@@ -66,15 +66,6 @@ exact_tell view f dom v a i (table ∷ tables) covers near tells most all = (
   exact_tell view f dom v a (i + 1) tables covers near tells (omega arith) all.1,
 )
 
--- what stands for places stands for others that it means as much for
-pub stand_as : {X : Type 0} (P Q : ℕ → X → Type 0) (i : ℕ) (xs : List X)
-    → ((k : ℕ) (x : X) → i ≤ k → k < i + length xs → P k x → Q k x) → StandFrom P i xs → StandFrom Q i xs
-stand_as P Q i [] means stand = tt
-stand_as P Q i (x ∷ xs) means stand = (
-  means i x (omega arith) (omega arith) stand.0,
-  stand_as P Q (i + 1) xs (λ k y low high. means k y (omega arith) (omega arith)) stand.1,
-)
-
 -- what stands for places stands for those as far behind another place, where it means as much for them
 pub shifted : {X : Type 0} (P Q : ℕ → X → Type 0) (p i : ℕ) (xs : List X)
     → ((k : ℕ) (x : X) → i ≤ k → k < i + length xs → P k x → Q (p + k) x) → StandFrom P i xs → StandFrom Q (p + i) xs

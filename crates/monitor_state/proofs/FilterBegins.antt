@@ -1,29 +1,24 @@
 -- The node of a conjunction whose right side is asked for the left one's rows, with which a monitor begins.
-use Rattle.std.proofs.Common.{subst, ◌≡◌, Bool, true, false, not, ◌&&◌, ◌||◌, ◌++◌, List, [], ◌∷◌, length, refl}
-use Rattle.std.proofs.Common.{sym, ap, ◌∙◌}
+use Rattle.std.proofs.Common.{◌≡◌, Bool, true, false, ◌&&◌, ◌||◌, ◌++◌, List, [], ◌∷◌, length, refl, sym, ap, ◌∙◌}
 use Rattle.std.proofs.Common.{arith, append-nil, inl, inr, ℕ}
 use Rattle.std.proofs.lemmas.Bool.{and_parts, not-true, or_cases, or_right}
 use Rattle.std.proofs.Math.Bool.{or-false}
-use Rattle.std.specs.List.{list_any}
-use Rattle.mfotl_model.specs.Exact.{AllExact, View}
-use Rattle.mfotl_model.specs.FreeVariables.{among, fv}
-use Rattle.mfotl_model.specs.Tables.{all_among}
+use Rattle.mfotl_model.specs.Exact.{View}
+use Rattle.mfotl_model.specs.FreeVariables.{among}
 use Rattle.eval_until.specs.UntilView.{took_all}
-use Rattle.mfotl_model.specs.declared.interval.Interval.{Interval}
-use Rattle.monitorable.specs.CoreForms.{CoreForm, meaning, Not, And, Since, Until}
+use Rattle.monitorable.specs.CoreForms.{CoreForm, Not, And, Since, Until}
 use Rattle.monitorable.specs.Fragment.{bound_by, fault_in, is_conjunction}
 use Rattle.monitorable.specs.declared.role.Role.{Role}
 use Rattle.monitorable.specs.declared.role.Role.TheVariants as role
 use Rattle.monitor_state.proofs.BeginLemmas.{adds_one, none_reached, since_begins_at, since_state_is}
 use Rattle.monitor_state.proofs.GuardLemmas.{and_left, and_own, not_under}
 use Rattle.monitor_state.proofs.WholeLemmas.{asker_guarded, part_whole}
-use Rattle.monitor_state.proofs.MonitorSteps.{last_off}
 use Rattle.monitor_state.proofs.NarrowedBegins.{among_both}
 use Rattle.monitor_state.proofs.UntilBegins.{until_begins_at, until_state_is}
 use Rattle.monitor_state.specs.Beginnings.{Accepted, Adds, WindowBegun}
 use Rattle.monitor_state.specs.FilterNode.{GivenAs}
-use Rattle.monitor_state.specs.Nodes.{adds_none, filters, is_keyed, is_negated, is_window, left_operand}
-use Rattle.monitor_state.specs.Nodes.{nodes_in, without_last}
+use Rattle.monitor_state.specs.Nodes.{adds_none, filters, is_keyed, is_negated, is_window, left_operand, nodes_in}
+use Rattle.monitor_state.specs.Nodes.{without_last}
 use Rattle.monitor_state.specs.Views.{reached}
 use Rattle.monitor_state.specs.WindowNode.{IsWindow, WindowStands, window_took_all}
 use Rattle.monitor_state.specs.declared.filter.FilterState.{FilterState}
@@ -33,8 +28,7 @@ use Rattle.monitor_state.specs.declared.window.Window.{Window}
 use Rattle.monitor_state.specs.declared.window.Window.TheVariants as window
 
 pub is_filter_window : (own : Bool) (f g : CoreForm) → (own && filters f g) ≡ true → is_window (left_operand g) ≡ true
-is_filter_window own f g only =
-    (and_parts (is_window (left_operand g)) (adds_none f g || is_keyed f g) (and_parts own (filters f g) only).1).0
+is_filter_window own f g only = (and_parts _ _ (and_parts _ _ only).1).0
 
 pub is_filtered_window : (f g : CoreForm) → filters f g ≡ true → is_window (left_operand g) ≡ true
 is_filtered_window f g only = is_filter_window true f g only
@@ -43,20 +37,16 @@ is_filtered_window f g only = is_filter_window true f g only
 pub filtered_whole : (r : Role) (f g : CoreForm) (own : Bool) → own ≡ is_conjunction r → (own && filters f g) ≡ true
     → Accepted r (And f g) → Accepted role.Whole f
 filtered_whole r f g own is only accepted =
-    let both = and_parts own (filters f g) only in
+    let both = and_parts _ _ only in
     let guard = and_own r f g accepted (sym is ∙ both.0) in
     part_whole f guard.0 (asker_guarded f g guard.0 both.1 guard.1) (and_left r f g accepted)
 
 -- a side that has more variables is no NOT
 pub keyed_plain : (f g : CoreForm) → filters f g ≡ true → adds_none f g ≡ false → is_negated g ≡ false
 keyed_plain f g only more =
-    elim (or_cases (adds_none f g) (is_keyed f g)
-    (and_parts (is_window (left_operand g)) (adds_none f g || is_keyed f g) only).1) [
+    elim (or_cases (adds_none f g) (is_keyed f g) (and_parts _ _ only).1) [
       | inl none ↦ absurd (let clash : true ≡ false = sym none ∙ more in cc)
-      | inr keyed ↦
-          not-true (is_negated g)
-          (and_parts (not (is_negated g))
-          (all_among (fv (meaning f)) (bound_by f) && list_any (λ y. among y (bound_by f)) (fv (meaning g))) keyed).0
+      | inr keyed ↦ not-true (is_negated g) (and_parts _ _ keyed).0
     ]
 
 -- so is the window without its NOT, as a conjunct
@@ -76,20 +66,6 @@ operand_nodes (Not (Since i a b)) is = ap without_last (sym (append-nil (nodes_i
 operand_nodes (Not (Until i a b)) is = ap without_last (sym (append-nil (nodes_in role.Negated (Until i a b))))
 operand_nodes (Not f) is = absurd (let clash : true ≡ false = sym is in cc)
 operand_nodes g is = refl
-
-pub since_operands : (h : CoreForm) (i : Interval) (f g : CoreForm) (old new : List Node) → h ≡ Since i f g
-    → Adds (nodes_in role.Left f ++ nodes_in role.Whole g) old new → Adds (without_last (nodes_in role.Part h)) old new
-unfolding nodes_in
-since_operands h i f g old new same both =
-    subst (λ k. Adds (without_last (nodes_in role.Part k)) old new) (sym same)
-    (subst (λ ns. Adds ns old new) (sym (last_off (nodes_in role.Left f ++ nodes_in role.Whole g) (Since i f g))) both)
-
-pub until_operands : (h : CoreForm) (i : Interval) (f g : CoreForm) (old new : List Node) → h ≡ Until i f g
-    → Adds (nodes_in role.Left f ++ nodes_in role.Whole g) old new → Adds (without_last (nodes_in role.Part h)) old new
-unfolding nodes_in
-until_operands h i f g old new same both =
-    subst (λ k. Adds (without_last (nodes_in role.Part k)) old new) (sym same)
-    (subst (λ ns. Adds ns old new) (sym (last_off (nodes_in role.Left f ++ nodes_in role.Whole g) (Until i f g))) both)
 
 window_is : (w : CoreForm) (s : Window) → WindowBegun w s → IsWindow w s
 window_is (Since i f g) (window.Since s) begun = since_state_is i f g s begun
@@ -116,8 +92,8 @@ filter_added f g s old new only turns gives none begun is =
     let size : length s.tables ≡ 0 = ap length none in
     record {
       pushed = omega arith;
-      exact = subst (AllExact view (meaning f) (reached view (And f g))) (sym none) tt;
-      behind = subst (λ p. WindowStands view p (left_operand g) s.window) here begins.0;
+      exact = rw none tt;
+      behind = rw (← here) begins.0;
       all = begins.1;
     })
 
@@ -125,8 +101,7 @@ filter_added f g s old new only turns gives none begun is =
 
 pub bound_by_right : (y : ℕ) (f g : CoreForm) → among y (bound_by g) ≡ true → among y (bound_by (And f g)) ≡ true
 unfolding bound_by
-bound_by_right y f g m =
-    among_both y (bound_by f) (bound_by g) ∙ or_right (among y (bound_by f)) (among y (bound_by g)) m
+bound_by_right y f g m = among_both y (bound_by f) (bound_by g) ∙ or_right _ _ m
 
 pub bound_by_left : (y : ℕ) (f g : CoreForm) → among y (bound_by g) ≡ false
     → among y (bound_by (And f g)) ≡ among y (bound_by f)

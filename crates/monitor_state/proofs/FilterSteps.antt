@@ -1,8 +1,8 @@
 -- The state of a conjunction whose right side is asked for the left one's rows, over one step.
-use Rattle.std.proofs.Common.{subst, ◌≡◌, ℕ, ◌+◌, ◌<◌, ◌≤◌, Bool, true, false, ◌&&◌, nat_eq, Option, Some, None}
-use Rattle.std.proofs.Common.{List, [], ◌∷◌, ◌++◌}
+use Rattle.std.proofs.Common.{subst, ◌≡◌, ℕ, ◌+◌, ◌≤◌, Bool, true, false, ◌&&◌, cond, nat_eq, Option, Some, None}
+use Rattle.std.proofs.Common.{List, [], ◌∷◌}
 use Rattle.std.proofs.Common.{length, map, refl, sym, ap, ap₂, ◌∙◌, inl, inr, arith, length-append}
-use Rattle.std.proofs.lemmas.Bool.{cases_Bool, cond-false, cond-true, or_cases, or_left, or_right}
+use Rattle.std.proofs.lemmas.Bool.{or_cases, or_left, or_right}
 use Rattle.std.proofs.lemmas.List.Folds.{list_any-append}
 use Rattle.mfotl_model.proofs.CountLemmas.{counted_settled}
 use Rattle.mfotl_model.proofs.LogicLemmas.{among_joined}
@@ -12,11 +12,9 @@ use Rattle.mfotl_model.specs.FreeVariables.{among, fv, joined}
 use Rattle.mfotl_model.specs.Log.{times}
 use Rattle.mfotl_model.specs.Regions.{Passes}
 use Rattle.mfotl_model.specs.Satisfaction.{Valuation, sat}
-use Rattle.mfotl_model.specs.Settled.{settled}
 use Rattle.mfotl_model.specs.Tables.{TableOf, all_among, has, has_row, valuation}
 use Rattle.mfotl_model.specs.Times.{NeverFalls}
 use Rattle.mfotl_model.specs.declared.event.TimePoint.{TimePoint}
-use Rattle.mfotl_model.specs.declared.value.Value.{Value}
 use Rattle.monitorable.proofs.Coincidence.{coincidence}
 use Rattle.monitorable.specs.CoreForms.{CoreForm, meaning, True, Compare, Not, And, Since, Until}
 use Rattle.monitorable.specs.Fragment.{binds, bound_by}
@@ -25,10 +23,11 @@ use Rattle.relations.proofs.JoinLemmas.{member_of_all}
 use Rattle.relations.proofs.InsideLemmas.{joined_within}
 use Rattle.relations.specs.Pushed.{turned}
 use Rattle.monitor_state.proofs.CountLemmas.{and_below, count_and, count_below}
-use Rattle.monitor_state.proofs.ExactLemmas.{all_stay, exact_append, reached_grows, reached_within, rising_before}
+use Rattle.monitor_state.proofs.ExactLemmas.{reached_grows, reached_within, rising_before}
+use Rattle.monitor_state.proofs.GrowthLemmas.{exact_more}
 use Rattle.monitor_state.proofs.RegionLemmas.{all_from_each, joined_inside, near_left, near_right}
 use Rattle.monitor_state.proofs.RegionLemmas.{right_inside}
-use Rattle.monitor_state.proofs.SinceSteps.{free_operand, reached_operand}
+use Rattle.monitor_state.proofs.SinceSteps.{free_operand, reached_operand, turned_sat}
 use Rattle.monitor_state.proofs.WindowSteps.{window_due_at, window_fed, window_gone, window_means, window_settled}
 use Rattle.monitor_state.specs.FilterFeeding.{FilterPulled, FilterStep, FilterStops, FilterTakes, FiltersOrJoins, Joins}
 use Rattle.monitor_state.specs.FilterFeeding.{Sifts}
@@ -44,13 +43,11 @@ use Rattle.monitor_state.specs.declared.window.Window.TheVariants as window
 -- what a core binds is free in it
 pub bound_free : (f : CoreForm) (y : ℕ) → among y (bound_by f) ≡ true → among y (fv (meaning f)) ≡ true
 unfolding fv bound_by
-bound_free (Compare c) y h =
-    elim (cases_Bool (binds c)) [
-      | inl e ↦ sym (ap (among y) (cond-true (binds c) (fv (meaning (Compare c))) [] e)) ∙ h
-      | inr e ↦
-          absurd (let clash : true ≡ false =
-          sym h ∙ ap (among y) (cond-false (binds c) (fv (meaning (Compare c))) [] e) in cc)
-    ]
+bound_free (Compare c) y h = by (binds c) h
+  where
+    by : (b : Bool) → among y (cond b (fv (meaning (Compare c))) []) ≡ true → among y (fv (meaning (Compare c))) ≡ true
+    by true m = m
+    by false m = let clash : false ≡ true = m in cc
 bound_free (Not f) y h = absurd (let clash : true ≡ false = sym h in cc)
 bound_free (And f g) y h =
     among_joined y (fv (meaning f)) (fv (meaning g))
@@ -76,18 +73,10 @@ plain_operand f plain = refl
 columns_within : (whole w : CoreForm) (s : Window) → IsWellFormedIn whole w → IsWindow w s
     → (all_among (window_columns s) (fv (meaning w)) ≡ true) × (all_among (fv (meaning w)) (window_columns s) ≡ true)
 unfolding fv
-columns_within whole (Since i f g) (window.Since s) sound is = (
-  ap (λ cs. all_among cs (joined (fv (meaning f)) (fv (meaning g)))) is.right
-      ∙ right_inside (fv (meaning f)) (fv (meaning g)),
-  ap (all_among (joined (fv (meaning f)) (fv (meaning g)))) is.right
-      ∙ joined_inside (fv (meaning f)) (fv (meaning g)) sound.0,
-)
-columns_within whole (Until i f g) (window.Until s) sound is = (
-  ap (λ cs. all_among cs (joined (fv (meaning f)) (fv (meaning g)))) is.right
-      ∙ right_inside (fv (meaning f)) (fv (meaning g)),
-  ap (all_among (joined (fv (meaning f)) (fv (meaning g)))) is.right
-      ∙ joined_inside (fv (meaning f)) (fv (meaning g)) sound.0,
-)
+columns_within whole (Since i f g) (window.Since s) sound is =
+    rw is.right (right_inside (fv (meaning f)) (fv (meaning g)), joined_inside (fv (meaning f)) (fv (meaning g)) sound.0)
+columns_within whole (Until i f g) (window.Until s) sound is =
+    rw is.right (right_inside (fv (meaning f)) (fv (meaning g)), joined_inside (fv (meaning f)) (fv (meaning g)) sound.0)
 columns_within whole w s sound is = absurd is
 
 joined_among : (xs ys zs : List ℕ) → all_among ys zs ≡ true → all_among (joined xs ys) (joined xs zs) ≡ true
@@ -99,12 +88,6 @@ joined_among xs ys zs all =
       | inl first ↦ or_left (among y xs) (among y zs) first
       | inr second ↦ or_right (among y xs) (among y zs) (member_of_all (λ z. among z zs) ys y all second)
     ])
-
-turned_sat : (view : View) (dom : List Value) (v : Valuation) (p : ℕ) (g : CoreForm)
-    → turned (is_negated g) (sat view.log dom v p (meaning (left_operand g))) ≡ sat view.log dom v p (meaning g)
-unfolding sat
-turned_sat view dom v p (Not f) = refl
-turned_sat view dom v p f = refl
 
 has_is : (table : TableOf) (columns : List ℕ) (v : Valuation) → table.columns ≡ columns
     → has table v ≡ has_row table.rows (map v columns)
@@ -157,12 +140,7 @@ module _ (view : View) (rising : NeverFalls (times view.log)) (passes : Passes (
             ∙ ap₂ (λ a b. a && b)
             (sym (has_is table table.columns v refl)
             ∙ exact.rows dom v covers
-            (passes (joined (fv (meaning f)) (fv (meaning g))) (fv (meaning f)) v v
-            (λ y m free. (
-              among_joined y (fv (meaning f)) (fv (meaning g))
-                  ∙ or_left (among y (fv (meaning f))) (among y (fv (meaning g))) m,
-              refl,
-            )) near))
+            (near_left (fv view.whole) view.near passes (fv (meaning f)) (fv (meaning g)) v near))
             (ap (λ n. turned n (sat view.log dom v p (meaning (left_operand g)))) turns ∙ turned_sat view dom v p g);
       }
 
@@ -182,14 +160,13 @@ module _ (view : View) (rising : NeverFalls (times view.log)) (passes : Passes (
             joins.rows
             (ap₂ all_among ordered both
             ∙ joined_among (fv (meaning f)) (fv (meaning g)) (window_columns s)
-            (subst (λ w. all_among (fv (meaning w)) (window_columns s) ≡ true) own within.1))
+            (rw own at within.1))
             (ap₂ all_among both ordered
             ∙ joined_among (fv (meaning f)) (window_columns s) (fv (meaning g))
-            (subst (λ w. all_among (window_columns s) (fv (meaning w)) ≡ true) own within.0))
+            (rw own at within.0))
             v (sat view.log dom v p (meaning (left_operand g)))
             (window_means view rising passes (left_operand g) s p is stands dom v covers
-            (subst (λ w. view.near (fv (meaning w)) v ≡ true) (sym own)
-            (near_right (fv view.whole) view.near passes (fv (meaning f)) (fv (meaning g)) v near)))
+            (rw own (near_right (fv view.whole) view.near passes (fv (meaning f)) (fv (meaning g)) v near)))
             ∙ ap₂ (λ a b. a && b)
             (exact.rows dom v covers
             (near_left (fv view.whole) view.near passes (fv (meaning f)) (fv (meaning g)) v near))
@@ -210,21 +187,17 @@ module _ (view : View) (rising : NeverFalls (times view.log)) (passes : Passes (
       → StandsAt view f g (p + 1) new × Exact view (meaning (And f g)) p kept
   step_stands p old new kept stands step =
       let ready = window_settled view (left_operand g) old.window step.ready p stands.asks stands.behind step.settles in
-      let within : reached view f ≤ length view.log = reached_within view f in
-      let pushed : p + length old.tables ≡ reached view f = stands.pushed in
-      let front : length old.tables ≡ length (step.table ∷ new.tables) = ap length step.front in
-      let settles : settled (times view.log) (meaning (left_operand g)) p ≡ true =
-      sym (window_due_at view rising (left_operand g) step.ready p (omega arith) ready.0 ready.1) ∙ step.was_due in
-      let low : p < reached view (left_operand g) =
-      count_below (times view.log) rising (meaning (left_operand g)) p settles in
-      let same : reached view (left_operand g) ≡ reached view g = reached_operand view g in
+      let within = reached_within view f in
+      let front = ap length step.front in
+      let low = count_below (times view.log) rising (meaning (left_operand g)) p
+      (sym (window_due_at view rising (left_operand g) step.ready p (omega arith) ready.0 ready.1) ∙ step.was_due) in
       let gone = window_gone view (left_operand g) step.ready new.window p ready.0 ready.1 step.was_due step.goes in
-      let exact = subst (AllExact view (meaning f) p) step.front stands.exact in (
+      let exact = rw step.front at stands.exact in (
         record {
           turns = step.turns ∙ stands.turns;
-          gives = subst (GivenAs f g) (sym step.orders) stands.gives;
+          gives = rw step.orders stands.gives;
           pushed = omega arith;
-          inside = omega arith;
+          inside = omega (arith, reached_operand view g);
           exact = exact.1;
           asks = gone.0;
           behind = gone.1;
@@ -237,13 +210,12 @@ module _ (view : View) (rising : NeverFalls (times view.log)) (passes : Passes (
       → FilterPulled old new tables
       → StandsAt view f g (p + length tables) new × AllExact view (meaning (And f g)) p tables
   steps_stand p old new [] stands same =
-      let none : p ≡ p + 0 = omega arith in
-      (subst (λ q. StandsAt view f g q new) none (subst (StandsAt view f g p) (sym same) stands), tt)
+      let none : p ≡ p + 0 = omega arith in (subst (λ q. StandsAt view f g q new) none (rw same stands), tt)
   steps_stand p old new (kept ∷ tables) stands pulled =
       let one = step_stands p old pulled.0 kept stands pulled.1 in
       let rest = steps_stand (p + 1) pulled.0 new tables one.0 pulled.2 in
-      let at : p + 1 + length tables ≡ p + length (kept ∷ tables) = omega arith in
-      (subst (λ q. StandsAt view f g q new) at rest.0, (one.1, rest.1))
+      let here : p + 1 + length tables ≡ p + length (kept ∷ tables) = omega arith in
+      (rw here at rest.0, (one.1, rest.1))
 
   stops_stand : (p : ℕ) (old new : FilterState) → StandsAt view f g p old → FilterStops old new
       → StandsAt view f g p new
@@ -252,10 +224,10 @@ module _ (view : View) (rising : NeverFalls (times view.log)) (passes : Passes (
       stops.settles in
       record {
         turns = stops.turns ∙ stands.turns;
-        gives = subst (GivenAs f g) (sym stops.orders) stands.gives;
-        pushed = ap (λ ts. p + length ts) stops.tables ∙ stands.pushed;
+        gives = rw stops.orders stands.gives;
+        pushed = rw stops.tables stands.pushed;
         inside = stands.inside;
-        exact = subst (AllExact view (meaning f) p) (sym stops.tables) stands.exact;
+        exact = rw stops.tables stands.exact;
         asks = ready.0;
         behind = ready.1;
       }
@@ -264,47 +236,37 @@ module _ (view : View) (rising : NeverFalls (times view.log)) (passes : Passes (
   all_pulled : (p : ℕ) (s : FilterState) → StandsAt view f g p s → (window_due s.window ≡ true → s.tables ≡ [])
       → p ≡ reached view (And f g)
   all_pulled p s stands done =
-      let pushed : p + length s.tables ≡ reached view f = stands.pushed in
-      let within : reached view f ≤ length view.log = reached_within view f in
-      let same : reached view (left_operand g) ≡ reached view g = reached_operand view g in
+      let within = reached_within view f in
       count_and (times view.log) rising (meaning f) (meaning g) p (omega arith) stands.inside
       (λ low high.
-      let ready : settled (times view.log) (meaning (left_operand g)) p ≡ true =
-      counted_settled (times view.log) (meaning (left_operand g)) p (omega arith) in
-      let none : length s.tables ≡ 0 =
-      ap length (done (window_due_at view rising (left_operand g) s.window p (omega arith) stands.asks stands.behind
-      ∙ ready)) in
-      absurd (omega arith))
+      let ready = counted_settled (times view.log) (meaning (left_operand g)) p
+      (omega (arith, reached_operand view g)) in
+      let none : length s.tables ≡ 0 = ap length (done (window_due_at view rising (left_operand g) s.window p (omega arith) stands.asks
+      stands.behind ∙ ready)) in
+      omega arith)
 
-module _ (view : View) (point : TimePoint) (whole : CoreForm) (f g : CoreForm)
-    (rising : NeverFalls (times (longer view point).log)) (passes : Passes (fv view.whole) view.near)
-    (sound : IsWellFormedIn whole (left_operand g))
-    (old : FilterState) (is : IsFilter f g old) (stands : FilterStands view f g old)
-    (ts : ℕ) (ts_is : ts ≡ point.ts) (fs ls rs : List TableOf) (news : News view point f fs)
+module _ {view : View} {point : TimePoint} (whole : CoreForm) {f g : CoreForm} {old new : FilterState} {ts : ℕ}
+    {fs ls rs tables : List TableOf} (is : IsFilter f g old) (stands : FilterStands view f g old)
+    (news : News view point f fs)
     (operands_news : StackNews view point (window_operands (left_operand g)) (ls ∷ rs ∷ []))
-    (new : FilterState) (tables : List TableOf) (takes : FilterTakes old ts fs ls rs new tables) where
+    (takes : FilterTakes old ts fs ls rs new tables) (ts_is : ts ≡ point.ts)
+    (rising : NeverFalls (times (longer view point).log)) (passes : Passes (fv view.whole) view.near)
+    (sound : IsWellFormedIn whole (left_operand g)) where
   fed_stands : StandsAt (longer view point) f g (reached view (And f g)) takes.fed
   fed_stands =
       let fed = window_fed view point whole (left_operand g) old.window takes.fed.window (reached view (And f g)) ts ls
-      rs
-      rising passes sound (reached_within view (And f g)) ts_is is.asks stands.behind operands_news takes.feeds in
-      let pushed : reached view (And f g) + length old.tables ≡ reached view f = stands.pushed in
-      let more : reached view f + length fs ≡ reached (longer view point) f = news.count in
-      let size : length (old.tables ++ fs) ≡ length old.tables + length fs = length-append old.tables fs in
-      let now : length takes.fed.tables ≡ length (old.tables ++ fs) = ap length takes.pushed in
-      let grows : reached view g ≤ reached (longer view point) g = reached_grows view point rising g in
-      let before : reached view (And f g) ≤ reached view g =
-      and_below (times view.log) (rising_before view point rising) (meaning f) (meaning g) in
+      rs is.asks stands.behind (reached_within view (And f g)) operands_news takes.feeds ts_is rising passes sound in
       record {
         turns = takes.turns ∙ is.turns;
-        gives = subst (GivenAs f g) (sym takes.orders) is.gives;
-        pushed = omega arith;
-        inside = omega arith;
-        exact =
-            subst (AllExact (longer view point) (meaning f) (reached view (And f g))) (sym takes.pushed)
-            (exact_append (longer view point) (meaning f) (reached view (And f g)) (reached view f) old.tables fs
-            stands.pushed
-            (all_stay view point rising f (reached view (And f g)) old.tables (omega arith) stands.exact) news.exact);
+        gives = rw takes.orders is.gives;
+        pushed = rw takes.pushed (omega (arith, length-append old.tables fs));
+        inside = omega (
+          arith,
+          reached_grows view point rising g,
+          and_below (times view.log) (rising_before view point rising) (meaning f) (meaning g),
+        );
+        exact = rw takes.pushed
+            (exact_more news rising (reached view (And f g)) old.tables stands.pushed stands.exact);
         asks = fed.0;
         behind = fed.1;
       }
@@ -318,26 +280,17 @@ module _ (view : View) (point : TimePoint) (whole : CoreForm) (f g : CoreForm)
   new_stands : StandsAt (longer view point) f g (reached view (And f g) + length tables) new
   new_stands =
       stops_stand (longer view point) rising passes whole f g sound (reached view (And f g) + length tables)
-      takes.last new
-      last_stands.0 takes.stops
+      takes.last new last_stands.0 takes.stops
 
   count : reached view (And f g) + length tables ≡ reached (longer view point) (And f g)
   count =
       all_pulled (longer view point) rising passes whole f g sound (reached view (And f g) + length tables) new
-      new_stands
-      takes.stops.done
+      new_stands takes.stops.done
 
-  pub filter_is : IsFilter f g new
-  filter_is = record { only = is.only; turns = new_stands.turns; asks = new_stands.asks; gives = new_stands.gives }
-
-  pub filter_stands : FilterStands (longer view point) f g new
-  filter_stands =
-      record {
-        pushed = ap (λ n. n + length new.tables) (sym count) ∙ new_stands.pushed;
-        exact = subst (λ p. AllExact (longer view point) (meaning f) p new.tables) count new_stands.exact;
-        behind = subst (λ p. WindowStands (longer view point) p (left_operand g) new.window) count new_stands.behind;
-        all = takes.stops.all;
-      }
-
-  pub filter_news : News view point (And f g) tables
-  filter_news = record { count = count; exact = last_stands.1 }
+  pub filter_steps : IsFilter f g new × FilterStands (longer view point) f g new × News view point (And f g) tables
+  filter_steps =
+      let now = rw count at new_stands in (
+        record { only = is.only; turns = now.turns; asks = now.asks; gives = now.gives },
+        record { pushed = now.pushed; exact = now.exact; behind = now.behind; all = takes.stops.all },
+        record { count = count; exact = last_stands.1 },
+      )

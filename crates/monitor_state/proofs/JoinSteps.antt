@@ -1,9 +1,11 @@
 -- A conjunction's state over one step.
-use Rattle.std.proofs.Common.{subst, ◌≡◌, ℕ, ◌+◌, ◌-◌, ◌<◌, ◌≤◌, Bool, true, false, not, cond, ◌&&◌, nat_lt, nat_le}
+use Rattle.std.proofs.Common.{◌≡◌, ℕ, ◌+◌, ◌<◌, Bool, true, false, not, cond, ◌&&◌, nat_lt, nat_le}
 use Rattle.std.proofs.Common.{List, [], ◌∷◌, ◌++◌, length, drop, map, refl, sym, ap, ap₂, ◌∙◌, arith, length-append}
-use Rattle.std.proofs.Math.Bool.{beq, and_assoc}
+use Rattle.std.proofs.Math.Bool.{beq, and-true, and_assoc}
 use Rattle.std.proofs.lemmas.Bool.{lt-ltb, ltb-true, leb-true, le-leb, and_parts, and_from}
 use Rattle.std.proofs.lemmas.List.{length-drop}
+use Rattle.std.proofs.lemmas.List.Folds.{list_all-append}
+use Rattle.std.specs.Cmp.{both_ways}
 use Rattle.std.specs.List.{list_all}
 use Rattle.mfotl_model.proofs.CountLemmas.{counted_settled}
 use Rattle.mfotl_model.proofs.VariableLemmas.{joined_assoc, joined_none, joined_nothing}
@@ -23,15 +25,16 @@ use Rattle.eval_bool.specs.Firsts.{first_has}
 use Rattle.eval_bool.specs.JoinView.{ChildOf, JoinOf, child_holds, children_of, conjunct_columns, join_due, joins}
 use Rattle.eval_bool.specs.JoinView.{test_holds, tests_of}
 use Rattle.monitorable.proofs.ConjunctsLaw.{conjuncts_mean}
-use Rattle.monitorable.specs.CoreForms.{CoreForm, meaning, True, False, Atom, Compare, Not, And, Or, Exists, Previous}
-use Rattle.monitorable.specs.CoreForms.{Next, Since, Until}
+use Rattle.monitorable.proofs.SettledLemmas.{settled_in_log}
+use Rattle.monitorable.specs.CoreForms.{CoreForm, meaning, Compare, Not, And}
 use Rattle.monitorable.specs.Conjuncts.{PartForm, conjuncts_of, negated_part, part_holds}
 use Rattle.monitorable.specs.Conjuncts.PartForm.{Child as ChildPart, Test as TestPart}
 use Rattle.monitorable.specs.Fragment.{binds}
 use Rattle.relations.specs.Operations.{chosen}
-use Rattle.relations.specs.Pushed.{StandFrom, turned}
+use Rattle.relations.specs.Pushed.{turned}
 use Rattle.monitor_state.proofs.CountLemmas.{count_below, count_is, count_within}
-use Rattle.monitor_state.proofs.ExactLemmas.{all_stay, exact_append, exact_drop, shifted, stand_exact}
+use Rattle.monitor_state.proofs.ExactLemmas.{exact_drop, shifted, stand_exact}
+use Rattle.monitor_state.proofs.GrowthLemmas.{exact_more, first_exact}
 use Rattle.monitor_state.proofs.RegionLemmas.{near_left, near_right}
 use Rattle.monitor_state.specs.JoinFeeding.{JoinTakes, child_dropped, children_fed, join_fed, join_pulled}
 use Rattle.monitor_state.specs.Nodes.{children, operands}
@@ -73,19 +76,6 @@ columns_are (Not f) = negated_columns f
 columns_are (Compare c) = compared_columns c (binds c)
 columns_are f = joined_nothing (fv (meaning f))
 
-head_same : {X : Type 0} (x y : X) (xs ys : List X) → (x ∷ xs) ≡ (y ∷ ys) → x ≡ y
-head_same x y xs ys e = cc
-
-tail_same : {X : Type 0} (x y : X) (xs ys : List X) → (x ∷ xs) ≡ (y ∷ ys) → xs ≡ ys
-tail_same x y xs ys e = cc
-
-first_exact : (view : View) (f : CoreForm) (i : ℕ) (tables : List TableOf) (dom : List Value) (v : Valuation)
-    → Covers view dom
-    → view.near (fv (meaning f)) v ≡ true → 0 < length tables → AllExact view (meaning f) i tables
-    → first_has v tables ≡ sat view.log dom v i (meaning f)
-first_exact view f i [] dom v covers near some exact = absurd (omega arith)
-first_exact view f i (table ∷ tables) dom v covers near some exact = exact.0.rows dom v covers near
-
 -- a comparison that is wanted to come out so
 pub chosen_is : (wanted b : Bool) → beq wanted b ≡ cond wanted b (not b)
 chosen_is true true = refl
@@ -108,21 +98,17 @@ module _ (view : View) (passes : Passes (fv view.whole) view.near) where
   joins_mean i (ChildPart f negated ∷ parts) [] is stand ready dom v covers near = absurd stand
   joins_mean i (ChildPart f negated ∷ parts) (c ∷ cs) is stand ready dom v covers near =
       let readies = and_parts (nat_lt 0 (length c.tables)) (list_all (λ c. nat_lt 0 (length c.tables)) cs) ready in
-      let own : c.negated ≡ negated =
-      ap (λ (x : ChildOf). x.negated) (head_same (bare c)
-      (record { columns = fv (meaning f); negated = negated; tables = [] }) (map bare cs)
-      (children_of (map conjunct_as parts)) is) in
+      let head : bare c ≡ record { columns = fv (meaning f); negated = negated; tables = [] } = cc in
+      let own : c.negated ≡ negated = ap (λ (x : ChildOf). x.negated) head in
+      let rest : map bare cs ≡ children_of (map conjunct_as parts) = cc in
       and_assoc (turned c.negated (first_has v c.tables)) (list_all (child_holds v) cs)
       (list_all (test_holds v) (tests_of (map conjunct_as parts)))
       ∙ ap₂ (λ b r. b && r)
       (ap₂ turned own
-      (first_exact view f i c.tables dom v covers
+      (first_exact view (meaning f) i c.tables dom v covers
       (near_left (fv view.whole) view.near passes (fv (meaning f)) (conjunct_columns (map conjunct_as parts)) v near)
       (ltb-true 0 (length c.tables) readies.0) stand.0.exact))
-      (joins_mean i parts cs
-      (tail_same (bare c) (record { columns = fv (meaning f); negated = negated; tables = [] }) (map bare cs)
-      (children_of (map conjunct_as parts)) is)
-      stand.1 readies.1 dom v covers
+      (joins_mean i parts cs rest stand.1 readies.1 dom v covers
       (near_right (fv view.whole) view.near passes (fv (meaning f)) (conjunct_columns (map conjunct_as parts)) v near))
   joins_mean i (TestPart c wanted ∷ parts) cs is stand ready dom v covers near =
       and_moved (list_all (child_holds v) cs)
@@ -148,11 +134,11 @@ dropped_stand : (view : View) (i k : ℕ) (fs : List CoreForm) (cs : List ChildO
     → ChildrenStand view i fs cs → ChildrenStand view (i + k) fs (map (child_dropped k) cs)
 dropped_stand view i k [] [] room stand = tt
 dropped_stand view i k (f ∷ fs) (c ∷ cs) room stand =
-    let parts = and_parts (nat_le k (length c.tables)) (list_all (λ c. nat_le k (length c.tables)) cs) room in
-    let low : k ≤ length c.tables = leb-true k (length c.tables) parts.0 in
-    let size : length (drop k c.tables) ≡ length c.tables - k = length-drop k c.tables in
-    let pushed : i + length c.tables ≡ reached view f = stand.0.pushed in (
-      record { pushed = omega arith; exact = exact_drop view (meaning f) i k c.tables stand.0.exact },
+    let parts = and_parts (nat_le k (length c.tables)) (list_all (λ c. nat_le k (length c.tables)) cs) room in (
+      record {
+        pushed = omega (arith, leb-true k (length c.tables) parts.0, length-drop k c.tables, stand.0.pushed);
+        exact = exact_drop view (meaning f) i k c.tables stand.0.exact;
+      },
       dropped_stand view i k fs cs parts.1 stand.1,
     )
 dropped_stand view i k [] (c ∷ cs) room stand = absurd stand
@@ -165,127 +151,87 @@ less_room : (k n : ℕ) (cs : List ChildOf) → k < n → list_all (λ c. nat_le
 less_room k n [] low room = (refl, refl)
 less_room k n (c ∷ cs) low room =
     let parts = and_parts (nat_le n (length c.tables)) (list_all (λ c. nat_le n (length c.tables)) cs) room in
-    let high : n ≤ length c.tables = leb-true n (length c.tables) parts.0 in
-    let size : length (drop k c.tables) ≡ length c.tables - k = length-drop k c.tables in
+    let high = leb-true n (length c.tables) parts.0 in
     let rest = less_room k n cs low parts.1 in (
       and_from (nat_le k (length c.tables)) (list_all (λ c. nat_le k (length c.tables)) cs)
           (le-leb k (length c.tables) (omega arith)) rest.0,
       and_from (nat_lt 0 (length (drop k c.tables)))
           (list_all (λ c. nat_lt 0 (length c.tables)) (map (child_dropped k) cs))
-          (lt-ltb 0 (length (drop k c.tables)) (omega arith)) rest.1,
+          (lt-ltb 0 (length (drop k c.tables)) (omega (arith, length-drop k c.tables))) rest.1,
     )
 
--- a position at which each of the cores is settled
-AllSettled : List ℕ → List CoreForm → ℕ → Type 0
-AllSettled t [] j = Unit {0}
-AllSettled t (f ∷ fs) j = (settled t (meaning f) j ≡ true) × AllSettled t fs j
+children_append : (ps qs : List PartForm) → children (ps ++ qs) ≡ children ps ++ children qs
+children_append [] qs = refl
+children_append (ChildPart f n ∷ ps) qs = ap (λ fs. f ∷ fs) (children_append ps qs)
+children_append (TestPart c w ∷ ps) qs = children_append ps qs
 
-module _ (t : List ℕ) (j : ℕ) where
-  settled_split : (ps qs : List PartForm) → AllSettled t (children (ps ++ qs)) j
-      → AllSettled t (children ps) j × AllSettled t (children qs) j
-  unfolding AllSettled
-  settled_split [] qs all = (tt, all)
-  settled_split (ChildPart f n ∷ ps) qs all =
-      let more = settled_split ps qs all.1 in ((all.0, more.0), more.1)
-  settled_split (TestPart c w ∷ ps) qs all = settled_split ps qs all
+-- whether each of the cores is settled at a position
+abbrev all_settled : List ℕ → ℕ → List CoreForm → Bool
+all_settled t j fs = list_all (λ f. settled t (meaning f) j) fs
 
-  settled_both : (ps qs : List PartForm) → AllSettled t (children ps) j → AllSettled t (children qs) j
-      → AllSettled t (children (ps ++ qs)) j
-  unfolding AllSettled
-  settled_both [] qs first second = second
-  settled_both (ChildPart f n ∷ ps) qs first second = (first.0, settled_both ps qs first.1 second)
-  settled_both (TestPart c w ∷ ps) qs first second = settled_both ps qs first second
+module _ (t : List ℕ) (j : ℕ) (inside : nat_lt j (length t) ≡ true) where
+  negated_settled : (f : CoreForm) → settled t (meaning f) j ≡ all_settled t j (children (negated_part f ∷ []))
+  unfolding settled
+  negated_settled (Compare c) = inside
+  negated_settled f = sym (and-true (settled t (meaning f) j))
 
-  negated_settled : (f : CoreForm) → nat_lt j (length t) ≡ true → AllSettled t (children (negated_part f ∷ [])) j
-      → settled t (meaning f) j ≡ true
-  unfolding AllSettled settled
-  negated_settled (Compare c) inside all = inside
-  negated_settled True inside all = all.0
-  negated_settled False inside all = all.0
-  negated_settled (Atom a) inside all = all.0
-  negated_settled (Not f) inside all = all.0
-  negated_settled (And f g) inside all = all.0
-  negated_settled (Or f g) inside all = all.0
-  negated_settled (Exists x f) inside all = all.0
-  negated_settled (Previous i f) inside all = all.0
-  negated_settled (Next i f) inside all = all.0
-  negated_settled (Since i f g) inside all = all.0
-  negated_settled (Until i f g) inside all = all.0
-
-  settled_negated : (f : CoreForm) → settled t (meaning f) j ≡ true → AllSettled t (children (negated_part f ∷ [])) j
-  unfolding AllSettled
-  settled_negated (Compare c) h = tt
-  settled_negated f h = (h, tt)
-
-  compared_settled : (c : Comparison) (b : Bool) → settled t (meaning (Compare c)) j ≡ true
-      → AllSettled t (children (cond b (ChildPart (Compare c) false) (TestPart c true) ∷ [])) j
-  unfolding AllSettled
-  compared_settled c true h = (h, tt)
-  compared_settled c false h = tt
+  compared_settled : (c : Comparison) (b : Bool) → settled t (meaning (Compare c)) j
+      ≡ all_settled t j (children (cond b (ChildPart (Compare c) false) (TestPart c true) ∷ []))
+  unfolding settled
+  compared_settled c true = sym (and-true (nat_lt j (length t)))
+  compared_settled c false = inside
 
   -- a conjunction is settled where its children are
-  parts_settle : (f : CoreForm) → nat_lt j (length t) ≡ true → AllSettled t (children (conjuncts_of f)) j
-      → settled t (meaning f) j ≡ true
-  unfolding AllSettled settled conjuncts_of
-  parts_settle (And f g) inside all =
-      let both = settled_split (conjuncts_of f) (conjuncts_of g) all in
-      and_from (settled t (meaning f) j) (settled t (meaning g) j) (parts_settle f inside both.0)
-      (parts_settle g inside both.1)
-  parts_settle (Not f) inside all = negated_settled f inside all
-  parts_settle (Compare c) inside all = inside
-  parts_settle True inside all = all.0
-  parts_settle False inside all = all.0
-  parts_settle (Atom a) inside all = all.0
-  parts_settle (Or f g) inside all = all.0
-  parts_settle (Exists x f) inside all = all.0
-  parts_settle (Previous i f) inside all = all.0
-  parts_settle (Next i f) inside all = all.0
-  parts_settle (Since i f g) inside all = all.0
-  parts_settle (Until i f g) inside all = all.0
+  parts_settled : (f : CoreForm) → settled t (meaning f) j ≡ all_settled t j (children (conjuncts_of f))
+  unfolding settled conjuncts_of
+  parts_settled (And f g) =
+      ap₂ (λ a b. a && b) (parts_settled f) (parts_settled g)
+      ∙ sym (ap (all_settled t j) (children_append (conjuncts_of f) (conjuncts_of g))
+      ∙ list_all-append (λ h. settled t (meaning h) j) (children (conjuncts_of f)) (children (conjuncts_of g)))
+  parts_settled (Not f) = negated_settled f
+  parts_settled (Compare c) = compared_settled c (binds c)
+  parts_settled f = sym (and-true (settled t (meaning f) j))
 
-  settle_parts : (f : CoreForm) → settled t (meaning f) j ≡ true → AllSettled t (children (conjuncts_of f)) j
-  unfolding AllSettled settled conjuncts_of
-  settle_parts (And f g) h =
-      let both = and_parts (settled t (meaning f) j) (settled t (meaning g) j) h in
-      settled_both (conjuncts_of f) (conjuncts_of g) (settle_parts f both.0) (settle_parts g both.1)
-  settle_parts (Not f) h = settled_negated f h
-  settle_parts (Compare c) h = compared_settled c (binds c) h
-  settle_parts f h = (h, tt)
+-- a conjunction of tests alone is settled wherever the log is
+pub tests_settled : (t : List ℕ) (j : ℕ) (f : CoreForm) → children (conjuncts_of f) ≡ []
+    → settled t (meaning f) j ≡ nat_lt j (length t)
+tests_settled t j f none =
+    both_ways (settled t (meaning f) j) (nat_lt j (length t))
+    (λ h. lt-ltb j (length t) (settled_in_log t (meaning f) j h))
+    (λ inside. parts_settled t j inside f ∙ ap (all_settled t j) none)
 
 -- how far the children's tables go
 module _ (view : View) (rising : NeverFalls (times view.log)) where
   children_settled : (n j : ℕ) (fs : List CoreForm) (cs : List ChildOf) → j < n → ChildrenStand view n fs cs
-      → AllSettled (times view.log) fs j
-  unfolding AllSettled
-  children_settled n j [] [] low stand = tt
+      → all_settled (times view.log) j fs ≡ true
+  children_settled n j [] [] low stand = refl
   children_settled n j (f ∷ fs) (c ∷ cs) low stand =
-      let pushed : n + length c.tables ≡ reached view f = stand.0.pushed in
-      (counted_settled (times view.log) (meaning f) j (omega arith), children_settled n j fs cs low stand.1)
+      and_from (settled (times view.log) (meaning f) j) (all_settled (times view.log) j fs)
+      (counted_settled (times view.log) (meaning f) j (omega (arith, stand.0.pushed)))
+      (children_settled n j fs cs low stand.1)
   children_settled n j [] (c ∷ cs) low stand = absurd stand
   children_settled n j (f ∷ fs) [] low stand = absurd stand
 
   all_due : (n : ℕ) (fs : List CoreForm) (cs : List ChildOf) → ChildrenStand view n fs cs
-      → AllSettled (times view.log) fs n
+      → all_settled (times view.log) n fs ≡ true
       → list_all (λ c. nat_lt 0 (length c.tables)) cs ≡ true
-  unfolding AllSettled
   all_due n [] [] stand all = refl
   all_due n (f ∷ fs) (c ∷ cs) stand all =
-      let pushed : n + length c.tables ≡ reached view f = stand.0.pushed in
-      let low : n < reached view f = count_below (times view.log) rising (meaning f) n all.0 in
+      let parts = and_parts (settled (times view.log) (meaning f) n) (all_settled (times view.log) n fs) all in
+      let low = count_below (times view.log) rising (meaning f) n parts.0 in
       and_from (nat_lt 0 (length c.tables)) (list_all (λ c. nat_lt 0 (length c.tables)) cs)
-      (lt-ltb 0 (length c.tables) (omega arith))
-      (all_due n fs cs stand.1 all.1)
+      (lt-ltb 0 (length c.tables) (omega (arith, stand.0.pushed)))
+      (all_due n fs cs stand.1 parts.1)
   all_due n [] (c ∷ cs) stand all = absurd stand
   all_due n (f ∷ fs) [] stand all = absurd stand
 
   in_log : (n j : ℕ) (fs : List CoreForm) (cs : List ChildOf) → 0 < length fs → j < n → ChildrenStand view n fs cs
-      → j < length (times view.log)
+      → nat_lt j (length (times view.log)) ≡ true
   in_log n j [] cs some low stand = absurd (omega arith)
   in_log n j (f ∷ fs) [] some low stand = absurd stand
   in_log n j (f ∷ fs) (c ∷ cs) some low stand =
-      let pushed : n + length c.tables ≡ reached view f = stand.0.pushed in
-      let most : reached view f ≤ length (times view.log) = count_within (times view.log) (meaning f) in
-      omega arith
+      lt-ltb j (length (times view.log))
+      (omega (arith, stand.0.pushed, count_within (times view.log) (meaning f)))
 
   join_count : (f : CoreForm) (s : JoinOf) → 0 < length (children (conjuncts_of f))
       → ChildrenStand view s.pulled (children (conjuncts_of f)) s.children
@@ -293,12 +239,14 @@ module _ (view : View) (rising : NeverFalls (times view.log)) where
   join_count f s some stand done =
       count_is (times view.log) rising (meaning f) s.pulled
       (λ j low.
-      parts_settle (times view.log) j f
-      (lt-ltb j (length (times view.log)) (in_log s.pulled j (children (conjuncts_of f)) s.children some low stand))
-      (children_settled s.pulled j (children (conjuncts_of f)) s.children low stand))
+      parts_settled (times view.log) j (in_log s.pulled j (children (conjuncts_of f)) s.children some low stand) f
+      ∙ children_settled s.pulled j (children (conjuncts_of f)) s.children low stand)
       (λ h.
+      let inside = lt-ltb s.pulled (length (times view.log))
+      (settled_in_log (times view.log) (meaning f) s.pulled h) in
       let clash : true ≡ false =
-      sym (all_due s.pulled (children (conjuncts_of f)) s.children stand (settle_parts (times view.log) s.pulled f h))
+      sym (all_due s.pulled (children (conjuncts_of f)) s.children stand
+      (sym (parts_settled (times view.log) s.pulled inside f) ∙ h))
       ∙ done in
       cc)
 
@@ -309,52 +257,33 @@ module _ (view : View) (point : TimePoint) (rising : NeverFalls (times (longer v
       → ChildrenStand view i fs cs
       → StackNews view point fs lists → ChildrenStand (longer view point) i fs (children_fed cs lists)
   fed_stand i [] [] [] stand news = tt
-  fed_stand i (f ∷ fs) (c ∷ cs) (tables ∷ lists) stand news =
-      let pushed : i + length c.tables ≡ reached view f = stand.0.pushed in
-      let more : reached view f + length tables ≡ reached (longer view point) f = news.0.count in
-      let sum : length (c.tables ++ tables) ≡ length c.tables + length tables = length-append c.tables tables in (
-        record {
-          pushed = omega arith;
-          exact = exact_append (longer view point) (meaning f) i (reached view f) c.tables tables (omega arith)
-              (all_stay view point rising f i c.tables (omega arith) stand.0.exact) news.0.exact;
-        },
-        fed_stand i fs cs lists stand.1 news.1,
-      )
+  fed_stand i (f ∷ fs) (c ∷ cs) (tables ∷ lists) stand news = (
+    record {
+      pushed = omega (arith, stand.0.pushed, news.0.count, length-append c.tables tables);
+      exact = exact_more news.0 rising i c.tables stand.0.pushed stand.0.exact;
+    },
+    fed_stand i fs cs lists stand.1 news.1,
+  )
   fed_stand i [] [] (tables ∷ lists) stand news = absurd news
   fed_stand i [] (c ∷ cs) lists stand news = absurd stand
   fed_stand i (f ∷ fs) [] lists stand news = absurd stand
   fed_stand i (f ∷ fs) (c ∷ cs) [] stand news = absurd news
 
-  module _ (f : CoreForm) (old new : JoinOf) (lists : List (List TableOf)) (tables : List TableOf)
-      (is : IsConjunction f old)
-      (same : operands f ≡ children (conjuncts_of f)) (stands : JoinStands view f old)
-      (news : StackNews view point (operands f) lists) (takes : JoinTakes old lists new tables) where
-    fed : List ChildOf
-    fed = children_fed old.children lists
-
-    stand_fed : ChildrenStand (longer view point) old.pulled (children (conjuncts_of f))
-        (children_fed old.children lists)
-    stand_fed =
-        subst (λ fs. ChildrenStand (longer view point) old.pulled fs (children_fed old.children lists)) same
-        (fed_stand old.pulled (operands f) old.children lists stands.children news)
-
+  module _ {f : CoreForm} {old new : JoinOf} {lists : List (List TableOf)} {tables : List TableOf}
+      (is : IsConjunction f old) (stands : JoinStands view f old) (news : StackNews view point (operands f) lists)
+      (takes : JoinTakes old lists new tables) where
     bare_is : map bare (children_fed old.children lists) ≡ children_of (map conjunct_as (conjuncts_of f))
     bare_is = bare_fed old.children lists ∙ is.parts
 
-    new_children : new.children ≡ map (child_dropped (length tables)) (children_fed old.children lists)
-    new_children = ap (λ (x : JoinOf). x.children) takes.pulls.state
-
-    new_pulled : new.pulled ≡ old.pulled + length tables
-    new_pulled = ap (λ (x : JoinOf). x.pulled) takes.pulls.state
+    stand_fed : ChildrenStand (longer view point) old.pulled (children (conjuncts_of f))
+        (children_fed old.children lists)
+    stand_fed = rw is.whole at (fed_stand old.pulled (operands f) old.children lists stands.children news)
 
     new_stand : ChildrenStand (longer view point) new.pulled (children (conjuncts_of f)) new.children
     new_stand =
-        subst (λ cs. ChildrenStand (longer view point) new.pulled (children (conjuncts_of f)) cs) (sym new_children)
-        (subst (λ n. ChildrenStand (longer view point) n (children (conjuncts_of f))
-        (map (child_dropped (length tables)) (children_fed old.children lists)))
-        (sym new_pulled)
+        rw takes.pulls.state
         (dropped_stand (longer view point) old.pulled (length tables) (children (conjuncts_of f))
-        (children_fed old.children lists) takes.pulls.room stand_fed))
+        (children_fed old.children lists) takes.pulls.room stand_fed)
 
     count : new.pulled ≡ reached (longer view point) f
     count = join_count (longer view point) rising f new is.some new_stand takes.ends
@@ -373,7 +302,7 @@ module _ (view : View) (point : TimePoint) (rising : NeverFalls (times (longer v
         (bare_dropped k (children_fed old.children lists) ∙ bare_is)
         (dropped_stand (longer view point) old.pulled k (children (conjuncts_of f)) (children_fed old.children lists)
         room.0 stand_fed)
-        room.1 dom v covers (ap (λ cs. view.near cs v) (columns_are f) ∙ near)
+        room.1 dom v covers (rw (columns_are f) near)
         ∙ sym (conjuncts_mean (longer view point).log dom f v (old.pulled + k))
 
     join_exact : AllExact (longer view point) (meaning f) old.pulled tables
@@ -381,32 +310,23 @@ module _ (view : View) (point : TimePoint) (rising : NeverFalls (times (longer v
         stand_exact (longer view point) (meaning f) old.columns old.pulled tables (is.columns ∙ columns_are f)
         takes.pulls.over
         (λ dom v covers near.
-        let at : old.pulled + 0 ≡ old.pulled = omega arith in
-        subst (λ j. StandFrom (λ k table. has table v ≡ sat (longer view point).log dom v k (meaning f)) j tables) at
-        (shifted (λ k table. has table v ≡ joins (join_pulled k (join_fed old lists)) v)
+        let start : old.pulled + 0 ≡ old.pulled = omega arith in
+        rw start at (shifted (λ k table. has table v ≡ joins (join_pulled k (join_fed old lists)) v)
         (λ k table. has table v ≡ sat (longer view point).log dom v k (meaning f)) old.pulled 0 tables
         (λ k table low high row. row ∙ row_means dom v covers near k (omega arith)) (takes.pulls.rows v)))
 
-    pub join_is : IsConjunction f new
-    join_is =
-        record {
-          columns = ap (λ (x : JoinOf). x.columns) takes.pulls.state ∙ is.columns;
-          tests = ap (λ (x : JoinOf). x.tests) takes.pulls.state ∙ is.tests;
-          parts = ap (map bare) new_children ∙ bare_dropped (length tables) (children_fed old.children lists) ∙ bare_is;
-          some = is.some;
-          whole = is.whole;
-        }
-
-    pub join_stands : JoinStands (longer view point) f new
-    join_stands =
-        record {
-          pulled = count;
-          children = subst (λ fs. ChildrenStand (longer view point) new.pulled fs new.children) (sym same) new_stand;
-        }
-
-    pub join_news : News view point f tables
-    join_news =
-        record {
-          count = ap (λ n. n + length tables) (sym stands.pulled) ∙ sym new_pulled ∙ count;
-          exact = subst (λ k. AllExact (longer view point) (meaning f) k tables) stands.pulled join_exact;
-        }
+    pub join_steps : IsConjunction f new × JoinStands (longer view point) f new × News view point f tables
+    join_steps = (
+      rw takes.pulls.state (record {
+        columns = is.columns;
+        tests = is.tests;
+        parts = bare_dropped (length tables) (children_fed old.children lists) ∙ bare_is;
+        some = is.some;
+        whole = is.whole;
+      }),
+      record { pulled = count; children = rw is.whole new_stand },
+      record {
+        count = (let pulled : new.pulled ≡ old.pulled + length tables = rw takes.pulls.state in omega (arith, count));
+        exact = rw stands.pulled at join_exact;
+      },
+    )

@@ -12,8 +12,7 @@ use Rattle.mfotl_model.specs.declared.term.Atom.{Atom as OneAtom}
 use Rattle.monitorable.proofs.SoundLaw.{parts_are_sound}
 use Rattle.monitorable.proofs.TableLaw.{tables_satisfy}
 use Rattle.monitorable.specs.Atoms.{atoms_of}
-use Rattle.monitorable.specs.CoreForms.{CoreForm, meaning, True, False, Atom, Compare, Not, And, Or, Exists, Previous}
-use Rattle.monitorable.specs.CoreForms.{Next, Since, Until}
+use Rattle.monitorable.specs.CoreForms.{CoreForm, meaning, Atom, Not, And, Or, Exists, Previous, Next, Since, Until}
 use Rattle.monitorable.specs.Laws.{whole_view}
 use Rattle.monitor_state.specs.Laws.{LoneWorkerSteps, SliceIsEnough, TablesAreViolations}
 use Rattle.monitor_state.specs.Steps.{SameNear}
@@ -40,12 +39,9 @@ module _ (view : View) (given db : List Event) (passes : Passes (fv view.whole) 
 
     enough : (f : CoreForm) → Enough f
     unfolding atoms_of
-    enough True before after has = tt
-    enough False before after has = tt
     enough (Atom a) before after has = λ v near.
         both_ways (has_event given (event_of v a)) (has_event db (event_of v a)) (below (event_of v a))
         (λ h. has (event_of v a) (slice_has (fv view.whole) view.near passes a v before after db near ∙ h))
-    enough (Compare c) before after has = tt
     enough (Not f) before after has = enough f before after has
     enough (And f g) before after has = enough_both f g (enough f) (enough g) before after has
     enough (Or f g) before after has = enough_both f g (enough f) (enough g) before after has
@@ -54,6 +50,7 @@ module _ (view : View) (given db : List Event) (passes : Passes (fv view.whole) 
     enough (Next i f) before after has = enough f before after has
     enough (Since i f g) before after has = enough_both f g (enough f) (enough g) before after has
     enough (Until i f g) before after has = enough_both f g (enough f) (enough g) before after has
+    enough f before after has = tt
 
 pub slice_is_enough : SliceIsEnough
 slice_is_enough view core given db passes has below =
@@ -62,10 +59,7 @@ slice_is_enough view core given db passes has below =
 
 -- a database has its own events
 pub itself : (view : View) (f : CoreForm) (db : List Event) → SameNear view f db db
-itself view True db = tt
-itself view False db = tt
 itself view (Atom a) db = λ v near. refl
-itself view (Compare c) db = tt
 itself view (Not f) db = itself view f db
 itself view (And f g) db = (itself view f db, itself view g db)
 itself view (Or f g) db = (itself view f db, itself view g db)
@@ -74,6 +68,7 @@ itself view (Previous i f) db = itself view f db
 itself view (Next i f) db = itself view f db
 itself view (Since i f g) db = (itself view f db, itself view g db)
 itself view (Until i f g) db = (itself view f db, itself view g db)
+itself view f db = tt
 
 pub lone_worker_steps : LoneWorkerSteps
 lone_worker_steps log point core fits apart rising =

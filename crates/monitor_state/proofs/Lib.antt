@@ -1,6 +1,7 @@
 pub mod CountLemmas
 pub mod ExactLemmas
 pub mod StampLemmas
+pub mod GrowthLemmas
 pub mod FeedingLemmas
 pub mod RegionLemmas
 pub mod OrderingLemmas

@@ -43,15 +43,6 @@ until_finds s keys found over rows =
       rows = λ v key t a b f never. rows t a b v f never key;
     }
 
--- what is found for keys is found for a table each of whose rows has its part among them
-pub wider_finds : (w : Window) (table keys found : TableOf)
-    → ((v : Valuation) → has table v ≡ true → has keys v ≡ true) → Finds w keys found → Finds w table found
-wider_finds w table keys found asked finds =
-    record {
-      over = finds.over;
-      rows = λ v there. finds.rows v (asked v there);
-    }
-
 -- a table without rows is joined with nothing
 pub none_join : (w : Window) (order table kept : TableOf) → table.rows ≡ [] → kept.columns ≡ order.columns
     → ((v : Valuation) → has kept v ≡ false) → Joins w order table kept

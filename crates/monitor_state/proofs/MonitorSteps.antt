@@ -4,11 +4,10 @@ use Rattle.std.proofs.Common.{length, take, drop, get_or, set, refl, sym, ap, �
 use Rattle.std.proofs.Common.{append-nil, add-one}
 use Rattle.std.proofs.lemmas.Bool.{and_parts, cases_Bool}
 use Rattle.mfotl_model.specs.FreeVariables.{fv}
-use Rattle.mfotl_model.specs.Tables.{all_among}
+use Rattle.mfotl_model.specs.Tables.{all_among, TableOf}
 use Rattle.std.proofs.Math.Seq.{take-suc-set, drop-cons}
 use Rattle.std.proofs.lemmas.List.{drop-set-lt, drop_all, take_all}
 use Rattle.mfotl_model.specs.Exact.{View}
-use Rattle.mfotl_model.specs.Tables.{TableOf}
 use Rattle.mfotl_model.specs.declared.event.TimePoint.{TimePoint}
 use Rattle.mfotl_model.specs.declared.term.Comparison.{Comparison}
 use Rattle.monitorable.specs.CoreForms.{CoreForm, meaning, True, False, Atom, Compare, Not, And, Or, Exists, Previous}
@@ -16,6 +15,7 @@ use Rattle.monitorable.specs.CoreForms.{Next, Since, Until}
 use Rattle.monitorable.specs.Conjuncts.{PartForm, conjuncts_of, negated_part}
 use Rattle.monitorable.specs.Conjuncts.PartForm.{Child as ChildPart, Test as TestPart}
 use Rattle.monitorable.specs.Fragment.{binds, bound_by, is_conjunction, judges_not, under_not}
+use Rattle.monitorable.specs.Soundness.{IsWellFormedIn}
 use Rattle.monitorable.specs.declared.role.Role.{Role}
 use Rattle.monitorable.specs.declared.role.Role.TheVariants as role
 use Rattle.monitor_state.proofs.PosedSteps.{news_posed, premises_posed}
@@ -24,7 +24,7 @@ use Rattle.monitor_state.specs.Going.{AllPremises, Going, Works}
 use Rattle.monitor_state.specs.Nodes.{children, filters, left_operand, nodes_in, nodes_of, operands, window_operands}
 use Rattle.monitor_state.specs.Nodes.{posed, without_last}
 use Rattle.monitor_state.specs.Stands.{NodesStand}
-use Rattle.monitor_state.specs.Steps.{TakesPoint, News, Premises, StackNews, longer}
+use Rattle.monitor_state.specs.Steps.{TakesPoint, News, Premises, SameNear, StackNews, longer}
 use Rattle.monitor_state.specs.declared.node.Node.{Node}
 
 -- what a core in its role puts on the stack
@@ -57,7 +57,7 @@ no_window false inside = refl
 
 module _ (goal : CoreForm) where
   works_nothing : (pending rest : List CoreForm) → Works goal (pending ++ []) rest → Works goal pending ([] ++ rest)
-  works_nothing pending rest works = subst (λ fs. Works goal fs rest) (append-nil pending) works
+  works_nothing pending rest works = rw append-nil at works
 
   -- what the roots are of a core that is evaluated whole in each role
   roots_whole : (r : Role) (f : CoreForm) → (roots role.Part f ≡ f ∷ []) → (roots role.Negated f ≡ f ∷ [])
@@ -143,9 +143,7 @@ module _ (goal : CoreForm) where
       last role.Negated none w = whole none w
       last role.Left none w = whole none w
       last role.Part none w =
-          subst (λ fs. Works goal fs rest)
-          (ap (λ fs. pending ++ fs) split ∙ sym
-          (append_assoc pending (children (conjuncts_of f)) (children (conjuncts_of g)))) w
+          rw (split, ← append_assoc pending (children (conjuncts_of f)) (children (conjuncts_of g))) at w
 
   joined_work : (r : Role) (f g : CoreForm) (pending rest : List CoreForm) → (is_conjunction r && filters f g) ≡ false
       → ((is_conjunction r && filters f g) ≡ false
@@ -153,11 +151,7 @@ module _ (goal : CoreForm) where
       ++ rest))
       → Works goal pending (nodes_in r (And f g) ++ rest)
   unfolding nodes_in
-  joined_work r f g pending rest none works =
-      subst (λ b. Works goal pending (cond b
-      (nodes_in role.Whole f ++ without_last (nodes_in role.Part g) ++ And f g ∷ [])
-      (nodes_in role.Part f ++ nodes_in role.Part g ++ cond (is_conjunction r) (And f g ∷ []) []) ++ rest)) (sym none)
-      (works none)
+  joined_work r f g pending rest none works = rw none (works none)
 
   -- a conjunction whose right side is a window or the NOT of one: either it only filters, or it doesn't
   window_work : (r : Role) (f g w : CoreForm) (ns ms : List CoreForm) (a b : CoreForm) (pending rest : List CoreForm)
@@ -175,19 +169,10 @@ module _ (goal : CoreForm) where
   window_work r f g w ns ms a b pending rest nodes ops works first left right joins =
       elim (cases_Bool (is_conjunction r && filters f g)) [
         | inl only ↦
-            subst (λ b. Works goal pending (cond b
-            (nodes_in role.Whole f ++ without_last (nodes_in role.Part g) ++ And f g ∷ [])
-            (nodes_in role.Part f ++ nodes_in role.Part g ++ cond (is_conjunction r) (And f g ∷ []) []) ++ rest))
-            (sym only)
-            (subst (λ xs. Works goal pending ((nodes_in role.Whole f ++ xs ++ And f g ∷ []) ++ rest))
-            (sym (ap without_last nodes ∙ last_off (ns ++ ms) w))
-            (subst (Works goal pending)
-            (sym (append_assoc (nodes_in role.Whole f) (ns ++ ms) (And f g ∷ rest))
-            ∙ sym (append_assoc (nodes_in role.Whole f ++ (ns ++ ms)) (And f g ∷ []) rest))
-            (first ((ns ++ ms) ++ (And f g ∷ rest))
-            (subst (Works goal (pending ++ f ∷ [])) (sym (append_assoc ns ms (And f g ∷ rest)))
+            rw (only, nodes, last_off, append_assoc, append_assoc, append_assoc)
+            (first (ns ++ (ms ++ (And f g ∷ rest)))
             (left (pending ++ f ∷ []) (ms ++ (And f g ∷ rest))
-            (right ((pending ++ f ∷ []) ++ a ∷ []) (And f g ∷ rest) (taken only)))))))
+            (right ((pending ++ f ∷ []) ++ a ∷ []) (And f g ∷ rest) (taken only))))
         | inr none ↦ joined_work r f g pending rest none joins
       ]
     where
@@ -328,184 +313,62 @@ module _ (view : View) (point given : TimePoint) (whole : CoreForm) where
   premises_fewer (f ∷ []) all = tt
   premises_fewer (f ∷ g ∷ fs) all = (all.0, premises_fewer (g ∷ fs) all.1)
 
-  -- what the step takes for granted of a core it does of each part
+  -- what the step takes for granted of a core it does of a part of it
+  premises_of : {f g : CoreForm} → Premises view point given whole f → IsWellFormedIn whole g
+      → SameNear view g given.db point.db → Premises view point given whole g
+  premises_of p sound same =
+      record {
+        rising = p.rising;
+        passes = p.passes;
+        whole_is = p.whole_is;
+        sound = sound;
+        ts = p.ts;
+        same = same;
+      }
+
+  -- and so of each part
   pub premises_all : (r : Role) (f : CoreForm) → Premises view point given whole f
       → AllPremises view point given whole (nodes_in r f)
   unfolding nodes_in
   premises_all r (Exists x f) p =
       premises_append (nodes_in role.Whole f) (Exists x f ∷ [])
-      (premises_all role.Whole f (record {
-        rising = p.rising;
-        passes = p.passes;
-        whole_is = p.whole_is;
-        sound =
-            p.sound.4;
-        ts = p.ts;
-        same = p.same;
-      }))
-      (p, tt)
+      (premises_all role.Whole f (premises_of p p.sound.4 p.same)) (p, tt)
   premises_all r (Previous i f) p =
       premises_append (nodes_in role.Whole f) (Previous i f ∷ [])
-      (premises_all role.Whole f (record {
-        rising = p.rising;
-        passes = p.passes;
-        whole_is = p.whole_is;
-        sound =
-            p.sound;
-        ts = p.ts;
-        same = p.same;
-      }))
-      (p, tt)
+      (premises_all role.Whole f (premises_of p p.sound p.same)) (p, tt)
   premises_all r (Next i f) p =
       premises_append (nodes_in role.Whole f) (Next i f ∷ [])
-      (premises_all role.Whole f (record {
-        rising = p.rising;
-        passes = p.passes;
-        whole_is = p.whole_is;
-        sound =
-            p.sound;
-        ts = p.ts;
-        same = p.same;
-      }))
-      (p, tt)
+      (premises_all role.Whole f (premises_of p p.sound p.same)) (p, tt)
   premises_all r (And f g) p =
+      let left = premises_of {g = f} p p.sound.0 p.same.0 in
+      let right = premises_of {g = g} p p.sound.1 p.same.1 in
       premises_either (is_conjunction r && filters f g)
       (nodes_in role.Whole f ++ without_last (nodes_in role.Part g) ++ And f g ∷ [])
       (nodes_in role.Part f ++ nodes_in role.Part g ++ cond (is_conjunction r) (And f g ∷ []) [])
       (premises_two (nodes_in role.Whole f) (without_last (nodes_in role.Part g)) (And f g)
-      (premises_all role.Whole f (record {
-        rising = p.rising;
-        passes = p.passes;
-        whole_is = p.whole_is;
-        sound =
-            p.sound.0;
-        ts = p.ts;
-        same = p.same.0;
-      }))
-      (premises_fewer (nodes_in role.Part g)
-      (premises_all role.Part g (record {
-        rising = p.rising;
-        passes = p.passes;
-        whole_is = p.whole_is;
-        sound =
-            p.sound.1;
-        ts = p.ts;
-        same = p.same.1;
-      })))
-      (p, tt))
+      (premises_all role.Whole f left) (premises_fewer (nodes_in role.Part g) (premises_all role.Part g right)) (p, tt))
       (premises_append (nodes_in role.Part f ++ nodes_in role.Part g) (cond (is_conjunction r) (And f g ∷ []) [])
-      (premises_append (nodes_in role.Part f) (nodes_in role.Part g)
-      (premises_all role.Part f (record {
-        rising = p.rising;
-        passes = p.passes;
-        whole_is = p.whole_is;
-        sound =
-            p.sound.0;
-        ts = p.ts;
-        same = p.same.0;
-      }))
-      (premises_all role.Part g (record {
-        rising = p.rising;
-        passes = p.passes;
-        whole_is = p.whole_is;
-        sound =
-            p.sound.1;
-        ts = p.ts;
-        same = p.same.1;
-      })))
+      (premises_append (nodes_in role.Part f) (nodes_in role.Part g) (premises_all role.Part f left)
+      (premises_all role.Part g right))
       (premises_if (is_conjunction r) (And f g) p))
   premises_all r (Or f g) p =
       premises_two (nodes_in role.Whole f) (nodes_in role.Whole g) (Or f g)
-      (premises_all role.Whole f (record {
-        rising = p.rising;
-        passes = p.passes;
-        whole_is = p.whole_is;
-        sound =
-            p.sound.2;
-        ts = p.ts;
-        same = p.same.0;
-      }))
-      (premises_all role.Whole g (record {
-        rising = p.rising;
-        passes = p.passes;
-        whole_is = p.whole_is;
-        sound =
-            p.sound.3;
-        ts = p.ts;
-        same = p.same.1;
-      }))
-      (p, tt)
+      (premises_all role.Whole f (premises_of p p.sound.2 p.same.0))
+      (premises_all role.Whole g (premises_of p p.sound.3 p.same.1)) (p, tt)
   premises_all r (Not f) p =
       premises_append (nodes_in (under_not r) f) (cond (judges_not r) (Not f ∷ []) [])
-      (premises_all (under_not r) f (record {
-        rising = p.rising;
-        passes = p.passes;
-        whole_is = p.whole_is;
-        sound =
-            p.sound;
-        ts = p.ts;
-        same = p.same;
-      }))
-      (premises_if (judges_not r) (Not f) p)
+      (premises_all (under_not r) f (premises_of p p.sound p.same)) (premises_if (judges_not r) (Not f) p)
   premises_all r (Since i f g) p =
       premises_two (nodes_in role.Left f) (nodes_in role.Whole g) (Since i f g)
-      (premises_all role.Left f (record {
-        rising = p.rising;
-        passes = p.passes;
-        whole_is = p.whole_is;
-        sound =
-            p.sound.1;
-        ts = p.ts;
-        same = p.same.0;
-      }))
-      (premises_all role.Whole g (record {
-        rising = p.rising;
-        passes = p.passes;
-        whole_is = p.whole_is;
-        sound =
-            p.sound.2;
-        ts = p.ts;
-        same = p.same.1;
-      }))
-      (p, tt)
+      (premises_all role.Left f (premises_of p p.sound.1 p.same.0))
+      (premises_all role.Whole g (premises_of p p.sound.2 p.same.1)) (p, tt)
   premises_all r (Until i f g) p =
       premises_two (nodes_in role.Left f) (nodes_in role.Whole g) (Until i f g)
-      (premises_all role.Left f (record {
-        rising = p.rising;
-        passes = p.passes;
-        whole_is = p.whole_is;
-        sound =
-            p.sound.1;
-        ts = p.ts;
-        same = p.same.0;
-      }))
-      (premises_all role.Whole g (record {
-        rising = p.rising;
-        passes = p.passes;
-        whole_is = p.whole_is;
-        sound =
-            p.sound.2;
-        ts = p.ts;
-        same = p.same.1;
-      }))
-      (p, tt)
+      (premises_all role.Left f (premises_of p p.sound.1 p.same.0))
+      (premises_all role.Whole g (premises_of p p.sound.2 p.same.1)) (p, tt)
   premises_all r (Compare c) p = premises_if (stands_alone r (binds c)) (Compare c) p
-  premises_all role.Whole True p = (p, tt)
-  premises_all role.Part True p = (p, tt)
-  premises_all role.Negated True p = (p, tt)
-  premises_all role.Left True p = (
-    record {
-      rising = p.rising;
-      passes = p.passes;
-      whole_is = p.whole_is;
-      sound = p.sound;
-      ts = p.ts;
-      same = p.same;
-    },
-    tt,
-  )
-  premises_all r False p = (p, tt)
-  premises_all r (Atom a) p = (p, tt)
+  premises_all role.Left True p = (premises_of p p.sound p.same, tt)
+  premises_all r f p = (p, tt)
 
 pub nodes_append : (view : View) (fs gs : List CoreForm) (ns ms : List Node) → NodesStand view fs ns
     → NodesStand view gs ms
@@ -513,8 +376,7 @@ pub nodes_append : (view : View) (fs gs : List CoreForm) (ns ms : List Node) →
 nodes_append view [] gs [] ms first second = second
 nodes_append view (f ∷ fs) gs (n ∷ ns) ms first second =
     (first.0, first.1, nodes_append view fs gs ns ms first.2 second)
-nodes_append view [] gs (n ∷ ns) ms first second = absurd first
-nodes_append view (f ∷ fs) gs [] ms first second = absurd first
+nodes_append view fs gs ns ms first second = absurd assumption
 
 stack_append : (view : View) (point : TimePoint) (fs : List CoreForm) (f : CoreForm) (stack : List (List TableOf))
     (tables : List TableOf)
@@ -523,87 +385,7 @@ stack_append : (view : View) (point : TimePoint) (fs : List CoreForm) (f : CoreF
 stack_append view point [] f [] tables first one = (one, tt)
 stack_append view point (g ∷ fs) f (ts ∷ stack) tables first one =
     (first.0, stack_append view point fs f stack tables first.1 one)
-stack_append view point [] f (ts ∷ stack) tables first one = absurd first
-stack_append view point (g ∷ fs) f [] tables first one = absurd first
-
--- the step begins
-pub going_begins : (view : View) (point given : TimePoint) (whole : CoreForm) (nodes : List Node)
-    → Premises view point given whole whole
-    → NodesStand view (nodes_of whole) nodes → Going view point given whole [] nodes []
-going_begins view point given whole nodes premises stand =
-    record {
-      old = [];
-      next = nodes_of whole;
-      pending = [];
-      all = refl;
-      took = tt;
-      take = stand;
-      works =
-          subst (Works (posed whole) []) (append-nil (nodes_of whole))
-          (nodes_work (posed whole) role.Whole (posed whole) [] [] refl);
-      premises =
-          premises_all view point given whole role.Whole (posed whole) (premises_posed view point given whole premises);
-      news = tt;
-    }
-
-turn : (view : View) (point given : TimePoint) (whole : CoreForm) (done todo : List Node)
-    (stack rest items : List (List TableOf))
-    (tables : List TableOf)
-    (node new : Node) (old next pending : List CoreForm) → nodes_of whole ≡ old ++ next
-    → NodesStand (longer view point) old done → NodesStand view next (node ∷ todo)
-    → Works (posed whole) pending next → AllPremises view point given whole next → StackNews view point pending stack
-    → TakesPoint node given stack new rest tables → items ≡ rest ++ tables ∷ []
-    → Going view point given whole (done ++ new ∷ []) todo items
-turn view point given whole done todo stack rest items tables node new old [] pending all took take works premises news
-    advances is =
-    absurd take
-turn view point given whole done todo stack rest items tables node new old (f ∷ next) pending all took take works
-    premises news advances is =
-    let took_one = advances view point whole f works.0 premises.0 take.0 take.1
-    (subst (λ fs. StackNews view point fs stack) works.1 news) in
-    record {
-      old = old ++ f ∷ [];
-      next = next;
-      pending = works.0 ++ f ∷ [];
-      all = all ∙ sym (append_assoc old (f ∷ []) next);
-      took = nodes_append (longer view point) old (f ∷ []) done (new ∷ []) took (took_one.0, took_one.1, tt);
-      take = take.2;
-      works = works.2;
-      premises = premises.1;
-      news =
-          subst (StackNews view point (works.0 ++ f ∷ [])) (sym is)
-          (stack_append view point works.0 f rest tables took_one.2 took_one.3);
-    }
-
--- one node more takes the time-point
-pub going_turns : (view : View) (point given : TimePoint) (whole : CoreForm) (nodes behind : List Node) (n : ℕ)
-    (stack rest items : List (List TableOf))
-    (tables : List TableOf) (default new : Node) → n < length nodes
-    → Going view point given whole (take n nodes) (drop n nodes ++ behind) stack
-    → TakesPoint (get_or nodes n default) given stack new rest tables → items ≡ rest ++ tables ∷ []
-    → Going view point given whole (take (n + 1) (set nodes n new)) (drop (n + 1) (set nodes n new) ++ behind) items
-going_turns view point given whole nodes behind n stack rest items tables default new inside going advances pushed =
-    let node : Node = get_or nodes n default in
-    let cons : drop n nodes ≡ get_or nodes n default ∷ drop (suc n) nodes = drop-cons nodes n default inside in
-    let front : take n nodes ++ new ∷ [] ≡ take (n + 1) (set nodes n new) =
-    sym (take-suc-set nodes n new inside) ∙ ap (λ k. take k (set nodes n new)) (sym (add-one n)) in
-    let back : drop (suc n) nodes ≡ drop (n + 1) (set nodes n new) =
-    ap (λ k. drop k nodes) (sym (add-one n)) ∙ sym (drop-set-lt (n + 1) nodes n new (omega arith)) in
-    subst (λ xs. Going view point given whole xs (drop (n + 1) (set nodes n new) ++ behind) items) front
-    (subst (λ xs. Going view point given whole (take n nodes ++ new ∷ []) (xs ++ behind) items) back
-    (turn view point given whole (take n nodes) (drop (suc n) nodes ++ behind) stack rest items tables node new
-    going.old going.next going.pending going.all going.took
-    (subst (λ xs. NodesStand view going.next (xs ++ behind)) cons going.take)
-    going.works going.premises going.news advances pushed))
-
--- all nodes of a list took the time-point, and those behind are still to
-pub going_behind : (view : View) (point given : TimePoint) (whole : CoreForm) (nodes behind : List Node) (n : ℕ)
-    (stack : List (List TableOf)) → length nodes ≤ n
-    → Going view point given whole (take n nodes) (drop n nodes ++ behind) stack
-    → Going view point given whole nodes behind stack
-going_behind view point given whole nodes behind n stack all going =
-    subst (λ xs. Going view point given whole xs behind stack) (take_all n nodes all)
-    (subst (λ xs. Going view point given whole (take n nodes) (xs ++ behind) stack) (drop_all n nodes all) going)
+stack_append view point fs f stack tables first one = absurd assumption
 
 top_only : (view : View) (point : TimePoint) (f : CoreForm) (rest : List (List TableOf)) (top : List TableOf)
     → StackNews view point (f ∷ []) (rest ++ top ∷ []) → News view point f top
@@ -611,40 +393,97 @@ top_only view point f [] top news = news.0
 top_only view point f (tables ∷ []) top news = absurd news.1
 top_only view point f (tables ∷ next ∷ more) top news = absurd news.1
 
-ended : (view : View) (point given : TimePoint) (whole : CoreForm) (done : List Node) (rest : List (List TableOf))
-    (top : List TableOf)
-    (old next pending : List CoreForm) → nodes_of whole ≡ old ++ next
-    → NodesStand (longer view point) old done → NodesStand view next []
-    → Works (posed whole) pending next → StackNews view point pending (rest ++ top ∷ [])
-    → NodesStand (longer view point) (nodes_of whole) done × News view point whole top
-ended view point given whole done rest top old (f ∷ next) pending all took take works news = absurd take
-ended view point given whole done rest top old [] pending all took take works news = (
-  subst (λ fs. NodesStand (longer view point) fs done) (sym (all ∙ append-nil old)) took,
-  news_posed view point whole top
-      (top_only view point (posed whole) rest top
-      (subst (λ fs. StackNews view point fs (rest ++ top ∷ [])) works news)),
-)
+module _ (view : View) (point given : TimePoint) (whole : CoreForm) where
+  -- the step begins
+  pub going_begins : (nodes : List Node) → Premises view point given whole whole
+      → NodesStand view (nodes_of whole) nodes
+      → Going view point given whole [] nodes []
+  going_begins nodes premises stand =
+      record {
+        old = [];
+        next = nodes_of whole;
+        pending = [];
+        all = refl;
+        took = tt;
+        take = stand;
+        works = rw (append-nil (nodes_of whole)) at (nodes_work (posed whole) role.Whole (posed whole) [] [] refl);
+        premises =
+            premises_all view point given whole role.Whole (posed whole)
+            (premises_posed view point given whole premises);
+        news = tt;
+      }
 
--- the last node takes the time-point, and the step ends
-pub going_ends : (view : View) (point given : TimePoint) (whole : CoreForm) (before : List Node) (last new : Node)
-    (stack rest : List (List TableOf))
-    (top : List TableOf) → Going view point given whole before (last ∷ []) stack
-    → TakesPoint last given stack new rest top
-    → NodesStand (longer view point) (nodes_of whole) (before ++ new ∷ []) × News view point whole top
-going_ends view point given whole before last new stack rest top going advances =
-    let turned = turn view point given whole before [] stack rest (rest ++ top ∷ []) top last new going.old going.next
-    going.pending going.all going.took going.take going.works going.premises going.news advances refl in
-    ended view point given whole (before ++ new ∷ []) rest top turned.old turned.next turned.pending turned.all
-    turned.took turned.take turned.works turned.news
+  turn : (done todo : List Node) (stack rest items : List (List TableOf)) (tables : List TableOf) (node new : Node)
+      (old next pending : List CoreForm) → nodes_of whole ≡ old ++ next
+      → NodesStand (longer view point) old done → NodesStand view next (node ∷ todo)
+      → Works (posed whole) pending next → AllPremises view point given whole next → StackNews view point pending stack
+      → TakesPoint node given stack new rest tables → items ≡ rest ++ tables ∷ []
+      → Going view point given whole (done ++ new ∷ []) todo items
+  turn done todo stack rest items tables node new old [] pending all took take works premises news advances is =
+      absurd take
+  turn done todo stack rest items tables node new old (f ∷ next) pending all took take works premises news advances is =
+      let took_one = advances view point whole f works.0 premises.0 take.0 take.1
+      (subst (λ fs. StackNews view point fs stack) works.1 news) in
+      record {
+        old = old ++ f ∷ [];
+        next = next;
+        pending = works.0 ++ f ∷ [];
+        all = all ∙ sym (append_assoc old (f ∷ []) next);
+        took = nodes_append (longer view point) old (f ∷ []) done (new ∷ []) took (took_one.0, took_one.1, tt);
+        take = take.2;
+        works = works.2;
+        premises = premises.1;
+        news = rw is (stack_append view point works.0 f rest tables took_one.2 took_one.3);
+      }
 
-idle : (view : View) (point : TimePoint) (goal : CoreForm) (next pending : List CoreForm) → NodesStand view next []
-    → Works goal pending next → StackNews view point pending []
-    → ⊥
-idle view point goal (f ∷ next) pending take works news = absurd take
-idle view point goal [] pending take works news = absurd (subst (λ fs. StackNews view point fs []) works news)
+  -- one node more takes the time-point
+  pub going_turns : (nodes behind : List Node) (n : ℕ) (stack rest items : List (List TableOf)) (tables : List TableOf)
+      (default new : Node) → n < length nodes
+      → Going view point given whole (take n nodes) (drop n nodes ++ behind) stack
+      → TakesPoint (get_or nodes n default) given stack new rest tables → items ≡ rest ++ tables ∷ []
+      → Going view point given whole (take (n + 1) (set nodes n new)) (drop (n + 1) (set nodes n new) ++ behind) items
+  going_turns nodes behind n stack rest items tables default new inside going advances pushed =
+      let cons : drop n nodes ≡ get_or nodes n default ∷ drop (suc n) nodes = drop-cons nodes n default inside in
+      let front : take n nodes ++ new ∷ [] ≡ take (n + 1) (set nodes n new) =
+      sym (take-suc-set nodes n new inside) ∙ ap (λ k. take k (set nodes n new)) (sym (add-one n)) in
+      let back : drop (suc n) nodes ≡ drop (n + 1) (set nodes n new) =
+      ap (λ k. drop k nodes) (sym (add-one n)) ∙ sym (drop-set-lt (n + 1) nodes n new (omega arith)) in
+      rw (← front, ← back)
+      (turn (take n nodes) (drop (suc n) nodes ++ behind) stack rest items tables (get_or nodes n default) new going.old
+      going.next going.pending going.all going.took (rw cons at going.take) going.works going.premises going.news
+      advances pushed)
 
--- a core has a node
-pub going_somewhere : (view : View) (point given : TimePoint) (whole : CoreForm) → Going view point given whole [] [] []
-    → ⊥
-going_somewhere view point given whole going =
-    idle view point (posed whole) going.next going.pending going.take going.works going.news
+  -- all nodes of a list took the time-point, and those behind are still to
+  pub going_behind : (nodes behind : List Node) (n : ℕ) (stack : List (List TableOf)) → length nodes ≤ n
+      → Going view point given whole (take n nodes) (drop n nodes ++ behind) stack
+      → Going view point given whole nodes behind stack
+  going_behind nodes behind n stack all going = rw (take_all n nodes all, drop_all n nodes all) at going
+
+  ended : (done : List Node) (rest : List (List TableOf)) (top : List TableOf) (old next pending : List CoreForm)
+      → nodes_of whole ≡ old ++ next → NodesStand (longer view point) old done → NodesStand view next []
+      → Works (posed whole) pending next → StackNews view point pending (rest ++ top ∷ [])
+      → NodesStand (longer view point) (nodes_of whole) done × News view point whole top
+  ended done rest top old (f ∷ next) pending all took take works news = absurd take
+  ended done rest top old [] pending all took take works news = (
+    subst (λ fs. NodesStand (longer view point) fs done) (sym (all ∙ append-nil old)) took,
+    news_posed view point whole top (top_only view point (posed whole) rest top (rw works at news)),
+  )
+
+  -- the last node takes the time-point, and the step ends
+  pub going_ends : (before : List Node) (last new : Node) (stack rest : List (List TableOf)) (top : List TableOf)
+      → Going view point given whole before (last ∷ []) stack → TakesPoint last given stack new rest top
+      → NodesStand (longer view point) (nodes_of whole) (before ++ new ∷ []) × News view point whole top
+  going_ends before last new stack rest top going advances =
+      let turned = turn before [] stack rest (rest ++ top ∷ []) top last new going.old going.next going.pending
+      going.all going.took going.take going.works going.premises going.news advances refl in
+      ended (before ++ new ∷ []) rest top turned.old turned.next turned.pending turned.all turned.took turned.take
+      turned.works turned.news
+
+  idle : (next pending : List CoreForm) → NodesStand view next [] → Works (posed whole) pending next
+      → StackNews view point pending [] → ⊥
+  idle (f ∷ next) pending take works news = take
+  idle [] pending take works news = rw works at news
+
+  -- a core has a node
+  pub going_somewhere : Going view point given whole [] [] [] → ⊥
+  going_somewhere going = idle going.next going.pending going.take going.works going.news

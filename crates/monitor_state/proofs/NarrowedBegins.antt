@@ -1,10 +1,8 @@
 -- What the fragment gives a core it gives the one whose denied EXISTS is asked for fewer rows.
-use Rattle.std.proofs.Common.{subst, ◌≡◌, ℕ, true, false, not, None, ◌&&◌, ◌||◌, nat_eq, List, [], ◌∷◌, ◌++◌}
-use Rattle.std.proofs.Common.{refl, sym, ap, ◌∙◌, inl, inr}
-use Rattle.std.proofs.lemmas.Bool.{and_from, and_parts, cases_Bool, cond-false, cond-true, eqb-true, or_cases}
-use Rattle.std.proofs.lemmas.Bool.{or_left, or_right}
+use Rattle.std.proofs.Common.{◌≡◌, ℕ, Bool, cond, true, false, not, None, ◌||◌, nat_eq, List, [], ◌∷◌, ◌++◌, refl, sym}
+use Rattle.std.proofs.Common.{ap, ◌∙◌, inl, inr}
+use Rattle.std.proofs.lemmas.Bool.{and_from, and_parts, eqb-true, or_cases, or_left, or_right}
 use Rattle.std.proofs.lemmas.List.Folds.{list_any-append}
-use Rattle.std.specs.List.{list_any}
 use Rattle.std.specs.Ordering.{eq_by_cmp}
 use Rattle.mfotl_model.proofs.LogicLemmas.{among_without}
 use Rattle.mfotl_model.specs.ActiveDomain.{constants}
@@ -25,7 +23,7 @@ use Rattle.monitorable.specs.declared.role.Role.TheVariants as role
 use Rattle.monitor_state.proofs.NarrowedLemmas.{among_led}
 use Rattle.monitor_state.proofs.WholeLemmas.{guarded, inside_all}
 use Rattle.monitor_state.specs.Beginnings.{Accepted}
-use Rattle.monitor_state.specs.Nodes.{first_conjunct, is_atom, is_window, leads, led, narrowed, shares_window}
+use Rattle.monitor_state.specs.Nodes.{first_conjunct, is_atom, is_window, leads, led, narrowed}
 use Rattle.monitor_state.specs.Steps.{SameNear}
 
 -- ---- a conjunction with one more conjunct before the others
@@ -38,12 +36,11 @@ bound_led : (a g : CoreForm) (y : ℕ) → among y (bound_by g) ≡ true → amo
 unfolding bound_by
 bound_led a (And g h) y m =
     among_both y (bound_by (led a g)) (bound_by h)
-    ∙ elim (or_cases (among y (bound_by g)) (among y (bound_by h))
-    (sym (among_both y (bound_by g) (bound_by h)) ∙ m)) [
-      | inl left ↦ or_left (among y (bound_by (led a g))) (among y (bound_by h)) (bound_led a g y left)
-      | inr right ↦ or_right (among y (bound_by (led a g))) (among y (bound_by h)) right
+    ∙ elim (or_cases _ _ (sym (among_both y (bound_by g) (bound_by h)) ∙ m)) [
+      | inl left ↦ or_left _ _ (bound_led a g y left)
+      | inr right ↦ or_right _ _ right
     ]
-bound_led a g y m = among_both y (bound_by a) (bound_by g) ∙ or_right (among y (bound_by a)) (among y (bound_by g)) m
+bound_led a g y m = among_both y (bound_by a) (bound_by g) ∙ or_right _ _ m
 
 -- and needs no more, where the new one is an atom
 needed_led : (a g : CoreForm) → is_atom a ≡ true → needed_by (led a g) ≡ needed_by g
@@ -61,12 +58,9 @@ led_part : (names : Names) (a g : CoreForm) → is_atom a ≡ true → fault_in 
     → fault_in names role.Part (led a g) ≡ None
 unfolding fault_in
 led_part names a (And g h) is e =
-    let left = no_first (fault_in names role.Part g) (first (fault_in names role.Part h) None) e in
-    none_first (fault_in names role.Part (led a g)) (first (fault_in names role.Part h) None)
-    (led_part names a g is left.0) left.1
-led_part names a g is e =
-    none_first (fault_in names role.Part a) (first (fault_in names role.Part g) None) (atom_part names a is)
-    (none_first (fault_in names role.Part g) None e refl)
+    let left = no_first _ _ e in
+    none_first _ _ (led_part names a g is left.0) left.1
+led_part names a g is e = none_first _ _ (atom_part names a is) (none_first _ _ e refl)
 
 led_guarded : (names : Names) (a g : CoreForm) → is_atom a ≡ true → guards names g ≡ None
     → guards names (led a g) ≡ None
@@ -83,23 +77,13 @@ led_whole : (names : Names) (a g : CoreForm) → is_atom a ≡ true → is_windo
     → fault_in names role.Whole g ≡ None → fault_in names role.Whole (led a g) ≡ None
 unfolding fault_in needed_by
 led_whole names a (And g h) is asks e =
-    let left = no_first (fault_in names role.Part g) (first (fault_in names role.Part h) (guards names (And g h))) e in
-    let right = no_first (fault_in names role.Part h) (guards names (And g h)) left.1 in
-    none_first (fault_in names role.Part (led a g))
-    (first (fault_in names role.Part h) (guards names (And (led a g) h)))
-    (led_part names a g is left.0)
-    (none_first (fault_in names role.Part h) (guards names (And (led a g) h)) right.0
-    (led_guarded names a (And g h) is right.1))
+    let left = no_first _ _ e in
+    let right = no_first _ _ left.1 in
+    none_first _ _ (led_part names a g is left.0) (none_first _ _ right.0 (led_guarded names a (And g h) is right.1))
 led_whole names a (Since i f g) is asks e =
-    none_first (fault_in names role.Part a)
-    (first (fault_in names role.Part (Since i f g)) (guards names (And a (Since i f g)))) (atom_part names a is)
-    (none_first (fault_in names role.Part (Since i f g)) (guards names (And a (Since i f g))) e
-    (led_guarded names a (Since i f g) is refl))
+    none_first _ _ (atom_part names a is) (none_first _ _ e (led_guarded names a (Since i f g) is refl))
 led_whole names a (Until i f g) is asks e =
-    none_first (fault_in names role.Part a)
-    (first (fault_in names role.Part (Until i f g)) (guards names (And a (Until i f g)))) (atom_part names a is)
-    (none_first (fault_in names role.Part (Until i f g)) (guards names (And a (Until i f g))) e
-    (led_guarded names a (Until i f g) is refl))
+    none_first _ _ (atom_part names a is) (none_first _ _ e (led_guarded names a (Until i f g) is refl))
 led_whole names a g is asks e = absurd (let clash : false ≡ true = asks in cc)
 
 led_uses : (a : CoreForm) (x : Bound) (g : CoreForm) → among x.number (fv (meaning g)) ≡ true
@@ -109,7 +93,7 @@ led_uses a x g m =
     (inside_all (fv (meaning (led a g))) (x.number ∷ [])
     (λ y here.
     among_led a g y
-    ∙ or_right (among y (fv (meaning a))) (among y (fv (meaning g)))
+    ∙ or_right _ _
     (elim (or_cases (nat_eq y x.number) false here) [
       | inl same ↦ ap (λ z. among z (fv (meaning g))) (eqb-true y x.number same) ∙ m
       | inr none ↦ absurd (let clash : false ≡ true = none in cc)
@@ -122,33 +106,22 @@ constants_led : (a g : CoreForm) (b : Value) → in_domain (constants (meaning (
     → (in_domain (constants (meaning a)) b || in_domain (constants (meaning g)) b) ≡ true
 unfolding constants
 constants_led a (And g h) b m =
-    elim (or_cases (in_domain (constants (meaning (led a g))) b) (in_domain (constants (meaning h)) b)
-    (sym (within_both b (constants (meaning (led a g))) (constants (meaning h))) ∙ m)) [
+    elim (or_cases _ _ (sym (within_both b (constants (meaning (led a g))) (constants (meaning h))) ∙ m)) [
       | inl left ↦
           elim (or_cases (in_domain (constants (meaning a)) b) (in_domain (constants (meaning g)) b)
           (constants_led a g b left)) [
-            | inl one ↦
-                or_left (in_domain (constants (meaning a)) b)
-                (in_domain (constants (meaning g) ++ constants (meaning h)) b)
-                one
+            | inl one ↦ or_left _ _ one
             | inr two ↦
-                or_right (in_domain (constants (meaning a)) b)
-                (in_domain (constants (meaning g) ++ constants (meaning h)) b)
-                (within_both b (constants (meaning g)) (constants (meaning h))
-                ∙ or_left (in_domain (constants (meaning g)) b) (in_domain (constants (meaning h)) b) two)
+                or_right _ _ (within_both b (constants (meaning g)) (constants (meaning h)) ∙ or_left _ _ two)
           ]
-      | inr right ↦
-          or_right (in_domain (constants (meaning a)) b) (in_domain (constants (meaning g) ++ constants (meaning h)) b)
-          (within_both b (constants (meaning g)) (constants (meaning h))
-          ∙ or_right (in_domain (constants (meaning g)) b) (in_domain (constants (meaning h)) b) right)
+      | inr right ↦ or_right _ _ (within_both b (constants (meaning g)) (constants (meaning h)) ∙ or_right _ _ right)
     ]
 constants_led a g b m = sym (within_both b (constants (meaning a)) (constants (meaning g))) ∙ m
 
 first_constants : (f : CoreForm) → Includes (constants (meaning f)) (constants (meaning (first_conjunct f)))
 unfolding constants
 first_constants (And f g) b m =
-    within_both b (constants (meaning f)) (constants (meaning g))
-    ∙ or_left (in_domain (constants (meaning f)) b) (in_domain (constants (meaning g)) b) (first_constants f b m)
+    within_both b (constants (meaning f)) (constants (meaning g)) ∙ or_left _ _ (first_constants f b m)
 first_constants f b m = m
 
 led_constants : (f g : CoreForm)
@@ -157,9 +130,8 @@ led_constants f g b m =
     within_both b (constants (meaning f)) (constants (meaning g))
     ∙ elim (or_cases (in_domain (constants (meaning (first_conjunct f))) b) (in_domain (constants (meaning g)) b)
     (constants_led (first_conjunct f) g b m)) [
-      | inl one ↦
-          or_left (in_domain (constants (meaning f)) b) (in_domain (constants (meaning g)) b) (first_constants f b one)
-      | inr two ↦ or_right (in_domain (constants (meaning f)) b) (in_domain (constants (meaning g)) b) two
+      | inl one ↦ or_left _ _ (first_constants f b one)
+      | inr two ↦ or_right _ _ two
     ]
 
 led_sound : (whole a g : CoreForm) → IsWellFormedIn whole a → IsWellFormedIn whole g → IsWellFormedIn whole (led a g)
@@ -183,62 +155,52 @@ first_same view f given db same = same
 leads_parts : (a : CoreForm) (x : ℕ) (g : CoreForm) → leads a x g ≡ true
     → (is_atom a ≡ true) × (is_window (first_conjunct g) ≡ true)
 leads_parts a x g on =
-    let one = and_parts (is_atom a) (not (among x (fv (meaning a))) && shares_window a g) on in
-    let two = and_parts (not (among x (fv (meaning a)))) (shares_window a g) one.1 in
-    let three = and_parts (is_window (first_conjunct g))
-    (list_any (λ y. among y (fv (meaning a))) (fv (meaning (first_conjunct g)))) two.1 in (
-      one.0,
-      three.0,
-    )
+    let one = and_parts _ _ on in
+    (one.0, (and_parts _ _ (and_parts _ _ one.1).1).0)
 
 -- ---- the core
+
+-- what holds of a conjunction, and of the one whose denied EXISTS is asked for fewer rows, holds of the narrowed one
+by_leads : (P : CoreForm → Type 0) (f : CoreForm) (x : Bound) (g : CoreForm)
+    → (leads (first_conjunct f) x.number g ≡ true → P (And f (Not (Exists x (led (first_conjunct f) g)))))
+    → P (And f (Not (Exists x g))) → P (narrowed (And f (Not (Exists x g))))
+by_leads P f x g asked plain = by (leads (first_conjunct f) x.number g) refl
+  where
+    by : (b : Bool) → leads (first_conjunct f) x.number g ≡ b
+        → P (And f (Not (Exists x (cond b (led (first_conjunct f) g) g))))
+    by true on = asked on
+    by false off = plain
 
 pub same_narrowed : (view : View) (f : CoreForm) (given db : List Event) → SameNear view f given db
     → SameNear view (narrowed f) given db
 same_narrowed view (And f (Not (Exists x g))) given db same =
-    elim (cases_Bool (leads (first_conjunct f) x.number g)) [
-      | inl on ↦
-          subst (λ h. SameNear view (And f (Not (Exists x h))) given db)
-          (sym (cond-true (leads (first_conjunct f) x.number g) (led (first_conjunct f) g) g on))
-          (same.0, led_same view (first_conjunct f) g given db (first_same view f given db same.0) same.1)
-      | inr off ↦
-          subst (λ h. SameNear view (And f (Not (Exists x h))) given db)
-          (sym (cond-false (leads (first_conjunct f) x.number g) (led (first_conjunct f) g) g off)) same
-    ]
+    by_leads (λ k. SameNear view k given db) f x g
+    (λ on. (same.0, led_same view (first_conjunct f) g given db (first_same view f given db same.0) same.1)) same
 same_narrowed view f given db same = same
 
 pub sound_narrowed : (f : CoreForm) → IsWellFormedIn f f → IsWellFormedIn f (narrowed f)
 unfolding constants fault_in
 sound_narrowed (And f (Not (Exists x g))) sound =
     let whole : CoreForm = And f (Not (Exists x g)) in
-    elim (cases_Bool (leads (first_conjunct f) x.number g)) [
-      | inl on ↦
-          let asks = leads_parts (first_conjunct f) x.number g on in
-          subst (λ h. IsWellFormedIn whole (And f (Not (Exists x h))))
-          (sym (cond-true (leads (first_conjunct f) x.number g) (led (first_conjunct f) g) g on)) (
-            sound.0,
-            (
-              sound.1.0,
-              among_led (first_conjunct f) g x.number
-                  ∙ or_right (among x.number (fv (meaning (first_conjunct f)))) (among x.number (fv (meaning g)))
-                  sound.1.1,
-              (sound.1.2.0, led_whole sound.1.2.0 (first_conjunct f) g asks.0 asks.1 sound.1.2.1),
-              led_constants f g,
-              led_sound whole (first_conjunct f) g (first_sound whole f sound.0) sound.1.4,
-            ),
-          )
-      | inr off ↦
-          subst (λ h. IsWellFormedIn whole (And f (Not (Exists x h))))
-          (sym (cond-false (leads (first_conjunct f) x.number g) (led (first_conjunct f) g) g off)) sound
-    ]
+    by_leads (IsWellFormedIn whole) f x g
+    (λ on.
+    let asks = leads_parts (first_conjunct f) x.number g on in (
+      sound.0,
+      (
+        sound.1.0,
+        among_led (first_conjunct f) g x.number ∙ or_right _ _ sound.1.1,
+        (sound.1.2.0, led_whole sound.1.2.0 (first_conjunct f) g asks.0 asks.1 sound.1.2.1),
+        led_constants f g,
+        led_sound whole (first_conjunct f) g (first_sound whole f sound.0) sound.1.4,
+      ),
+    )) sound
 sound_narrowed f sound = sound
 
 first_bound : (f : CoreForm) (y : ℕ) → is_atom (first_conjunct f) ≡ true
     → among y (fv (meaning (first_conjunct f))) ≡ true → among y (bound_by f) ≡ true
 unfolding bound_by
 first_bound (And f g) y is m =
-    among_both y (bound_by f) (bound_by g)
-    ∙ or_left (among y (bound_by f)) (among y (bound_by g)) (first_bound f y is m)
+    among_both y (bound_by f) (bound_by g) ∙ or_left _ _ (first_bound f y is m)
 first_bound (Atom a) y is m = m
 first_bound f y is m = absurd (let clash : false ≡ true = is in cc)
 
@@ -248,26 +210,21 @@ asked_guarded : (names : Names) (f : CoreForm) (x : Bound) (g : CoreForm) → is
     → guards names (And f (Not (Exists x (led (first_conjunct f) g)))) ≡ None
 unfolding bound_by needed_by fv
 asked_guarded names f x g is guard =
+    let more = without x.number (fv (meaning g)) in
     guarded (And f (Not (Exists x (led (first_conjunct f) g)))) names
     (λ y m.
-    elim (or_cases (among y (needed_by f)) (among y (without x.number (fv (meaning (led (first_conjunct f) g)))))
+    elim (or_cases _ _
     (sym (among_both y (needed_by f) (without x.number (fv (meaning (led (first_conjunct f) g))))) ∙ m)) [
-      | inl own ↦
-          inside y (among_both y (needed_by f) (without x.number (fv (meaning g)))
-          ∙ or_left (among y (needed_by f)) (among y (without x.number (fv (meaning g)))) own)
+      | inl own ↦ inside y (among_both y (needed_by f) more ∙ or_left _ _ own)
       | inr denied ↦
           let parts = and_parts (not (nat_eq y x.number)) (among y (fv (meaning (led (first_conjunct f) g))))
           (sym (among_without y x.number (fv (meaning (led (first_conjunct f) g)))) ∙ denied) in
           elim (or_cases (among y (fv (meaning (first_conjunct f)))) (among y (fv (meaning g)))
           (sym (among_led (first_conjunct f) g y) ∙ parts.1)) [
-            | inl one ↦
-                among_both y (bound_by f) []
-                ∙ or_left (among y (bound_by f)) false (first_bound f y is one)
+            | inl one ↦ among_both y (bound_by f) [] ∙ or_left _ _ (first_bound f y is one)
             | inr two ↦
-                inside y (among_both y (needed_by f) (without x.number (fv (meaning g)))
-                ∙ or_right (among y (needed_by f)) (among y (without x.number (fv (meaning g))))
-                (among_without y x.number (fv (meaning g))
-                ∙ and_from (not (nat_eq y x.number)) (among y (fv (meaning g))) parts.0 two))
+                inside y (among_both y (needed_by f) more
+                ∙ or_right _ _ (among_without y x.number (fv (meaning g)) ∙ and_from _ _ parts.0 two))
           ]
     ])
   where
@@ -283,39 +240,21 @@ asked_accepted : (f : CoreForm) (x : Bound) (g : CoreForm) → leads (first_conj
     → Accepted role.Whole (And f (Not (Exists x (led (first_conjunct f) g))))
 unfolding bound_by fault_in needed_by fv
 asked_accepted f x g on a =
-    let names = a.0 in
     let asks = leads_parts (first_conjunct f) x.number g on in
-    let inner = with_name names x in
-    let left = no_first (fault_in names role.Part f)
-    (first (first (first (fault_in inner role.Whole g) (uses x g)) None) (guards names (And f (Not (Exists x g)))))
-    a.1 in
-    let rest = no_first (first (first (fault_in inner role.Whole g) (uses x g)) None)
-    (guards names (And f (Not (Exists x g)))) left.1 in
-    let quantified = no_first (first (fault_in inner role.Whole g) (uses x g)) None rest.0 in
-    let parts = no_first (fault_in inner role.Whole g) (uses x g) quantified.0 in
-    let under : CoreForm = led (first_conjunct f) g in (
-      names,
-      none_first (fault_in names role.Part f)
-          (first (first (first (fault_in inner role.Whole under) (uses x under)) None)
-          (guards names (And f (Not (Exists x under))))) left.0
-          (none_first (first (first (fault_in inner role.Whole under) (uses x under)) None)
-          (guards names (And f (Not (Exists x under))))
-          (none_first (first (fault_in inner role.Whole under) (uses x under)) None
-          (none_first (fault_in inner role.Whole under) (uses x under)
-          (led_whole inner (first_conjunct f) g asks.0 asks.1 parts.0)
+    let inner = with_name a.0 x in
+    let left = no_first _ _ a.1 in
+    let rest = no_first _ _ left.1 in
+    let parts = no_first _ _ (no_first _ _ rest.0).0 in (
+      a.0,
+      none_first _ _ left.0
+          (none_first _ _
+          (none_first _ _
+          (none_first _ _ (led_whole inner (first_conjunct f) g asks.0 asks.1 parts.0)
           (led_uses (first_conjunct f) x g (used_variable x g parts.1))) refl)
-          (asked_guarded names f x g asks.0 rest.1)),
+          (asked_guarded a.0 f x g asks.0 rest.1)),
     )
 
 pub narrowed_accepted : (f : CoreForm) → Accepted role.Whole f → Accepted role.Whole (narrowed f)
 narrowed_accepted (And f (Not (Exists x g))) a =
-    elim (cases_Bool (leads (first_conjunct f) x.number g)) [
-      | inl on ↦
-          subst (λ h. Accepted role.Whole (And f (Not (Exists x h))))
-          (sym (cond-true (leads (first_conjunct f) x.number g) (led (first_conjunct f) g) g on))
-          (asked_accepted f x g on a)
-      | inr off ↦
-          subst (λ h. Accepted role.Whole (And f (Not (Exists x h))))
-          (sym (cond-false (leads (first_conjunct f) x.number g) (led (first_conjunct f) g) g off)) a
-    ]
+    by_leads (Accepted role.Whole) f x g (λ on. asked_accepted f x g on a) a
 narrowed_accepted f a = a

@@ -1,10 +1,9 @@
 -- A core whose denied EXISTS is asked for fewer rows means what the core means.
-use Rattle.std.proofs.Common.{◌≡◌, ℕ, Bool, true, false, not, ◌&&◌, ◌||◌, cond, nat_eq, List, [], ◌∷◌, ◌++◌}
-use Rattle.std.proofs.Common.{filter, refl, sym, ap, ap₂, ◌∙◌, inl, inr}
-use Rattle.std.proofs.lemmas.Bool.{and_parts, cases_Bool, cond-false, cond-true, eqb-true, not-true}
-use Rattle.std.proofs.lemmas.Bool.{or_left, or_right}
+use Rattle.std.proofs.Common.{◌≡◌, ℕ, Bool, true, false, not, ◌&&◌, ◌||◌, cond, nat_eq, List, [], ◌∷◌, ◌++◌, filter}
+use Rattle.std.proofs.Common.{refl, sym, ap, ap₂, ◌∙◌, inl, inr}
+use Rattle.std.proofs.lemmas.Bool.{and_parts, cases_Bool, cond-false, eqb-true, not-true, or_left, or_right}
 use Rattle.std.proofs.lemmas.List.Elements.{filter-append}
-use Rattle.std.proofs.Math.Bool.{or_assoc, and_assoc}
+use Rattle.std.proofs.Math.Bool.{or_assoc, and-false, and_assoc}
 use Rattle.std.specs.List.{list_any}
 use Rattle.mfotl_model.proofs.LogicLemmas.{among_joined, funext, same_number}
 use Rattle.mfotl_model.proofs.VariableLemmas.{filter-filter}
@@ -16,7 +15,7 @@ use Rattle.mfotl_model.specs.declared.formula.Bound.{Bound}
 use Rattle.mfotl_model.specs.declared.value.Value.{Value}
 use Rattle.monitorable.proofs.Coincidence.{coincidence}
 use Rattle.monitorable.specs.CoreForms.{CoreForm, meaning, And, Exists, Not}
-use Rattle.monitor_state.specs.Nodes.{first_conjunct, is_atom, leads, led, narrowed, shares_window}
+use Rattle.monitor_state.specs.Nodes.{first_conjunct, leads, led, narrowed}
 
 -- ---- a conjunction with one more conjunct before the others
 
@@ -51,45 +50,33 @@ settled_led t i a g = refl
 first_holds : (log : List TimePoint) (dom : List Value) (v : Valuation) (i : ℕ) (f : CoreForm)
     → sat log dom v i (meaning f) ≡ true → sat log dom v i (meaning (first_conjunct f)) ≡ true
 unfolding sat
-first_holds log dom v i (And f g) h =
-    first_holds log dom v i f (and_parts (sat log dom v i (meaning f)) (sat log dom v i (meaning g)) h).0
+first_holds log dom v i (And f g) h = first_holds log dom v i f (and_parts _ _ h).0
 first_holds log dom v i f h = h
 
 first_settled : (t : List ℕ) (i : ℕ) (f : CoreForm) → settled t (meaning f) i ≡ true
     → settled t (meaning (first_conjunct f)) i ≡ true
 unfolding settled
-first_settled t i (And f g) h =
-    first_settled t i f (and_parts (settled t (meaning f) i) (settled t (meaning g) i) h).0
+first_settled t i (And f g) h = first_settled t i f (and_parts _ _ h).0
 first_settled t i f h = h
 
 pub first_free : (f : CoreForm) (y : ℕ) → among y (fv (meaning (first_conjunct f))) ≡ true
     → among y (fv (meaning f)) ≡ true
 unfolding fv
-first_free (And f g) y m =
-    among_joined y (fv (meaning f)) (fv (meaning g))
-    ∙ or_left (among y (fv (meaning f))) (among y (fv (meaning g))) (first_free f y m)
+first_free (And f g) y m = among_joined y (fv (meaning f)) (fv (meaning g)) ∙ or_left _ _ (first_free f y m)
 first_free f y m = m
 
 -- ---- filters of variables
 
 filter_pair : (p r s : ℕ → Bool) (xs : List ℕ) → ((y : ℕ) → p y ≡ true → r y ≡ s y)
     → filter p (filter r xs) ≡ filter p (filter s xs)
-filter_pair p r s [] same = refl
-filter_pair p r s (y ∷ ys) same = by (p y) refl (r y) (s y) (same y) (filter_pair p r s ys same)
+filter_pair p r s xs same =
+    filter-filter p r (λ y. r y && p y) (λ y. refl) xs
+    ∙ ap (λ q. filter q xs) (funext (λ y. r y && p y) (λ y. s y && p y) (λ y. by (p y) (r y) (s y) (same y)))
+    ∙ sym (filter-filter p s (λ y. s y && p y) (λ y. refl) xs)
   where
-    by : (b : Bool) → p y ≡ b → (c d : Bool) → (p y ≡ true → c ≡ d)
-        → filter p (filter r ys) ≡ filter p (filter s ys)
-        → filter p (cond c (y ∷ filter r ys) (filter r ys)) ≡ filter p (cond d (y ∷ filter s ys) (filter s ys))
-    by true is true true alike rest = ap (λ zs. cond (p y) (y ∷ zs) zs) rest
-    by true is false false alike rest = rest
-    by true is true false alike rest = absurd (let clash : true ≡ false = alike is in cc)
-    by true is false true alike rest = absurd (let clash : false ≡ true = alike is in cc)
-    by false is true true alike rest = ap (λ zs. cond (p y) (y ∷ zs) zs) rest
-    by false is false false alike rest = rest
-    by false is true false alike rest =
-        ap (λ b. cond b (y ∷ filter p (filter r ys)) (filter p (filter r ys))) is ∙ rest
-    by false is false true alike rest =
-        rest ∙ sym (ap (λ b. cond b (y ∷ filter p (filter s ys)) (filter p (filter s ys))) is)
+    by : (b c d : Bool) → (b ≡ true → c ≡ d) → (c && b) ≡ (d && b)
+    by true c d alike = ap (λ e. e && true) (alike refl)
+    by false c d alike = and-false c ∙ sym (and-false d)
 
 all_stay : (xs : List ℕ) → filter (λ y. true) xs ≡ xs
 all_stay [] = refl
@@ -98,8 +85,8 @@ all_stay (x ∷ xs) = ap (λ ys. x ∷ ys) (all_stay xs)
 none_stay : (p : ℕ → Bool) (xs : List ℕ) → ((y : ℕ) → among y xs ≡ true → p y ≡ false) → filter p xs ≡ []
 none_stay p [] none = refl
 none_stay p (x ∷ xs) none =
-    ap (λ b. cond b (x ∷ filter p xs) (filter p xs)) (none x (or_left (nat_eq x x) (among x xs) (same_number x)))
-    ∙ none_stay p xs (λ y m. none y (or_right (nat_eq y x) (among y xs) m))
+    ap (λ b. cond b (x ∷ filter p xs) (filter p xs)) (none x (or_left _ _ (same_number x)))
+    ∙ none_stay p xs (λ y m. none y (or_right _ _ m))
 
 module _ (p : ℕ → Bool) (a : CoreForm) (none : (y : ℕ) → p y ≡ true → among y (fv (meaning a)) ≡ false) where
   outside : (y : ℕ) → among y (fv (meaning a)) ≡ true → p y ≡ false
@@ -130,10 +117,7 @@ module _ (p : ℕ → Bool) (a : CoreForm) (none : (y : ℕ) → p y ≡ true �
 module _ (f : CoreForm) (x : Bound) (g : CoreForm) (on : leads (first_conjunct f) x.number g ≡ true) where
   free : among x.number (fv (meaning (first_conjunct f))) ≡ false
   free =
-      not-true (among x.number (fv (meaning (first_conjunct f))))
-      (and_parts (not (among x.number (fv (meaning (first_conjunct f))))) (shares_window (first_conjunct f) g)
-      (and_parts (is_atom (first_conjunct f))
-      (not (among x.number (fv (meaning (first_conjunct f)))) && shares_window (first_conjunct f) g) on).1).0
+      not-true (among x.number (fv (meaning (first_conjunct f)))) (and_parts _ _ (and_parts _ _ on).1).0
 
   other : (v : Valuation) (a : Value) (y : ℕ) → among y (fv (meaning (first_conjunct f))) ≡ true
       → with_value v x.number a y ≡ v y
@@ -205,43 +189,30 @@ module _ (f : CoreForm) (x : Bound) (g : CoreForm) (on : leads (first_conjunct f
 
 -- ---- the core
 
+-- what is the same of a conjunction and of the one whose denied EXISTS is asked for fewer rows
+same_of_narrowed : {A : Type 0} (of : CoreForm → A) (f : CoreForm) (x : Bound) (g : CoreForm)
+    → (leads (first_conjunct f) x.number g ≡ true
+    → of (And f (Not (Exists x (led (first_conjunct f) g)))) ≡ of (And f (Not (Exists x g))))
+    → of (narrowed (And f (Not (Exists x g)))) ≡ of (And f (Not (Exists x g)))
+same_of_narrowed of f x g asked = by (leads (first_conjunct f) x.number g) refl
+  where
+    by : (b : Bool) → leads (first_conjunct f) x.number g ≡ b
+        → of (And f (Not (Exists x (cond b (led (first_conjunct f) g) g)))) ≡ of (And f (Not (Exists x g)))
+    by true on = asked on
+    by false off = refl
+
 pub sat_narrowed : (log : List TimePoint) (dom : List Value) (v : Valuation) (i : ℕ) (f : CoreForm)
     → sat log dom v i (meaning (narrowed f)) ≡ sat log dom v i (meaning f)
 sat_narrowed log dom v i (And f (Not (Exists x g))) =
-    elim (cases_Bool (leads (first_conjunct f) x.number g)) [
-      | inl on ↦
-          ap (λ h. sat log dom v i (meaning (And f (Not (Exists x h)))))
-          (cond-true (leads (first_conjunct f) x.number g) (led (first_conjunct f) g) g on)
-          ∙ sat_asked f x g on log dom v i
-      | inr off ↦
-          ap (λ h. sat log dom v i (meaning (And f (Not (Exists x h)))))
-          (cond-false (leads (first_conjunct f) x.number g) (led (first_conjunct f) g) g off)
-    ]
+    same_of_narrowed (λ k. sat log dom v i (meaning k)) f x g (λ on. sat_asked f x g on log dom v i)
 sat_narrowed log dom v i f = refl
 
 pub settled_narrowed : (t : List ℕ) (i : ℕ) (f : CoreForm)
     → settled t (meaning (narrowed f)) i ≡ settled t (meaning f) i
 settled_narrowed t i (And f (Not (Exists x g))) =
-    elim (cases_Bool (leads (first_conjunct f) x.number g)) [
-      | inl on ↦
-          ap (λ h. settled t (meaning (And f (Not (Exists x h)))) i)
-          (cond-true (leads (first_conjunct f) x.number g) (led (first_conjunct f) g) g on)
-          ∙ settled_asked f x g on t i
-      | inr off ↦
-          ap (λ h. settled t (meaning (And f (Not (Exists x h)))) i)
-          (cond-false (leads (first_conjunct f) x.number g) (led (first_conjunct f) g) g off)
-    ]
+    same_of_narrowed (λ k. settled t (meaning k) i) f x g (λ on. settled_asked f x g on t i)
 settled_narrowed t i f = refl
 
 pub fv_narrowed : (f : CoreForm) → fv (meaning (narrowed f)) ≡ fv (meaning f)
-fv_narrowed (And f (Not (Exists x g))) =
-    elim (cases_Bool (leads (first_conjunct f) x.number g)) [
-      | inl on ↦
-          ap (λ h. fv (meaning (And f (Not (Exists x h)))))
-          (cond-true (leads (first_conjunct f) x.number g) (led (first_conjunct f) g) g on)
-          ∙ fv_asked f x g on
-      | inr off ↦
-          ap (λ h. fv (meaning (And f (Not (Exists x h)))))
-          (cond-false (leads (first_conjunct f) x.number g) (led (first_conjunct f) g) g off)
-    ]
+fv_narrowed (And f (Not (Exists x g))) = same_of_narrowed (λ k. fv (meaning k)) f x g (λ on. fv_asked f x g on)
 fv_narrowed f = refl

@@ -1,6 +1,5 @@
 -- Tables with their columns in another order.
-use Rattle.std.proofs.Common.{Result, Ok, Err, IfOk, OnOk, Option, Some, option_to_list, ◌≡◌}
-use Rattle.std.proofs.Common.{List, ◌∷◌, ◌++◌, ap, ◌∙◌}
+use Rattle.std.proofs.Common.{Result, Ok, Err, IfOk, OnOk, Option, Some, option_to_list, ◌≡◌, List, ◌∷◌, ◌++◌, ap, ◌∙◌}
 
 -- what follows from two facts of a value that a result has
 pub ok_two : {X E : Type 0} (r : Result X E) (P Q R : X → Type 0) → ((x : X) → P x → Q x → R x) → IfOk r P → IfOk r Q

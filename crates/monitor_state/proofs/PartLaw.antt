@@ -1,5 +1,5 @@
 -- A state stands for each part of its region.
-use Rattle.std.proofs.Common.{ℕ, ◌+◌, List, [], ◌∷◌}
+use Rattle.std.proofs.Common.{ℕ, ◌+◌, ◌-◌, List, [], ◌∷◌}
 use Rattle.mfotl_model.specs.Exact.{AllExact, Exact, View}
 use Rattle.mfotl_model.specs.Formulas.{Form}
 use Rattle.mfotl_model.specs.FreeVariables.{fv}
@@ -30,8 +30,7 @@ module _ (view : View) (small : Region) (part : IsSubregion small view.near) whe
       → TablesStand (seen_in view small) p fs tss
   lists_part p [] [] all = tt
   lists_part p (f ∷ fs) (ts ∷ tss) all = (all.0, all_part (meaning f) p ts all.1, lists_part p fs tss all.2)
-  lists_part p [] (ts ∷ tss) all = absurd all
-  lists_part p (f ∷ fs) [] all = absurd all
+  lists_part p fs tss all = absurd assumption
 
   since_part : (p : ℕ) (i : Interval) (f g : CoreForm) (s : SinceData) → SinceDataStands view p i f g s
       → SinceDataStands (seen_in view small) p i f g s
@@ -81,26 +80,13 @@ module _ (view : View) (small : Region) (part : IsSubregion small view.near) whe
         behind = window_part _ (left_operand g) w stands.behind;
       }
   node_part (Or f g) (kept.Or s) stands =
-      record {
-        pulled = stands.pulled;
-        left_pushed = stands.left_pushed;
-        right_pushed = stands.right_pushed;
-        lefts = all_part (meaning f) s.pulled s.lefts.items stands.lefts;
-        rights = all_part (meaning g) s.pulled s.rights.items stands.rights;
-      }
+      let lefts = all_part (meaning f) s.pulled s.lefts.items stands.lefts in
+      let rights = all_part (meaning g) s.pulled s.rights.items stands.rights in
+      assumption
   node_part (Previous i f) (kept.Previous s) stands =
-      record {
-        pulled = stands.pulled;
-        pushed = stands.pushed;
-        tables = all_part (meaning f) _ s.tables.items stands.tables;
-      }
+      let tables = all_part (meaning f) (s.pulled - 1) s.tables.items stands.tables in assumption
   node_part (Next i f) (kept.Next s) stands =
-      record {
-        pulled = stands.pulled;
-        pushed = stands.pushed;
-        bare = stands.bare;
-        tables = all_part (meaning f) _ s.tables.items stands.tables;
-      }
+      let tables = all_part (meaning f) (s.pulled + 1) s.tables.items stands.tables in assumption
   node_part (Since i f g) (kept.Window w) stands = window_part _ (Since i f g) w stands
   node_part (Until i f g) (kept.Window w) stands = window_part _ (Until i f g) w stands
   node_part f n stands = absurd stands
@@ -109,8 +95,7 @@ module _ (view : View) (small : Region) (part : IsSubregion small view.near) whe
       → NodesDataStand (seen_in view small) fs ns
   nodes_part [] [] all = tt
   nodes_part (f ∷ fs) (n ∷ ns) all = (node_part f n all.0, nodes_part fs ns all.1)
-  nodes_part [] (n ∷ ns) all = absurd all
-  nodes_part (f ∷ fs) [] all = absurd all
+  nodes_part fs ns all = absurd assumption
 
 pub part_stands : PartStands
 part_stands view core small s part stands =

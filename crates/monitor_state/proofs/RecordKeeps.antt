@@ -1,29 +1,22 @@
 -- The nodes' data keeps the rule, where the nodes stand for a log.
-use Rattle.std.proofs.Common.{◌≡◌, ℕ, ◌+◌, ◌-◌, ◌≤◌, Bool, true, min, List, [], ◌∷◌, length, map, drop, sym}
-use Rattle.std.proofs.Common.{subst, ap, ◌∙◌, arith}
+use Rattle.std.proofs.Common.{◌≡◌, ℕ, ◌+◌, ◌-◌, ◌≤◌, Bool, true, min, List, [], ◌∷◌, length, map, drop, sym, ap, ◌∙◌}
+use Rattle.std.proofs.Common.{arith}
 use Rattle.std.specs.List.{AllByRecursion}
 use Rattle.mfotl_model.specs.Exact.{AllExact, View}
 use Rattle.mfotl_model.specs.FreeVariables.{fv}
 use Rattle.mfotl_model.specs.Formulas.{Form}
 use Rattle.mfotl_model.specs.Log.{times}
 use Rattle.mfotl_model.specs.Tables.{TableOf}
-use Rattle.mfotl_model.specs.declared.term.Atom.{Atom as OneAtom}
 use Rattle.eval_bool.proofs.ChildLemmas.{Alike}
 use Rattle.eval_bool.proofs.RefillLemmas.{rule_alike}
-use Rattle.eval_bool.specs.BoolData.{JoinRule, OrRule}
+use Rattle.eval_bool.specs.BoolData.{JoinRule}
 use Rattle.eval_bool.specs.JoinView.{ChildOf, JoinOf, children_of}
-use Rattle.eval_bool.specs.OrView.{OrOf}
 use Rattle.eval_bool.specs.declared.recalled.JoinData.{JoinData}
-use Rattle.eval_since.specs.PreviousData.{PreviousRule}
 use Rattle.eval_since.specs.PreviousView.{PrevOf}
-use Rattle.eval_since.specs.SinceView.{SinceOf}
-use Rattle.eval_until.specs.NextData.{NextRule}
 use Rattle.eval_until.specs.NextView.{NextOf}
-use Rattle.eval_until.specs.UntilView.{UntilOf}
 use Rattle.monitorable.specs.Conjuncts.{conjuncts_of}
 use Rattle.monitorable.specs.CoreForms.{CoreForm, meaning, True, False, Atom, Compare, Not, And, Or, Exists, Previous}
-use Rattle.monitorable.specs.CoreForms.{Next, Since}
-use Rattle.monitorable.specs.CoreForms.{Until}
+use Rattle.monitorable.specs.CoreForms.{Next, Since, Until}
 use Rattle.relations.specs.Pushed.{AreOver}
 use Rattle.monitor_state.proofs.MarkLemmas.{dropped_behind}
 use Rattle.monitor_state.proofs.RecordRules.{since_keeps, until_keeps}
@@ -36,7 +29,6 @@ use Rattle.monitor_state.specs.StateRules.{JoinKeeps, NodeKeeps, NodesKeep, Wind
 use Rattle.monitor_state.specs.StateTimes.{KeptTimes, earliest, node_asks, times_from, window_asks}
 use Rattle.monitor_state.specs.Views.{reached}
 use Rattle.monitor_state.specs.WindowNode.{IsWindow, WindowStands}
-use Rattle.monitor_state.specs.declared.filter.FilterState.{FilterState}
 use Rattle.monitor_state.specs.declared.node.Node.{Node}
 use Rattle.monitor_state.specs.declared.node.Node.TheVariants as node
 use Rattle.monitor_state.specs.declared.state.NodeData.{NodeData}
@@ -83,110 +75,43 @@ window_keeps view k p (Since i f g) (window.Since s) (data_of.Since d) reach is 
     since_keeps view k p i f g s d reach.stamps reach.first is stands rec
 window_keeps view k p (Until i f g) (window.Until s) (data_of.Until d) reach is stands rec =
     until_keeps view k p i f g s d reach.stamps reach.first is stands rec
-window_keeps view k p (Since i f g) (window.Since s) (data_of.Until d) reach is stands rec = absurd rec
-window_keeps view k p (Until i f g) (window.Until s) (data_of.Since d) reach is stands rec = absurd rec
-window_keeps view k p w s d reach is stands rec = absurd is
+window_keeps view k p w s d reach is stands rec = absurd assumption
 
-keeps_filter : (view : View) (k : KeptTimes) (f : CoreForm) (s : FilterState) (d : NodeData)
-    → Reach view k (node_asks k.first d) → IsNodeFor f (node.Filter s) → NodeStands view f (node.Filter s)
-    → NodeRecorded (node.Filter s) d → NodeKeeps k f d
-keeps_filter view k (And f g) s (kept.Filter tables w) reach is stands rec = (
+node_keeps : (view : View) (k : KeptTimes) (f : CoreForm) (n : Node) (d : NodeData)
+    → Reach view k (node_asks k.first d) → IsNodeFor f n → NodeStands view f n → NodeRecorded n d → NodeKeeps k f d
+node_keeps view k (Not f) (node.Join s) (kept.Join d) reach is stands rec = join_keeps (Not f) s d is rec.1
+node_keeps view k (And f g) (node.Join s) (kept.Join d) reach is stands rec = join_keeps (And f g) s d is rec.1
+node_keeps view k (And f g) (node.Filter s) (kept.Filter tables w) reach is stands rec = (
   is.only,
-  exact_over view (meaning f) (reached view (And f g)) tables.items
-      (subst (AllExact view (meaning f) (reached view (And f g))) (sym rec.0) stands.exact),
+  exact_over view (meaning f) (reached view (And f g)) tables.items (rw rec.0 stands.exact),
   window_keeps view k (reached view (And f g)) (left_operand g) s.window w reach is.asks stands.behind rec.1,
 )
-keeps_filter view k (And f g) s d reach is stands rec = absurd rec
-keeps_filter view k f s d reach is stands rec = absurd is
-
-keeps_join : (k : KeptTimes) (f : CoreForm) (s : JoinOf) (d : NodeData) → IsNodeFor f (node.Join s)
-    → NodeRecorded (node.Join s) d → NodeKeeps k f d
-keeps_join k (Not f) s (kept.Join d) is rec = join_keeps (Not f) s d is rec.1
-keeps_join k (And f g) s (kept.Join d) is rec = join_keeps (And f g) s d is rec.1
-keeps_join k (Not f) s d is rec = absurd rec
-keeps_join k (And f g) s d is rec = absurd rec
-keeps_join k f s d is rec = absurd is
-
-keeps_or : (k : KeptTimes) (f : CoreForm) (s : OrOf) (d : NodeData) → IsNodeFor f (node.Or s)
-    → NodeRecorded (node.Or s) d
-    → NodeKeeps k f d
-keeps_or k (Or f g) s (kept.Or d) is rec =
-    subst (λ cols. OrRule cols (fv (meaning g)) d) is.columns (subst (λ cols. OrRule s.left cols d) is.right rec.1)
-keeps_or k (Or f g) s d is rec = absurd rec
-keeps_or k f s d is rec = absurd is
-
-keeps_previous : (view : View) (k : KeptTimes) (f : CoreForm) (s : PrevOf) (d : NodeData)
-    → Reach view k (node_asks k.first d) → IsNodeFor f (node.Previous s) → NodeStands view f (node.Previous s)
-    → NodeRecorded (node.Previous s) d → NodeKeeps k f d
-keeps_previous view k (Previous i f) s (kept.Previous d) reach is stands rec =
+node_keeps view k (Or f g) (node.Or s) (kept.Or d) reach is stands rec = rw (← is.columns, ← is.right) rec.1
+node_keeps view k (Previous i f) (node.Previous s) (kept.Previous d) reach is stands rec =
     let same : d.pulled ≡ s.pulled = ap (λ (x : PrevOf). x.pulled) rec.0 in
     let low : k.first ≤ d.pulled - 1 = reach.first in
     let next : s.times ≡ times_from k d.pulled =
     stamps_rest s.pulled s.last s.times (times view.log) stands.known ∙ ap (λ n. drop n (times view.log)) (sym same)
     ∙ sym (dropped_behind k.first d.pulled (times view.log) k.stamps reach.stamps (omega arith)) in
-    subst (λ ts. PreviousRule (fv (meaning f)) ts d) next
-    (subst (λ cols. PreviousRule cols s.times d) is.columns rec.1)
-keeps_previous view k (Previous i f) s d reach is stands rec = absurd rec
-keeps_previous view k f s d reach is stands rec = absurd is
-
-keeps_next : (view : View) (k : KeptTimes) (f : CoreForm) (s : NextOf) (d : NodeData)
-    → Reach view k (node_asks k.first d) → IsNodeFor f (node.Next s) → NodeStands view f (node.Next s)
-    → NodeRecorded (node.Next s) d → NodeKeeps k f d
-keeps_next view k (Next i f) s (kept.Next d) reach is stands rec =
+    rw (← next, ← is.columns) rec.1
+node_keeps view k (Next i f) (node.Next s) (kept.Next d) reach is stands rec =
     let same : d.pulled ≡ s.pulled = ap (λ (x : NextOf). x.pulled) rec.0 in
     let next : s.times ≡ times_from k d.pulled =
     stands.kept ∙ ap (λ n. drop n (times view.log)) (sym same)
     ∙ sym (dropped_behind k.first d.pulled (times view.log) k.stamps reach.stamps reach.first) in
-    subst (λ ts. NextRule (fv (meaning f)) ts d) next (subst (λ cols. NextRule cols s.times d) is.columns rec.1)
-keeps_next view k (Next i f) s d reach is stands rec = absurd rec
-keeps_next view k f s d reach is stands rec = absurd is
-
-keeps_since : (view : View) (k : KeptTimes) (f : CoreForm) (s : SinceOf) (order : TableOf) (d : NodeData)
-    → Reach view k (node_asks k.first d) → IsNodeFor f (node.Since s order) → NodeStands view f (node.Since s order)
-    → NodeRecorded (node.Since s order) d → NodeKeeps k f d
-keeps_since view k (Since i f g) s order (kept.Window w) reach is stands rec =
+    rw (← next, ← is.columns) rec.1
+node_keeps view k (Since i f g) (node.Since s order) (kept.Window w) reach is stands rec =
     window_keeps view k (reached view (Since i f g)) (Since i f g) (window.Since s) w reach is.state stands rec
-keeps_since view k (Since i f g) s order d reach is stands rec = absurd rec
-keeps_since view k f s order d reach is stands rec = absurd is
-
-keeps_until : (view : View) (k : KeptTimes) (f : CoreForm) (s : UntilOf) (order : TableOf) (d : NodeData)
-    → Reach view k (node_asks k.first d) → IsNodeFor f (node.Until s order) → NodeStands view f (node.Until s order)
-    → NodeRecorded (node.Until s order) d → NodeKeeps k f d
-keeps_until view k (Until i f g) s order (kept.Window w) reach is stands rec =
+node_keeps view k (Until i f g) (node.Until s order) (kept.Window w) reach is stands rec =
     window_keeps view k (reached view (Until i f g)) (Until i f g) (window.Until s) w reach is.state stands.at rec
-keeps_until view k (Until i f g) s order d reach is stands rec = absurd rec
-keeps_until view k f s order d reach is stands rec = absurd is
-
-keeps_constant : (k : KeptTimes) (f : CoreForm) (table : TableOf) → IsNodeFor f (node.Constant table)
-    → NodeKeeps k f kept.Bare
-keeps_constant k True table is = tt
-keeps_constant k False table is = tt
-keeps_constant k (Compare c) table is = tt
-keeps_constant k (Not f) table is = is.alone
-keeps_constant k (And f g) table is = is.alone
-keeps_constant k f table is = absurd is
-
-keeps_atom : (k : KeptTimes) (f : CoreForm) (a : OneAtom) → IsNodeFor f (node.Atom a) → NodeKeeps k f kept.Bare
-keeps_atom k (Atom b) a is = tt
-keeps_atom k f a is = absurd is
-
-keeps_exists : (k : KeptTimes) (f : CoreForm) (x : ℕ) → IsNodeFor f (node.Exists x) → NodeKeeps k f kept.Bare
-keeps_exists k (Exists y f) x is = tt
-keeps_exists k f x is = absurd is
-
-node_keeps : (view : View) (k : KeptTimes) (f : CoreForm) (n : Node) (d : NodeData)
-    → Reach view k (node_asks k.first d) → IsNodeFor f n → NodeStands view f n → NodeRecorded n d → NodeKeeps k f d
-node_keeps view k f (node.Join s) d reach is stands rec = keeps_join k f s d is rec
-node_keeps view k f (node.Filter s) d reach is stands rec = keeps_filter view k f s d reach is stands rec
-node_keeps view k f (node.Or s) d reach is stands rec = keeps_or k f s d is rec
-node_keeps view k f (node.Previous s) d reach is stands rec = keeps_previous view k f s d reach is stands rec
-node_keeps view k f (node.Next s) d reach is stands rec = keeps_next view k f s d reach is stands rec
-node_keeps view k f (node.Since s order) d reach is stands rec = keeps_since view k f s order d reach is stands rec
-node_keeps view k f (node.Until s order) d reach is stands rec = keeps_until view k f s order d reach is stands rec
-node_keeps view k f (node.Constant table) kept.Bare reach is stands rec = keeps_constant k f table is
-node_keeps view k f (node.Atom a) kept.Bare reach is stands rec = keeps_atom k f a is
-node_keeps view k f (node.Exists x) kept.Bare reach is stands rec = keeps_exists k f x is
-node_keeps view k f n d reach is stands rec = absurd rec
+node_keeps view k True (node.Constant table) kept.Bare reach is stands rec = tt
+node_keeps view k False (node.Constant table) kept.Bare reach is stands rec = tt
+node_keeps view k (Atom b) (node.Atom a) kept.Bare reach is stands rec = tt
+node_keeps view k (Compare c) (node.Constant table) kept.Bare reach is stands rec = tt
+node_keeps view k (Exists x f) (node.Exists y) kept.Bare reach is stands rec = tt
+node_keeps view k (Not f) (node.Constant table) kept.Bare reach is stands rec = is.alone
+node_keeps view k (And f g) (node.Constant table) kept.Bare reach is stands rec = is.alone
+node_keeps view k f n d reach is stands rec = absurd assumption
 
 -- the timestamps reach to what each of the nodes asks for
 abbrev pub AllReached : KeptTimes → List NodeData → Type 0
@@ -200,10 +125,7 @@ nodes_keep view k (f ∷ fs) (n ∷ ns) (d ∷ ds) are low stand rec = (
   node_keeps view k f n d (record { stamps = are; first = low.0 }) stand.0 stand.1 rec.0,
   nodes_keep view k fs ns ds are low.1 stand.2 rec.1,
 )
-nodes_keep view k [] (n ∷ ns) ds are low stand rec = absurd stand
-nodes_keep view k (f ∷ fs) [] ds are low stand rec = absurd stand
-nodes_keep view k [] [] (d ∷ ds) are low stand rec = absurd rec
-nodes_keep view k (f ∷ fs) (n ∷ ns) [] are low stand rec = absurd rec
+nodes_keep view k fs ns ds are low stand rec = absurd assumption
 
 -- ---- the earliest place of all
 

@@ -1,6 +1,6 @@
 -- The data of a state that stands for a log does.
-use Rattle.std.proofs.Common.{◌≡◌, ℕ, ◌+◌, ◌-◌, ◌<◌, ◌≤◌, Bool, min, nat_le, List, []}
-use Rattle.std.proofs.Common.{length, map, sym, subst, ap, ap₂, ◌∙◌, arith, slice_index}
+use Rattle.std.proofs.Common.{◌≡◌, ℕ, ◌+◌, ◌-◌, ◌<◌, ◌≤◌, Bool, min, nat_le, List, [], length, map, sym, subst, ap, ap₂}
+use Rattle.std.proofs.Common.{◌∙◌, arith, slice_index}
 use Rattle.std.specs.Option.{unwrap_or}
 use Rattle.mfotl_model.specs.Exact.{AllExact, View}
 use Rattle.mfotl_model.specs.FreeVariables.{fv}

@@ -1,27 +1,22 @@
 -- The nodes' data, where the nodes stand for a log.
-use Rattle.std.proofs.Common.{◌≡◌, ℕ, ◌+◌, ◌-◌, ◌≤◌, true, List, [], ◌∷◌, ◌++◌, length, sym, subst, ap, ◌∙◌}
-use Rattle.mfotl_model.specs.Exact.{AllExact, View}
+use Rattle.std.proofs.Common.{◌≡◌, ℕ, ◌+◌, ◌≤◌, true, List, [], ◌∷◌, ◌++◌, length, sym, subst, ap, ◌∙◌}
+use Rattle.mfotl_model.specs.Exact.{View}
 use Rattle.mfotl_model.specs.Tables.{TableOf}
 use Rattle.eval_bool.specs.BoolData.{JoinRule, TablesOver, join_of, kept_tables, with_tables}
 use Rattle.eval_bool.specs.JoinView.{ChildOf, JoinOf}
-use Rattle.eval_bool.specs.OrView.{OrOf}
 use Rattle.eval_bool.specs.declared.recalled.JoinData.{JoinData}
-use Rattle.eval_since.specs.PreviousView.{PrevOf}
-use Rattle.eval_since.specs.SinceView.{SinceOf}
-use Rattle.eval_until.specs.NextView.{NextOf, tables_pushed}
-use Rattle.eval_until.specs.UntilView.{UntilOf}
-use Rattle.monitorable.specs.CoreForms.{CoreForm, meaning, Not, And, Or, Previous, Next, Since, Until}
+use Rattle.monitorable.specs.CoreForms.{CoreForm, Not, And, Or, Previous, Next, Since, Until}
 use Rattle.monitor_state.proofs.ExactLemmas.{reached_within}
 use Rattle.monitor_state.proofs.RecordLemmas.{since_recorded, until_recorded}
 use Rattle.monitor_state.proofs.UntilSteps.{until_all_taken}
 use Rattle.monitor_state.specs.Nodes.{left_operand, operands}
 use Rattle.monitor_state.specs.Recording.{NodeRecorded, NodesRecorded, WindowRecorded}
-use Rattle.monitor_state.specs.Stands.{ChildrenStand, IsNodeFor, JoinStands, NodeStands, NodesStand}
+use Rattle.monitor_state.specs.Stands.{ChildrenStand, IsNodeFor, JoinStands, NextStands, NodeStands, NodesStand}
+use Rattle.monitor_state.specs.Stands.{OrStands, PreviousStands}
 use Rattle.monitor_state.specs.StateStands.{JoinDataStands, NodeDataStands, NodesDataStand, TablesStand}
 use Rattle.monitor_state.specs.StateStands.{WindowDataStands}
 use Rattle.monitor_state.specs.Views.{reached}
 use Rattle.monitor_state.specs.WindowNode.{IsWindow, WindowStands, window_took_all}
-use Rattle.monitor_state.specs.declared.filter.FilterState.{FilterState}
 use Rattle.monitor_state.specs.declared.node.Node.{Node}
 use Rattle.monitor_state.specs.declared.node.Node.TheVariants as node
 use Rattle.monitor_state.specs.declared.state.NodeData.{NodeData}
@@ -38,9 +33,7 @@ window_recorded view p (Since i f g) (window.Since s) (data_of.Since k) inside a
     since_recorded view p i f g s k is stands rec
 window_recorded view p (Until i f g) (window.Until s) (data_of.Until k) inside all is stands rec =
     until_recorded view p i f g s k is stands (until_all_taken view p i f g s stands all inside) rec
-window_recorded view p (Since i f g) (window.Since s) (data_of.Until k) inside all is stands rec = absurd rec
-window_recorded view p (Until i f g) (window.Until s) (data_of.Since k) inside all is stands rec = absurd rec
-window_recorded view p w s k inside all is stands rec = absurd is
+window_recorded view p w s k inside all is stands rec = absurd assumption
 
 -- the tables that the data has for the children stand as the children with them do
 pub tables_stand : (view : View) (p : ℕ) (fs : List CoreForm) (cs : List ChildOf) (tss : List (List TableOf))
@@ -63,113 +56,45 @@ join_recorded view f s k stands same rule =
           (subst (λ (x : JoinOf). ChildrenStand view x.pulled (operands f) x.children) (sym same) stands.children);
     }
 
-node_join : (view : View) (f : CoreForm) (s : JoinOf) (k : NodeData) → IsNodeFor f (node.Join s)
-    → NodeStands view f (node.Join s) → NodeRecorded (node.Join s) k → NodeDataStands view f k
-node_join view (Not f) s (kept.Join k) is stands rec = join_recorded view (Not f) s k stands rec.0 rec.1
-node_join view (And f g) s (kept.Join k) is stands rec = join_recorded view (And f g) s k stands rec.0 rec.1
-node_join view (Not f) s k is stands rec = absurd rec
-node_join view (And f g) s k is stands rec = absurd rec
-node_join view f s k is stands rec = absurd is
-
-node_or : (view : View) (f : CoreForm) (s : OrOf) (k : NodeData) → IsNodeFor f (node.Or s)
-    → NodeStands view f (node.Or s) → NodeRecorded (node.Or s) k → NodeDataStands view f k
-node_or view (Or f g) s (kept.Or k) is stands rec =
+-- a node's data stands where the node does
+pub node_recorded : (view : View) (f : CoreForm) (n : Node) (k : NodeData) → IsNodeFor f n → NodeStands view f n
+    → NodeRecorded n k → NodeDataStands view f k
+node_recorded view f (node.Constant table) kept.Bare is stands rec = tt
+node_recorded view f (node.Atom a) kept.Bare is stands rec = tt
+node_recorded view f (node.Exists x) kept.Bare is stands rec = tt
+node_recorded view (Not f) (node.Join s) (kept.Join k) is stands rec = join_recorded view (Not f) s k stands rec.0 rec.1
+node_recorded view (And f g) (node.Join s) (kept.Join k) is stands rec =
+    join_recorded view (And f g) s k stands rec.0 rec.1
+node_recorded view (And f g) (node.Filter s) (kept.Filter tables w) is stands rec =
     record {
-      pulled = ap (λ (x : OrOf). x.pulled) rec.0 ∙ stands.pulled;
-      left_pushed = ap (λ (x : OrOf). x.pulled + length x.lefts) rec.0 ∙ stands.left_pushed;
-      right_pushed = ap (λ (x : OrOf). x.pulled + length x.rights) rec.0 ∙ stands.right_pushed;
-      lefts = subst (λ (x : OrOf). AllExact view (meaning f) x.pulled x.lefts) (sym rec.0) stands.lefts;
-      rights = subst (λ (x : OrOf). AllExact view (meaning g) x.pulled x.rights) (sym rec.0) stands.rights;
-    }
-node_or view (Or f g) s k is stands rec = absurd rec
-node_or view f s k is stands rec = absurd is
-
-node_previous : (view : View) (f : CoreForm) (s : PrevOf) (k : NodeData) → IsNodeFor f (node.Previous s)
-    → NodeStands view f (node.Previous s) → NodeRecorded (node.Previous s) k → NodeDataStands view f k
-node_previous view (Previous i f) s (kept.Previous k) is stands rec =
-    record {
-      pulled = ap (λ (x : PrevOf). x.pulled) rec.0 ∙ stands.pulled;
-      pushed = ap (λ (x : PrevOf). x.pulled - 1 + length x.tables) rec.0 ∙ stands.pushed;
-      tables = subst (λ (x : PrevOf). AllExact view (meaning f) (x.pulled - 1) x.tables) (sym rec.0) stands.tables;
-    }
-node_previous view (Previous i f) s k is stands rec = absurd rec
-node_previous view f s k is stands rec = absurd is
-
-node_next : (view : View) (f : CoreForm) (s : NextOf) (k : NodeData) → IsNodeFor f (node.Next s)
-    → NodeStands view f (node.Next s) → NodeRecorded (node.Next s) k → NodeDataStands view f k
-node_next view (Next i f) s (kept.Next k) is stands rec =
-    record {
-      pulled = ap (λ (x : NextOf). x.pulled) rec.0 ∙ stands.pulled;
-      pushed = ap tables_pushed rec.0 ∙ stands.pushed;
-      bare = λ h.
-          let none = stands.bare (sym (ap (λ (x : NextOf). x.started) rec.0) ∙ h) in
-          (ap (λ (x : NextOf). x.pulled) rec.0 ∙ none.0, ap (λ (x : NextOf). length x.tables) rec.0 ∙ none.1);
-      tables = subst (λ (x : NextOf). AllExact view (meaning f) (x.pulled + 1) x.tables) (sym rec.0) stands.tables;
-    }
-node_next view (Next i f) s k is stands rec = absurd rec
-node_next view f s k is stands rec = absurd is
-
-node_since : (view : View) (f : CoreForm) (s : SinceOf) (order : TableOf) (k : NodeData)
-    → IsNodeFor f (node.Since s order)
-    → NodeStands view f (node.Since s order) → NodeRecorded (node.Since s order) k → NodeDataStands view f k
-node_since view (Since i f g) s order (kept.Window (data_of.Since k)) is stands rec =
-    since_recorded view (reached view (Since i f g)) i f g s k is.state stands rec
-node_since view (Since i f g) s order k is stands rec = absurd rec
-node_since view f s order k is stands rec = absurd is
-
-node_until : (view : View) (f : CoreForm) (s : UntilOf) (order : TableOf) (k : NodeData)
-    → IsNodeFor f (node.Until s order)
-    → NodeStands view f (node.Until s order) → NodeRecorded (node.Until s order) k → NodeDataStands view f k
-node_until view (Until i f g) s order (kept.Window (data_of.Until k)) is stands rec =
-    until_recorded view (reached view (Until i f g)) i f g s k is.state stands.at stands.taken rec
-node_until view (Until i f g) s order k is stands rec = absurd rec
-node_until view f s order k is stands rec = absurd is
-
-node_filter : (view : View) (f : CoreForm) (s : FilterState) (k : NodeData) → IsNodeFor f (node.Filter s)
-    → NodeStands view f (node.Filter s) → NodeRecorded (node.Filter s) k → NodeDataStands view f k
-node_filter view (And f g) s (kept.Filter tables w) is stands rec =
-    record {
-      pushed = ap (λ ts. reached view (And f g) + length ts) rec.0 ∙ stands.pushed;
-      exact = subst (AllExact view (meaning f) (reached view (And f g))) (sym rec.0) stands.exact;
+      pushed = rw rec.0 stands.pushed;
+      exact = rw rec.0 stands.exact;
       behind =
           window_recorded view (reached view (And f g)) (left_operand g) s.window w (reached_within view (And f g))
           stands.all is.asks stands.behind rec.1;
     }
-node_filter view (And f g) s k is stands rec = absurd rec
-node_filter view f s k is stands rec = absurd is
-
-bare_stands : (view : View) (f : CoreForm) → NodeDataStands view f kept.Bare
-bare_stands view f = tt
-
--- a node's data stands where the node does
-pub node_recorded : (view : View) (f : CoreForm) (n : Node) (k : NodeData) → IsNodeFor f n → NodeStands view f n
-    → NodeRecorded n k → NodeDataStands view f k
-node_recorded view f (node.Join s) k is stands rec = node_join view f s k is stands rec
-node_recorded view f (node.Filter s) k is stands rec = node_filter view f s k is stands rec
-node_recorded view f (node.Or s) k is stands rec = node_or view f s k is stands rec
-node_recorded view f (node.Previous s) k is stands rec = node_previous view f s k is stands rec
-node_recorded view f (node.Next s) k is stands rec = node_next view f s k is stands rec
-node_recorded view f (node.Since s order) k is stands rec = node_since view f s order k is stands rec
-node_recorded view f (node.Until s order) k is stands rec = node_until view f s order k is stands rec
-node_recorded view f (node.Constant table) kept.Bare is stands rec = bare_stands view f
-node_recorded view f (node.Atom a) kept.Bare is stands rec = bare_stands view f
-node_recorded view f (node.Exists x) kept.Bare is stands rec = bare_stands view f
-node_recorded view f n k is stands rec = absurd rec
+node_recorded view (Or f g) (node.Or s) (kept.Or k) is stands rec =
+    let same = subst (OrStands view f g) (sym rec.0) stands in assumption
+node_recorded view (Previous i f) (node.Previous s) (kept.Previous k) is stands rec =
+    let same = subst (PreviousStands view i f) (sym rec.0) stands in assumption
+node_recorded view (Next i f) (node.Next s) (kept.Next k) is stands rec =
+    let same = subst (NextStands view i f) (sym rec.0) stands in assumption
+node_recorded view (Since i f g) (node.Since s order) (kept.Window (data_of.Since k)) is stands rec =
+    since_recorded view (reached view (Since i f g)) i f g s k is.state stands rec
+node_recorded view (Until i f g) (node.Until s order) (kept.Window (data_of.Until k)) is stands rec =
+    until_recorded view (reached view (Until i f g)) i f g s k is.state stands.at stands.taken rec
+node_recorded view f n k is stands rec = absurd assumption
 
 pub nodes_recorded : (view : View) (fs : List CoreForm) (ns : List Node) (ks : List NodeData) → NodesStand view fs ns
     → NodesRecorded ns ks → NodesDataStand view fs ks
 nodes_recorded view [] [] [] stand rec = tt
 nodes_recorded view (f ∷ fs) (n ∷ ns) (k ∷ ks) stand rec =
     (node_recorded view f n k stand.0 stand.1 rec.0, nodes_recorded view fs ns ks stand.2 rec.1)
-nodes_recorded view [] (n ∷ ns) ks stand rec = absurd stand
-nodes_recorded view (f ∷ fs) [] ks stand rec = absurd stand
-nodes_recorded view [] [] (k ∷ ks) stand rec = absurd rec
-nodes_recorded view (f ∷ fs) (n ∷ ns) [] stand rec = absurd rec
+nodes_recorded view fs ns ks stand rec = absurd assumption
 
 -- one node more was recorded
 pub recorded_more : (n : Node) (k : NodeData) (ns : List Node) (ks : List NodeData) → NodesRecorded ns ks
     → NodeRecorded n k → NodesRecorded (ns ++ n ∷ []) (ks ++ k ∷ [])
 recorded_more n k [] [] all one = (one, tt)
 recorded_more n k (m ∷ ns) (j ∷ ks) all one = (all.0, recorded_more n k ns ks all.1 one)
-recorded_more n k [] (j ∷ ks) all one = absurd all
-recorded_more n k (m ∷ ns) [] all one = absurd all
+recorded_more n k ns ks all one = absurd assumption

@@ -71,13 +71,8 @@ rule_with setting k all (suc p) last rest kept at is low known rule =
 
 pub setting_is : (i : Interval) (f g : CoreForm) (s : SinceOf) → IsSinceState i f g s
     → setting_of s ≡ since_setting i f g
-setting_is i f g s is = λ j. record {
-  interval = is.interval j;
-  left = is.left j;
-  right = is.right j;
-  negated =
-      is.negated j;
-}
+setting_is i f g s is =
+    λ j. record { interval = is.interval j; left = is.left j; right = is.right j; negated = is.negated j }
 
 pub until_setting_is : (i : Interval) (f g : CoreForm) (s : UntilOf) → IsUntilState i f g s
     → until_setting_of s ≡ until_setting i f g

@@ -1,15 +1,13 @@
 -- The timestamps of a state's data are the log's from the earliest place on that a node asks for.
-use Rattle.std.proofs.Common.{◌≡◌, ℕ, ◌-◌, ◌<◌, ◌≤◌, Bool, true, false, cond, min}
-use Rattle.std.proofs.Common.{nat_lt, List, [], ◌∷◌, length, drop, refl, sym, ap, ◌∙◌, arith}
+use Rattle.std.proofs.Common.{◌≡◌, ℕ, ◌-◌, ◌<◌, ◌≤◌, Bool, true, false, cond, min, nat_lt, List, [], ◌∷◌, length, drop}
+use Rattle.std.proofs.Common.{refl, sym, ap, ◌∙◌, arith}
 use Rattle.std.proofs.lemmas.Bool.{ltb-true, ltb-false}
 use Rattle.std.proofs.lemmas.List.{length-drop}
 use Rattle.mfotl_model.specs.Exact.{View}
 use Rattle.mfotl_model.specs.Log.{times}
 use Rattle.eval_since.specs.PreviousView.{PrevOf}
-use Rattle.eval_since.specs.SinceView.{SinceOf}
 use Rattle.eval_until.specs.NextView.{NextOf}
 use Rattle.eval_until.specs.UntilView.{UntilOf}
-use Rattle.mfotl_model.specs.Tables.{TableOf}
 use Rattle.monitorable.specs.CoreForms.{CoreForm, And, Previous, Next, Since, Until}
 use Rattle.monitor_state.proofs.ExactLemmas.{reached_within}
 use Rattle.monitor_state.proofs.ResumeTimes.{log_size}
@@ -20,7 +18,6 @@ use Rattle.monitor_state.specs.Stands.{IsNodeFor, NodeStands, NodesStand}
 use Rattle.monitor_state.specs.StateTimes.{earliest, node_asks, window_asks}
 use Rattle.monitor_state.specs.Views.{reached}
 use Rattle.monitor_state.specs.WindowNode.{IsWindow, WindowStands}
-use Rattle.monitor_state.specs.declared.filter.FilterState.{FilterState}
 use Rattle.monitor_state.specs.declared.node.Node.{Node}
 use Rattle.monitor_state.specs.declared.node.Node.TheVariants as node
 use Rattle.monitor_state.specs.declared.state.NodeData.{NodeData}
@@ -79,9 +76,7 @@ window_knows view p (Until i f g) (window.Until s) (data_of.Until k) inside is s
       stamps = stands.kept ∙ ap (λ n. drop n (times view.log)) (sym pulled);
       inside = omega arith;
     }
-window_knows view p (Since i f g) (window.Since s) (data_of.Until k) inside is stands rec = absurd rec
-window_knows view p (Until i f g) (window.Until s) (data_of.Since k) inside is stands rec = absurd rec
-window_knows view p w s k inside is stands rec = absurd is
+window_knows view p w s k inside is stands rec = absurd assumption
 
 -- the longer one of a list and of what a node knows
 abbrev Lengthens : View → ℕ → Node → NodeData → List ℕ → Type 0
@@ -107,21 +102,14 @@ nothing_more view place own is =
         by true h = absurd (let less : length xs < 0 = ltb-true (length xs) 0 h in omega arith)
         by false h = refl
 
-filter_more : (view : View) (f : CoreForm) (s : FilterState) (k : NodeData) (place : ℕ) (own : List ℕ)
-    → place ≤ length (times view.log) → own ≡ drop place (times view.log) → IsNodeFor f (node.Filter s)
-    → NodeStands view f (node.Filter s) → NodeRecorded (node.Filter s) k → Lengthens view place (node.Filter s) k own
-filter_more view (And f g) s (kept.Filter tables w) place own inside is for stands rec =
+node_more : (view : View) (f : CoreForm) (n : Node) (k : NodeData) (place : ℕ) (own : List ℕ)
+    → place ≤ length (times view.log) → own ≡ drop place (times view.log) → IsNodeFor f n → NodeStands view f n
+    → NodeRecorded n k → Lengthens view place n k own
+node_more view (And f g) (node.Filter s) (kept.Filter tables w) place own inside is for stands rec =
     knows_more view place (window_asks w) own (window_stamps s.window) inside is
     (window_knows view (reached view (And f g)) (left_operand g) s.window w (reached_within view (And f g)) for.asks
     stands.behind rec.1)
-filter_more view (And f g) s k place own inside is for stands rec = absurd rec
-filter_more view f s k place own inside is for stands rec = absurd for
-
-previous_more : (view : View) (f : CoreForm) (s : PrevOf) (k : NodeData) (place : ℕ) (own : List ℕ)
-    → place ≤ length (times view.log) → own ≡ drop place (times view.log) → IsNodeFor f (node.Previous s)
-    → NodeStands view f (node.Previous s) → NodeRecorded (node.Previous s) k
-    → Lengthens view place (node.Previous s) k own
-previous_more view (Previous i f) s (kept.Previous k) place own inside is for stands rec =
+node_more view (Previous i f) (node.Previous s) (kept.Previous k) place own inside is for stands rec =
     let size : length (times view.log) ≡ length view.log = log_size view in
     let pulled : k.pulled ≡ s.pulled = ap (λ (x : PrevOf). x.pulled) rec.0 in
     let at : s.pulled ≡ reached view (Previous i f) = stands.pulled in
@@ -131,63 +119,27 @@ previous_more view (Previous i f) s (kept.Previous k) place own inside is for st
       stamps = stands.known ∙ ap (λ n. drop (n - 1) (times view.log)) (sym pulled);
       inside = omega arith;
     })
-previous_more view (Previous i f) s k place own inside is for stands rec = absurd rec
-previous_more view f s k place own inside is for stands rec = absurd for
-
-next_more : (view : View) (f : CoreForm) (s : NextOf) (k : NodeData) (place : ℕ) (own : List ℕ)
-    → place ≤ length (times view.log) → own ≡ drop place (times view.log) → IsNodeFor f (node.Next s)
-    → NodeStands view f (node.Next s) → NodeRecorded (node.Next s) k → Lengthens view place (node.Next s) k own
-next_more view (Next i f) s (kept.Next k) place own inside is for stands rec =
+node_more view (Next i f) (node.Next s) (kept.Next k) place own inside is for stands rec =
     let size : length (times view.log) ≡ length view.log = log_size view in
     let pulled : k.pulled ≡ s.pulled = ap (λ (x : NextOf). x.pulled) rec.0 in
     let at : s.pulled ≡ reached view (Next i f) = stands.pulled in
     let most : reached view (Next i f) ≤ length view.log = reached_within view (Next i f) in
     knows_more view place k.pulled own s.times inside is
     (record { stamps = stands.kept ∙ ap (λ n. drop n (times view.log)) (sym pulled); inside = omega arith })
-next_more view (Next i f) s k place own inside is for stands rec = absurd rec
-next_more view f s k place own inside is for stands rec = absurd for
-
-since_more : (view : View) (f : CoreForm) (s : SinceOf) (order : TableOf) (k : NodeData) (place : ℕ) (own : List ℕ)
-    → place ≤ length (times view.log) → own ≡ drop place (times view.log) → IsNodeFor f (node.Since s order)
-    → NodeStands view f (node.Since s order) → NodeRecorded (node.Since s order) k
-    → Lengthens view place (node.Since s order) k own
-since_more view (Since i f g) s order (kept.Window w) place own inside is for stands rec =
+node_more view (Since i f g) (node.Since s order) (kept.Window w) place own inside is for stands rec =
     knows_more view place (window_asks w) own (window_stamps (window.Since s)) inside is
     (window_knows view (reached view (Since i f g)) (Since i f g) (window.Since s) w (reached_within view (Since i f g))
     for.state stands rec)
-since_more view (Since i f g) s order k place own inside is for stands rec = absurd rec
-since_more view f s order k place own inside is for stands rec = absurd for
-
-until_more : (view : View) (f : CoreForm) (s : UntilOf) (order : TableOf) (k : NodeData) (place : ℕ) (own : List ℕ)
-    → place ≤ length (times view.log) → own ≡ drop place (times view.log) → IsNodeFor f (node.Until s order)
-    → NodeStands view f (node.Until s order) → NodeRecorded (node.Until s order) k
-    → Lengthens view place (node.Until s order) k own
-until_more view (Until i f g) s order (kept.Window w) place own inside is for stands rec =
+node_more view (Until i f g) (node.Until s order) (kept.Window w) place own inside is for stands rec =
     knows_more view place (window_asks w) own (window_stamps (window.Until s)) inside is
     (window_knows view (reached view (Until i f g)) (Until i f g) (window.Until s) w (reached_within view (Until i f g))
     for.state stands.at rec)
-until_more view (Until i f g) s order k place own inside is for stands rec = absurd rec
-until_more view f s order k place own inside is for stands rec = absurd for
-
-node_more : (view : View) (f : CoreForm) (n : Node) (k : NodeData) (place : ℕ) (own : List ℕ)
-    → place ≤ length (times view.log) → own ≡ drop place (times view.log) → IsNodeFor f n → NodeStands view f n
-    → NodeRecorded n k → Lengthens view place n k own
-node_more view f (node.Filter s) k place own inside is for stands rec =
-    filter_more view f s k place own inside is for stands rec
-node_more view f (node.Previous s) k place own inside is for stands rec =
-    previous_more view f s k place own inside is for stands rec
-node_more view f (node.Next s) k place own inside is for stands rec =
-    next_more view f s k place own inside is for stands rec
-node_more view f (node.Since s order) k place own inside is for stands rec =
-    since_more view f s order k place own inside is for stands rec
-node_more view f (node.Until s order) k place own inside is for stands rec =
-    until_more view f s order k place own inside is for stands rec
 node_more view f (node.Constant table) kept.Bare place own inside is for stands rec = nothing_more view place own is
 node_more view f (node.Atom a) kept.Bare place own inside is for stands rec = nothing_more view place own is
 node_more view f (node.Exists x) kept.Bare place own inside is for stands rec = nothing_more view place own is
 node_more view f (node.Join s) (kept.Join d) place own inside is for stands rec = nothing_more view place own is
 node_more view f (node.Or s) (kept.Or d) place own inside is for stands rec = nothing_more view place own is
-node_more view f n k place own inside is for stands rec = absurd rec
+node_more view f n k place own inside is for stands rec = absurd assumption
 
 -- the longest of all that the nodes know
 pub longest_is : (view : View) (fs : List CoreForm) (ns : List Node) (ks : List NodeData) (place : ℕ) (own : List ℕ)
@@ -197,7 +149,4 @@ longest_is view [] [] [] place own inside is stand rec = is
 longest_is view (f ∷ fs) (n ∷ ns) (k ∷ ks) place own inside is stand rec =
     longest_is view fs ns ks (min place (node_asks place k)) (longer_of own (node_stamps n)) (omega arith)
     (node_more view f n k place own inside is stand.0 stand.1 rec.0) stand.2 rec.1
-longest_is view [] (n ∷ ns) ks place own inside is stand rec = absurd stand
-longest_is view (f ∷ fs) [] ks place own inside is stand rec = absurd stand
-longest_is view [] [] (k ∷ ks) place own inside is stand rec = absurd rec
-longest_is view (f ∷ fs) (n ∷ ns) [] place own inside is stand rec = absurd rec
+longest_is view fs ns ks place own inside is stand rec = absurd assumption

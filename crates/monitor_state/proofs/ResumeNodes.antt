@@ -1,6 +1,6 @@
 -- Nodes that are resumed with data that stands for a log do.
-use Rattle.std.proofs.Common.{◌≡◌, ℕ, ◌+◌, ◌-◌, ◌≤◌, Bool, true, false, cond, List, [], ◌∷◌, length, map, refl}
-use Rattle.std.proofs.Common.{sym, subst, ap, ◌∙◌, arith}
+use Rattle.std.proofs.Common.{◌≡◌, ℕ, ◌+◌, ◌-◌, ◌≤◌, Bool, true, false, cond, List, [], ◌∷◌, length, map, refl, sym}
+use Rattle.std.proofs.Common.{subst, ap, ◌∙◌, arith}
 use Rattle.std.specs.Global.{Vec}
 use Rattle.mfotl_model.specs.Exact.{AllExact, Covers, View}
 use Rattle.mfotl_model.specs.FreeVariables.{fv}
@@ -17,10 +17,9 @@ use Rattle.eval_bool.specs.declared.recalled.JoinData.{JoinData}
 use Rattle.eval_bool.specs.declared.recalled.OrData.{OrData}
 use Rattle.eval_since.specs.PreviousData.{previous_of}
 use Rattle.eval_since.specs.PreviousView.{PrevOf}
-use Rattle.eval_since.specs.SinceData.{KeepsRule, setting_of}
 use Rattle.eval_since.specs.SinceView.{SinceOf}
 use Rattle.eval_since.specs.declared.recalled.PrevData.{PrevData}
-use Rattle.eval_until.specs.NextData.{NextRule, next_of}
+use Rattle.eval_until.specs.NextData.{next_of}
 use Rattle.eval_until.specs.NextView.{NextOf}
 use Rattle.eval_until.specs.UntilData.{UntilRule, setting_of as until_setting_of, until_of}
 use Rattle.eval_until.specs.UntilView.{UntilOf}
@@ -30,20 +29,18 @@ use Rattle.monitorable.specs.CoreForms.{CoreForm, meaning, Not, And, Or, Previou
 use Rattle.relations.specs.Pushed.{StandFrom}
 use Rattle.monitor_state.proofs.ExactLemmas.{exact_tell, reached_within}
 use Rattle.monitor_state.proofs.RecordKeeps.{alike_parts}
-use Rattle.monitor_state.proofs.RecordRules.{setting_is, until_setting_is}
+use Rattle.monitor_state.proofs.RecordRules.{until_setting_is}
 use Rattle.monitor_state.proofs.ResumeTimes.{known_from, last_dates, rest_dates, rest_is, rest_size}
 use Rattle.monitor_state.proofs.ResumeWindows.{since_resumed_is, since_resumed_stands, until_resumed_all}
 use Rattle.monitor_state.proofs.ResumeWindows.{until_resumed_is, until_resumed_stands, until_resumed_taken}
-use Rattle.monitor_state.specs.FilterNode.{GivenAs}
 use Rattle.monitor_state.specs.Nodes.{left_operand, operands}
 use Rattle.monitor_state.specs.Resuming.{NodeResumed, Reach, SinceResumed, SuitsEvaluation, UntilResumed, WindowResumed}
 use Rattle.monitor_state.specs.Stands.{ChildrenStand, IsNodeFor, IsConjunction, IsPrevious, JoinStands, NextStands}
 use Rattle.monitor_state.specs.Stands.{PreviousStands, bare, conjunct_as}
-use Rattle.monitor_state.specs.StateRules.{JoinKeeps, NodeKeeps, SinceKeeps, UntilKeeps, WindowKeeps}
-use Rattle.monitor_state.specs.StateStands.{JoinDataStands, NextDataStands, PreviousDataStands}
+use Rattle.monitor_state.specs.StateRules.{JoinKeeps, NodeKeeps, UntilKeeps, WindowKeeps}
+use Rattle.monitor_state.specs.StateStands.{JoinDataStands, NextDataStands, OrDataStands, PreviousDataStands}
 use Rattle.monitor_state.specs.StateStands.{TablesStand}
 use Rattle.monitor_state.specs.StateTimes.{KeptTimes, time_before, times_from}
-use Rattle.monitor_state.specs.SinceNode.{IsSinceState}
 use Rattle.monitor_state.specs.UntilNode.{IsUntilState}
 use Rattle.monitor_state.specs.Views.{Tells, reached}
 use Rattle.monitor_state.specs.WindowNode.{IsWindow}
@@ -56,8 +53,6 @@ use Rattle.monitor_state.specs.declared.state.UntilKept.{UntilKept}
 use Rattle.monitor_state.specs.declared.state.WindowData.{WindowData}
 use Rattle.monitor_state.specs.declared.state.WindowData.TheVariants as data_of
 use Rattle.monitor_state.specs.declared.window.Window.TheVariants as window
-
--- ---- nodes that keep nothing
 
 -- ---- conjunctions
 
@@ -79,8 +74,7 @@ bare_with (c ∷ cs) (ts ∷ tss) = ap (λ xs. bare c ∷ xs) (bare_with cs tss)
 alike_back : (xs ys : List ChildOf) → Alike xs ys → Alike ys xs
 alike_back [] [] same = tt
 alike_back (x ∷ xs) (y ∷ ys) same = (sym same.0, sym same.1, alike_back xs ys same.2)
-alike_back [] (y ∷ ys) same = absurd same
-alike_back (x ∷ xs) [] same = absurd same
+alike_back xs ys same = absurd assumption
 
 pub join_rule : (f : CoreForm) (s : JoinOf) (d : JoinData) → IsConjunction f s → JoinKeeps f d → JoinRule s.children d
 join_rule f s d is keeps =
@@ -90,23 +84,23 @@ join_rule f s d is keeps =
 
 join_is : (f : CoreForm) (s new : JoinOf) (d : JoinData) → IsConjunction f s → new ≡ join_of s d → IsConjunction f new
 join_is f s new d is made =
-    record {
-      columns = ap (λ (x : JoinOf). x.columns) made ∙ is.columns;
-      tests = ap (λ (x : JoinOf). x.tests) made ∙ is.tests;
-      parts = ap (λ (x : JoinOf). map bare x.children) made ∙ bare_with s.children (kept_tables d) ∙ is.parts;
+    rw made
+    (record {
+      columns = is.columns;
+      tests = is.tests;
+      parts = bare_with s.children (kept_tables d) ∙ is.parts;
       some = is.some;
       whole = is.whole;
-    }
+    })
 
 join_stands : (view : View) (f : CoreForm) (s new : JoinOf) (d : JoinData) → JoinRule s.children d → new ≡ join_of s d
     → JoinDataStands view f d → JoinStands view f new
 join_stands view f s new d rule made stands =
-    record {
-      pulled = ap (λ (x : JoinOf). x.pulled) made ∙ stands.pulled;
-      children =
-          subst (λ (x : JoinOf). ChildrenStand view x.pulled (operands f) x.children) (sym made)
-          (children_stand view d.pulled (operands f) s.children (kept_tables d) rule.over stands.children);
-    }
+    rw made
+    (record {
+      pulled = stands.pulled;
+      children = children_stand view d.pulled (operands f) s.children (kept_tables d) rule.over stands.children;
+    })
 
 pub join_resumed : (k : KeptTimes) (s new : JoinOf) (d : JoinData) → new ≡ join_of s d
     → NodeResumed k (node.Join s) (kept.Join d) (node.Join new)
@@ -131,17 +125,8 @@ join_fits k s d f is keeps = absurd is
 pub or_resumed : (k : KeptTimes) (s new : OrOf) (d : OrData) → new ≡ or_of s.left s.right d
     → NodeResumed k (node.Or s) (kept.Or d) (node.Or new)
 or_resumed k s new d made (Or f g) is keeps = (
-  record {
-    columns = ap (λ (x : OrOf). x.left) made ∙ is.columns;
-    right = ap (λ (x : OrOf). x.right) made ∙ is.right;
-  },
-  λ view whole suits reach stands. record {
-    pulled = ap (λ (x : OrOf). x.pulled) made ∙ stands.pulled;
-    left_pushed = ap (λ (x : OrOf). x.pulled + length x.lefts) made ∙ stands.left_pushed;
-    right_pushed = ap (λ (x : OrOf). x.pulled + length x.rights) made ∙ stands.right_pushed;
-    lefts = subst (λ (x : OrOf). AllExact view (meaning f) x.pulled x.lefts) (sym made) stands.lefts;
-    rights = subst (λ (x : OrOf). AllExact view (meaning g) x.pulled x.rights) (sym made) stands.rights;
-  },
+  rw made (record { columns = is.columns; right = is.right }),
+  λ view whole suits reach stands. let kept : OrDataStands view f g d = stands in rw made assumption,
 )
 or_resumed k s new d made f is keeps = absurd is
 
@@ -177,18 +162,10 @@ pub previous_resumed : (k : KeptTimes) (s new : PrevOf) (d : PrevData)
     → new ≡ previous_of s.interval s.columns (time_before k d.pulled) (times_from k d.pulled) d
     → NodeResumed k (node.Previous s) (kept.Previous d) (node.Previous new)
 previous_resumed k s new d made (Previous i f) is keeps = (
-  record {
-    interval = ap (λ (x : PrevOf). x.interval) made ∙ is.interval;
-    columns = ap (λ (x : PrevOf). x.columns) made ∙ is.columns;
-  },
+  rw made (record { interval = is.interval; columns = is.columns }),
   λ view whole suits reach stands. previous_stands k i f s new d is made view reach stands,
 )
 previous_resumed k s new d made f is keeps = absurd is
-
-pub next_fits : (k : KeptTimes) (s : NextOf) (d : NextData) (f : CoreForm) → IsNodeFor f (node.Next s)
-    → NodeKeeps k f (kept.Next d) → NextRule s.columns (times_from k d.pulled) d
-next_fits k s d (Next i f) is keeps = subst (λ cols. NextRule cols (times_from k d.pulled) d) (sym is.columns) keeps
-next_fits k s d f is keeps = absurd is
 
 next_tells : (view : View) (f : CoreForm) (d : NextData) (dom : List Value) (v : Valuation) (a : List Bool)
     → Covers view dom → view.near (fv (meaning f)) v ≡ true → Tells view dom v f a
@@ -231,22 +208,12 @@ pub next_resumed : (k : KeptTimes) (s new : NextOf) (d : NextData)
     → new ≡ next_of s.interval s.columns (times_from k d.pulled) d
     → NodeResumed k (node.Next s) (kept.Next d) (node.Next new)
 next_resumed k s new d made (Next i f) is keeps = (
-  record {
-    interval = ap (λ (x : NextOf). x.interval) made ∙ is.interval;
-    columns = ap (λ (x : NextOf). x.columns) made ∙ is.columns;
-  },
+  rw made (record { interval = is.interval; columns = is.columns }),
   λ view whole suits reach stands. next_stands k i f s new d made view reach stands,
 )
 next_resumed k s new d made f is keeps = absurd is
 
 -- ---- windows
-
-since_fits : (k : KeptTimes) (i : Interval) (f g : CoreForm) (s : SinceOf) (d : SinceKept) → IsSinceState i f g s
-    → SinceKeeps k i f g d → KeepsRule (setting_of s) (time_before k d.kept.pulled) (times_from k d.kept.pulled) d.kept
-since_fits k i f g s d is keeps =
-    subst (λ c. KeepsRule c (time_before k d.kept.pulled) (times_from k d.kept.pulled) d.kept)
-    (sym (setting_is i f g s is))
-    keeps.rule
 
 until_fits : (k : KeptTimes) (i : Interval) (f g : CoreForm) (s : UntilOf) (d : UntilKept) → IsUntilState i f g s
     → UntilKeeps k i f g d → UntilRule (until_of (until_setting_of s) (times_from k d.kept.pulled) d.kept)
@@ -346,14 +313,14 @@ filter_resumed k s new tables w tables_are turns orders res (And f g) is keeps =
         only = is.only;
         turns = turns ∙ is.turns;
         asks = resumed.0;
-        gives = subst (GivenAs f g) (sym orders) is.gives;
+        gives = rw orders is.gives;
       },
       λ view whole suits reach stands.
           let behind = resumed.1 view whole (reached view (And f g)) (suits_window view whole f g suits) reach
           stands.behind in
           record {
-            pushed = ap (λ ts. reached view (And f g) + length ts) tables_are ∙ stands.pushed;
-            exact = subst (AllExact view (meaning f) (reached view (And f g))) (sym tables_are) stands.exact;
+            pushed = rw tables_are stands.pushed;
+            exact = rw tables_are stands.exact;
             behind = behind.0;
             all = behind.1;
           },

@@ -1,12 +1,11 @@
 -- A monitor that is resumed with data that stands for a log does.
-use Rattle.std.proofs.Common.{◌≡◌, ℕ, zero, suc, ◌-◌, ◌<◌, ◌≤◌, List, [], ◌∷◌, ◌++◌, length, drop, refl, sym}
-use Rattle.std.proofs.Common.{subst, ap, ap₂, ◌∙◌, arith, append_assoc, append-nil}
+use Rattle.std.proofs.Common.{◌≡◌, ℕ, zero, suc, ◌-◌, ◌<◌, ◌≤◌, List, [], ◌∷◌, ◌++◌, length, drop, refl, sym, subst, ap}
+use Rattle.std.proofs.Common.{ap₂, ◌∙◌, arith, append_assoc, append-nil}
 use Rattle.std.proofs.lemmas.List.{length-drop}
 use Rattle.std.specs.List.{AllByRecursion}
 use Rattle.mfotl_model.specs.Exact.{View}
-use Rattle.mfotl_model.specs.FreeVariables.{fv}
 use Rattle.mfotl_model.specs.Log.{times}
-use Rattle.mfotl_model.specs.Regions.{Passes, everywhere}
+use Rattle.mfotl_model.specs.Regions.{everywhere}
 use Rattle.mfotl_model.specs.declared.event.TimePoint.{TimePoint}
 use Rattle.monitorable.specs.CoreForms.{CoreForm, meaning}
 use Rattle.monitorable.specs.declared.role.Role.TheVariants as role
@@ -38,10 +37,7 @@ pub all_match : (view : View) (k : KeptTimes) (fs : List CoreForm) (ns : List No
 all_match view k [] [] [] stand keep = tt
 all_match view k (f ∷ fs) (n ∷ ns) (d ∷ ds) stand keep =
     ((f, stand.0, keep.0), all_match view k fs ns ds stand.2 keep.1)
-all_match view k [] (n ∷ ns) ds stand keep = absurd stand
-all_match view k (f ∷ fs) [] ds stand keep = absurd stand
-all_match view k [] [] (d ∷ ds) stand keep = absurd keep
-all_match view k (f ∷ fs) (n ∷ ns) [] stand keep = absurd keep
+all_match view k fs ns ds stand keep = absurd assumption
 
 -- what is taken for granted of each of the cores
 abbrev pub AllSuit : View → CoreForm → List CoreForm → Type 0
@@ -52,11 +48,7 @@ premises_suit : (view : View) (point given : TimePoint) (whole : CoreForm) (fs :
     → AllPremises seen point given whole fs → AllSuit view whole fs
 premises_suit view point given whole [] seen near same all = tt
 premises_suit view point given whole (f ∷ fs) seen near same all = (
-  record {
-    passes = subst (λ w. Passes (fv w) view.near) same
-        (subst (λ n. Passes (fv seen.whole) n) near all.0.passes);
-    sound = all.0.sound;
-  },
+  record { passes = rw (← near, ← same) all.0.passes; sound = all.0.sound },
   premises_suit view point given whole fs seen near same all.1,
 )
 
@@ -98,12 +90,9 @@ nodes_stand view k whole (f ∷ fs) (o ∷ os) (n ∷ ns) (d ∷ ds) are low sui
       one.1 view whole suit.0 (record { stamps = are; first = low.0 }) data_stand.0,
       nodes_stand view k whole fs os ns ds are low.1 suit.1 seen stand.2 keep.1 res.1 data_stand.1,
     )
-nodes_stand view k whole [] (o ∷ os) ns ds are low suit seen stand keep res data_stand = absurd stand
-nodes_stand view k whole (f ∷ fs) [] ns ds are low suit seen stand keep res data_stand = absurd stand
-nodes_stand view k whole [] [] ns (d ∷ ds) are low suit seen stand keep res data_stand = absurd keep
-nodes_stand view k whole (f ∷ fs) (o ∷ os) ns [] are low suit seen stand keep res data_stand = absurd keep
 nodes_stand view k whole [] [] (n ∷ ns) [] are low suit seen stand keep res data_stand = absurd res
 nodes_stand view k whole (f ∷ fs) (o ∷ os) [] (d ∷ ds) are low suit seen stand keep res data_stand = absurd res
+nodes_stand view k whole fs old new ds are low suit seen stand keep res data_stand = absurd assumption
 
 -- the view of the empty log
 abbrev pub empty_view : CoreForm → View

@@ -1,6 +1,6 @@
 -- The timestamps with which a state is resumed are the log's.
-use Rattle.std.proofs.Common.{◌≡◌, ℕ, zero, suc, ◌+◌, ◌-◌, ◌<◌, ◌≤◌, List, [], ◌∷◌, length, drop, refl, sym, ap}
-use Rattle.std.proofs.Common.{ap₂, ◌∙◌, arith, slice_index}
+use Rattle.std.proofs.Common.{◌≡◌, ℕ, zero, suc, ◌+◌, ◌-◌, ◌<◌, ◌≤◌, List, [], ◌∷◌, length, drop, refl, sym, ap, ap₂}
+use Rattle.std.proofs.Common.{◌∙◌, arith, slice_index}
 use Rattle.std.proofs.lemmas.List.{drop_more, get_or-drop, length-drop, length-map}
 use Rattle.mfotl_model.specs.Exact.{View}
 use Rattle.mfotl_model.specs.Log.{times}

@@ -1,6 +1,6 @@
 -- A SINCE or an UNTIL that is resumed with data that stands for a log does.
-use Rattle.std.proofs.Common.{◌≡◌, ℕ, ◌+◌, ◌-◌, ◌<◌, ◌≤◌, Bool, true, min, nat_le, List, length, map, drop}
-use Rattle.std.proofs.Common.{sym, subst, ap, ap₂, ◌∙◌, arith, slice_index}
+use Rattle.std.proofs.Common.{◌≡◌, ℕ, ◌+◌, ◌-◌, ◌<◌, ◌≤◌, Bool, true, min, nat_le, List, length, map, drop, sym, subst}
+use Rattle.std.proofs.Common.{ap, ap₂, ◌∙◌, arith, slice_index}
 use Rattle.std.proofs.lemmas.Bool.{eq-eqb}
 use Rattle.std.proofs.lemmas.List.{get_or-drop}
 use Rattle.mfotl_model.specs.Exact.{Covers, View}

@@ -2,6 +2,7 @@
 use Rattle.std.proofs.Common.{subst, ◌≡◌, ℕ, ◌<◌, Bool, true, false, ◌&&◌, ◌||◌, nat_eq, List, [], ◌∷◌, ◌++◌, length}
 use Rattle.std.proofs.Common.{refl, sym, ap, ◌∙◌, arith, append_assoc, append-nil}
 use Rattle.std.proofs.lemmas.Bool.{and_from, and_parts}
+use Rattle.std.proofs.lemmas.Bool.Decides.{nat_tests}
 use Rattle.std.proofs.lemmas.List.Folds.{list_any-append}
 use Rattle.std.specs.List.Sorted.{IsStrictlySortedBy}
 use Rattle.std.proofs.Common.{Ordering, Less, cond}
@@ -73,35 +74,7 @@ table_kept columns false kept new rest row is same =
 
 added : (d k e t s : Bool) → k ≡ (d && t) → (e ≡ true → s ≡ t)
     → (k || cond s (e || false) false) ≡ ((d || (e || false)) && t)
-added d k true t s before same = grown d k t s before (same refl)
-  where
-    grown : (d k t s : Bool) → k ≡ (d && t) → s ≡ t
-        → (k || cond s (true || false) false) ≡ ((d || (true || false)) && t)
-    grown true true true true before same = refl
-    grown true true true false before same = cc
-    grown true true false s before same = cc
-    grown true false true s before same = cc
-    grown true false false false before same = refl
-    grown true false false true before same = cc
-    grown false true t s before same = cc
-    grown false false true true before same = refl
-    grown false false true false before same = cc
-    grown false false false false before same = refl
-    grown false false false true before same = cc
-added d k false t s before same = stayed d k t s before
-  where
-    stayed : (d k t s : Bool) → k ≡ (d && t) → (k || cond s (false || false) false) ≡ ((d || (false || false)) && t)
-    stayed true true true true before = refl
-    stayed true true true false before = refl
-    stayed true true false s before = cc
-    stayed true false true s before = cc
-    stayed true false false true before = refl
-    stayed true false false false before = refl
-    stayed false true t s before = cc
-    stayed false false true true before = refl
-    stayed false false true false before = refl
-    stayed false false false true before = refl
-    stayed false false false false before = refl
+added d k e t s before same = grind (arith, nat_tests)
 
 has_chosen : (stays : Bool) (row u : List Value)
     → has_row (cond stays (row ∷ []) []) u ≡ cond stays (eq_by_cmp row_cmp u row || false) false

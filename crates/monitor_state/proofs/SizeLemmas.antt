@@ -3,8 +3,7 @@ use Rattle.std.proofs.Common.{◌≡◌, ◌+◌, ◌*◌, ◌<◌, ◌≤◌, r
 use Rattle.mfotl_model.specs.declared.formula.Bound.{Bound}
 use Rattle.mfotl_model.specs.declared.interval.Interval.{Interval}
 use Rattle.monitorable.specs.CoreForms.{CoreForm, True, False, Atom, Compare, Not, And, Or, Exists, Previous, Next}
-use Rattle.monitorable.specs.CoreForms.{Since}
-use Rattle.monitorable.specs.CoreForms.{Until}
+use Rattle.monitorable.specs.CoreForms.{Since, Until}
 use Rattle.monitorable.specs.NodeCount.{nodes}
 use Rattle.monitor_state.specs.Nodes.{left_operand}
 

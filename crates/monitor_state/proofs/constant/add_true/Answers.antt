@@ -1,12 +1,9 @@
 use Rattle.std.proofs.lemmas.Result.{on_ok_weaker}
-use Rattle.monitor_state.proofs.BeginLemmas.{true_adds, true_elsewhere, true_left}
+use Rattle.monitor_state.proofs.BeginLemmas.{true_adds, true_elsewhere}
 use Rattle.monitor_state.proofs.constant.add_true.Goals as goal
 
 pub returns-in-Left : goal.returns-in-Left
-returns-in-Left c =
-    on_ok_weaker c.add_false.result
-    (true_left c.args.role c.args.nodes.now.items c.add_false.new.nodes.items c.in-Left.is)
-    c.add_false.ensures
+returns-in-Left c = rw c.in-Left.is c.add_false.ensures
 
 pub returns-in_ok-table-in-Whole : goal.returns-in_ok-table-in-Whole
 returns-in_ok-table-in-Whole c =

@@ -1,22 +1,18 @@
-use Rattle.std.proofs.Common.{◌∷◌, [], ◌++◌, sym, subst}
 use Rattle.monitor_state.proofs.NodeSteps.{quantifies_more}
 use Rattle.monitor_state.proofs.TablesLemmas.{all_yielded}
-use Rattle.monitor_state.specs.Quantified.{Quantifies}
 use Rattle.monitor_state.proofs.exists.push_tables.Goals as goal
 
 pub loop-table-init : goal.loop-table-init
-loop-table-init c = subst (Quantifies c.args.var []) (sym c.requires) tt
+loop-table-init c = rw c.requires tt
 
 pub loop-table-preserved : goal.loop-table-preserved
 loop-table-preserved c =
     let pushed = c.in_ok-push_quantified.ensures in
-    subst (Quantifies c.args.var (c.loop-table.yielded ++ c.in-Some.table ∷ [])) (sym pushed.2)
+    rw pushed.2
     (quantifies_more c.args.var c.loop-table.yielded c.loop-table.without c.in-Some.table pushed.0
     c.loop-table.invariant pushed.1)
 
 pub returns : goal.returns
 returns c =
-    subst (λ xs. Quantifies c.args.var xs c.loop-table.without)
-    (all_yielded c.loop-table.yielded c.into_iter-table-iterator.ensures.into_iter_gives c.loop-table.yielded_by
-    c.in-None.ensures.steps.0)
-    c.loop-table.invariant
+    rw (all_yielded c.loop-table.yielded c.into_iter-table-iterator.ensures.into_iter_gives c.loop-table.yielded_by
+    c.in-None.ensures.steps.0) at c.loop-table.invariant

@@ -1,13 +1,11 @@
-use Rattle.std.proofs.Common.{◌≡◌, ap, arith, length, subst, sym}
+use Rattle.std.proofs.Common.{◌≡◌, ap, arith, length}
 use Rattle.monitor_state.proofs.JoinLemmas.{join_fewer, join_pulled_more, join_pulled_none}
-use Rattle.monitor_state.specs.JoinFeeding.{JoinPulled}
 use Rattle.monitor_state.proofs.join.pulled.Goals as goal
 
 pub loop-tables-init : goal.loop-tables-init
 loop-tables-init c = record {
   some = c.requires;
-  pulled = subst (JoinPulled c.args.state.now c.args.state.now) (sym c.new-tables.ensures)
-      (join_pulled_none c.args.state.now);
+  pulled = rw c.new-tables.ensures (join_pulled_none c.args.state.now);
 }
 
 pub pull-requires : goal.pull-requires
@@ -19,15 +17,14 @@ pull-requires c = record {
 
 pub loop-tables-smaller : goal.loop-tables-smaller
 loop-tables-smaller c =
-    (join_fewer c.loop-tables.state c.pull.new.self c.in_ok-table.field-0 c.in-Some.table c.loop-tables.invariant.some
-    c.in-Some.is c.in_ok-table.ensures.due c.in_ok-table.ensures.state).0
+    let pulled = rw c.in-Some.is at c.in_ok-table.ensures in
+    (join_fewer c.loop-tables.state c.loop-tables.invariant.some pulled.due pulled.state).0
 
 pub loop-tables-preserved : goal.loop-tables-preserved
-loop-tables-preserved c = record {
-  some = (join_fewer c.loop-tables.state c.pull.new.self c.in_ok-table.field-0 c.in-Some.table
-      c.loop-tables.invariant.some
-      c.in-Some.is c.in_ok-table.ensures.due c.in_ok-table.ensures.state).1;
-  pulled = join_pulled_more c.args.state.now c.loop-tables.state c.pull.new.self c.loop-tables.tables c.push.new.self
-      c.in_ok-table.field-0 c.in-Some.table c.loop-tables.invariant.pulled c.in-Some.is c.in_ok-table.ensures.due
-      c.in_ok-table.ensures.state c.in_ok-table.ensures.columns c.in_ok-table.ensures.rows c.in_ok-push.ensures;
-}
+loop-tables-preserved c =
+    let pulled = rw c.in-Some.is at c.in_ok-table.ensures in
+    record {
+      some = (join_fewer c.loop-tables.state c.loop-tables.invariant.some pulled.due pulled.state).1;
+      pulled = join_pulled_more c.in-Some.table c.loop-tables.invariant.pulled pulled.due pulled.state pulled.columns pulled.rows
+          c.in_ok-push.ensures;
+    }

@@ -1,15 +1,9 @@
-use Rattle.std.proofs.Common.{◌≡◌, false}
-use Rattle.eval_until.specs.NextView.{next_due}
 use Rattle.monitor_state.proofs.OrderingLemmas.{ok_both}
-use Rattle.monitor_state.specs.NextFeeding.{NextPulled, NextTakes}
 use Rattle.monitor_state.proofs.next.take_next.Goals as goal
 
 pub returns : goal.returns
 returns c =
-    ok_both c.pulled.result
-    (NextPulled c.push_tables.new.state c.pulled.new.state)
-    (next_due c.pulled.new.state ≡ false)
-    (NextTakes c.args.state.now c.args.ts c.args.operand c.pulled.new.state)
+    ok_both c.pulled.result _ _ _
     (λ tables pulls ends.
     record {
       timed = c.push_time.new.self;

@@ -1,19 +1,8 @@
 use Rattle.std.proofs.lemmas.Result.{IfOk-weaker}
 use Rattle.monitor_state.proofs.NodeSteps.{until_advances}
-use Rattle.monitor_state.specs.UntilFeeding.{UntilTakes}
-use Rattle.monitor_state.specs.Steps.{TakesPoint}
-use Rattle.monitor_state.specs.declared.node.Node.TheVariants as node
 use Rattle.monitor_state.proofs.node.advance_until.Goals as goal
 
 pub returns : goal.returns
 returns c =
-    IfOk-weaker c.take_until.result
-    (UntilTakes c.args.order.now.columns c.args.state.now c.args.point.now.ts c.popped-left.result
-    c.popped-right.result c.take_until.new.state)
-    (TakesPoint (node.Until c.args.state.now c.args.order.now) c.args.point.now c.args.stack.now.items
-    (node.Until c.take_until.new.state c.args.order.now) c.popped-left.new.stack.items)
-    (λ tables takes.
-    until_advances c.args.state.now c.take_until.new.state c.args.order.now c.args.point.now c.args.stack.now.items
-    c.popped-right.new.stack.items c.popped-left.new.stack.items c.popped-left.result c.popped-right.result tables
-    c.popped-right.ensures c.popped-left.ensures takes)
+    IfOk-weaker c.take_until.result _ _ (λ tables takes. until_advances c.args.order.now c.popped-right.ensures c.popped-left.ensures takes)
     c.take_until.ensures

@@ -1,8 +1,5 @@
-use Rattle.std.proofs.Common.{ap, ◌∙◌}
-use Rattle.eval_bool.specs.OrView.{OrOf, or_pushed}
 use Rattle.monitor_state.proofs.OrLemmas.{operand_none, operand_one}
 use Rattle.monitor_state.proofs.TablesLemmas.{all_yielded}
-use Rattle.monitor_state.specs.OrFeeding.{operand_fed}
 use Rattle.monitor_state.proofs.or.push_operand.Goals as goal
 
 pub loop-table-init : goal.loop-table-init
@@ -10,12 +7,10 @@ loop-table-init c = operand_none c.args.state.now c.args.child
 
 pub loop-table-preserved : goal.loop-table-preserved
 loop-table-preserved c =
-    c.in_ok-push_table.ensures ∙ ap (λ (x : OrOf). or_pushed x c.args.child c.in-Some.table) c.loop-table.invariant
-    ∙ operand_one c.args.state.now c.args.child c.loop-table.yielded c.in-Some.table
+    rw (c.in_ok-push_table.ensures, c.loop-table.invariant)
+    (operand_one c.args.state.now c.args.child c.loop-table.yielded c.in-Some.table)
 
 pub returns : goal.returns
 returns c =
-    c.loop-table.invariant
-    ∙ ap (operand_fed c.args.state.now c.args.child)
-    (all_yielded c.loop-table.yielded c.into_iter-table-iterator.ensures.into_iter_gives c.loop-table.yielded_by
-    c.in-None.ensures.steps.0)
+    rw (all_yielded c.loop-table.yielded c.into_iter-table-iterator.ensures.into_iter_gives c.loop-table.yielded_by
+    c.in-None.ensures.steps.0) at c.loop-table.invariant

@@ -1,20 +1,12 @@
-use Rattle.std.proofs.Common.{subst, sym}
-use Rattle.monitor_state.proofs.PreviousLemmas.{pulled_fewer, pulled_none, pulled_turn}
-use Rattle.monitor_state.specs.PreviousFeeding.{PreviousPulled}
+use Rattle.monitor_state.proofs.PreviousLemmas.{pulled_fewer, pulled_more}
 use Rattle.monitor_state.proofs.previous.pulled.Goals as goal
-
-pub loop-tables-init : goal.loop-tables-init
-loop-tables-init c = subst (PreviousPulled c.args.state.now c.args.state.now) (sym c.new-tables.ensures)
-    (pulled_none c.args.state.now)
 
 pub loop-tables-smaller : goal.loop-tables-smaller
 loop-tables-smaller c =
-    pulled_fewer c.loop-tables.state c.pull.new.self c.in_ok-table.field-0 c.in-Some.table
-    c.in-Some.is c.in_ok-table.ensures.due c.in_ok-table.ensures.state
+    let pulled = rw c.in-Some.is at c.in_ok-table.ensures in pulled_fewer pulled.due pulled.state
 
 pub loop-tables-preserved : goal.loop-tables-preserved
 loop-tables-preserved c =
-    pulled_turn c.args.state.now c.loop-tables.state c.pull.new.self c.loop-tables.tables c.push.new.self
-    c.in_ok-table.field-0 c.in-Some.table c.loop-tables.invariant c.in-Some.is
-    c.in_ok-table.ensures.due c.in_ok-table.ensures.state c.in_ok-table.ensures.follows c.in_ok-table.ensures.columns
-    c.in_ok-table.ensures.rows c.in_ok-push.ensures
+    let pulled = rw c.in-Some.is at c.in_ok-table.ensures in
+    pulled_more c.in-Some.table c.loop-tables.invariant pulled.due pulled.state pulled.follows pulled.columns pulled.rows
+    c.in_ok-push.ensures

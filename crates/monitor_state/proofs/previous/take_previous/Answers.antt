@@ -1,15 +1,9 @@
-use Rattle.std.proofs.Common.{◌≡◌, false}
-use Rattle.eval_since.specs.PreviousView.{previous_due}
 use Rattle.monitor_state.proofs.OrderingLemmas.{ok_both}
-use Rattle.monitor_state.specs.PreviousFeeding.{PreviousPulled, PreviousTakes}
 use Rattle.monitor_state.proofs.previous.take_previous.Goals as goal
 
 pub returns : goal.returns
 returns c =
-    ok_both c.pulled.result
-    (PreviousPulled c.push_tables.new.state c.pulled.new.state)
-    (previous_due c.pulled.new.state ≡ false)
-    (PreviousTakes c.args.state.now c.args.ts c.args.operand c.pulled.new.state)
+    ok_both c.pulled.result _ _ _
     (λ tables pulls ends.
     record {
       timed = c.push_time.new.self;

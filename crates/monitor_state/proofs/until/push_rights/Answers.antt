@@ -1,21 +1,11 @@
-use Rattle.std.proofs.Common.{subst}
-use Rattle.monitor_state.proofs.UntilLemmas.{rights_more, rights_none}
+use Rattle.monitor_state.proofs.UntilLemmas.{rights_more}
 use Rattle.monitor_state.proofs.TablesLemmas.{all_yielded}
-use Rattle.monitor_state.specs.UntilFeeding.{UntilRightsPushed}
 use Rattle.monitor_state.proofs.until.push_rights.Goals as goal
 
-pub loop-table-init : goal.loop-table-init
-loop-table-init c = rights_none c.args.state.now
-
 pub loop-table-preserved : goal.loop-table-preserved
-loop-table-preserved c =
-    rights_more c.args.state.now c.loop-table.state c.push_right.new.state c.loop-table.yielded c.in-Some.table
-    c.loop-table.invariant c.in_ok-push_right.ensures.pushed c.in_ok-push_right.ensures.left
-    (λ t a b v h one. c.in_ok-push_right.ensures.follows t a b v h (one, tt))
+loop-table-preserved c = rights_more c.loop-table.invariant c.in_ok-push_right.ensures
 
 pub returns : goal.returns
 returns c =
-    subst (UntilRightsPushed c.args.state.now c.loop-table.state)
-    (all_yielded c.loop-table.yielded c.into_iter-table-iterator.ensures.into_iter_gives c.loop-table.yielded_by
-    c.in-None.ensures.steps.0)
-    c.loop-table.invariant
+    rw (all_yielded c.loop-table.yielded c.into_iter-table-iterator.ensures.into_iter_gives c.loop-table.yielded_by
+    c.in-None.ensures.steps.0) at c.loop-table.invariant

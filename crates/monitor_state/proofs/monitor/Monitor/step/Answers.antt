@@ -1,18 +1,12 @@
 use Rattle.std.proofs.Common.{◌+◌, ◌++◌, ◌∷◌, [], drop, refl, ap, ◌∙◌}
 use Rattle.monitorable.specs.Cores.{core_form}
 use Rattle.monitor_state.proofs.StepLemmas.{saturated, steps}
+use Rattle.monitor_state.specs.MonitorView.{monitor_of}
 use Rattle.monitor_state.proofs.monitor.Monitor.step.Goals as goal
 
 pub returns-clause-steps : goal.returns-clause-steps
 returns-clause-steps c view point premises stands =
-    steps (core_form c.args.self.now.core)
-    (record {
-      taken = c.args.self.now.taken;
-      given = c.args.self.now.given;
-      first = c.args.self.now.first;
-      times = c.args.self.now.times.items;
-      nodes = c.args.self.now.nodes.items;
-    })
+    steps (core_form c.args.self.now.core) (monitor_of c.args.self.now).state
     (record {
       taken = c.args.self.now.taken + 1;
       given = c.saturating_add-self.result;
