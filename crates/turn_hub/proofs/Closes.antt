@@ -1,5 +1,5 @@
 -- What a hub that is closed gives.
-use Rattle.std.proofs.Common.{◌≡◌, ℕ, List, ◌++◌, length, sym, ap, ◌∙◌, subst, ⊎_elim, Option, Some, None, append-nil}
+use Rattle.std.proofs.Common.{◌≡◌, ℕ, List, length, sym, ◌∙◌, ⊎_elim, Option, Some, None, append-nil}
 use mathlib.Core.Option.{some, some-injective}
 use lib.ListN.{get_elem?}
 use Rattle.atomic_table.specs.Table.{Final, Seen}
@@ -17,19 +17,9 @@ module _ {W S I O : Type 0} (stands : S → List I → List O → W → Type 0) 
       × ((k : ℕ) (l : Line S I O) → get_elem? v.lines k ≡ some l
       → (c : Cell W I O) × (get_elem? slots k ≡ some (Some c)) × stands l.seed l.handed l.back c.work)
   settled words slots id v is_first nothing mine f =
-      let s = f.0 in let r = f.1.0 in let is : r.main ≡ v =
-      some-injective r.main v (sym r.first ∙ ap (λ (i : ℕ). get_elem? s.views i) (sym is_first) ∙ f.1.1) in
-      let lined = ap (λ (u : View W S I O). length u.lines) (sym is) ∙ r.lined in (
-        sym f.3 ∙ sym lined,
-        λ k l e. let ok = r.each_cell k l (ap (λ (u : View W S I O). get_elem? u.lines k) is ∙ e) in let m =
-            mine k l e in
-            ⊎_elim
-            (λ t. (
-              t.0,
-              f.4 k (Some t.0) t.1,
-              subst (λ (xs : List O). stands l.seed l.handed xs t.0.work)
-                  (ap (λ (xs : List O). l.back ++ xs) (t.2.2 m) ∙ append-nil l.back) t.2.0,
-            ))
-            (λ t. absurd (t.0 (ap (λ (u : View W S I O). u.has) is ∙ nothing)))
-            (ok.ready (ok.mine m)),
+      let r = f.1.0 in let is : r.main ≡ v = some-injective r.main v (sym r.first ∙ (rw is_first at f.1.1)) in (
+        rw (← is) (sym f.3 ∙ sym r.lined),
+        λ k l e. let ok = r.each_cell k l (rw is e) in let m = mine k l e in ⊎_elim
+            (λ t. (t.0, f.4 k (Some t.0) t.1, simp (t.2.2 m, append-nil) at t.2.0))
+            (λ t. absurd (t.0 (rw is nothing))) (ok.ready (ok.mine m)),
       )

@@ -4,6 +4,4 @@ pub mod Hands
 pub mod Opens
 pub mod Swaps
 pub mod Closes
-pub mod Joined
 pub mod WorkLemmas
-pub mod TurnLemmas

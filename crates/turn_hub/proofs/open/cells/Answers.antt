@@ -1,6 +1,5 @@
-use Rattle.std.proofs.Common.{◌≡◌, ◌++◌, ◌+◌, ◌≤◌, [], ◌∷◌, ℕ, List, length, ap, sym, ◌∙◌, subst}
+use Rattle.std.proofs.Common.{◌≡◌, ◌++◌, ◌+◌, [], ◌∷◌, ℕ, List, length, ap, sym, ◌∙◌}
 use Rattle.std.proofs.Common.{append-nil, append_assoc, length-append, Option, Some, ⊎_elim, arith, suc}
-use Rattle.std.specs.Prelude.{vec_capacity}
 use Rattle.std.proofs.lemmas.List.{nil_from_length}
 use mathlib.Core.Option.{some, some-ne-none}
 use lib.ListN.{get_elem?}
@@ -11,62 +10,44 @@ use Rattle.turn_hub.proofs.Opens.{at_end}
 use Rattle.turn_hub.proofs.open.cells.Goals as goal
 
 more_fresh : {W I O : Type 0} (works : List W) (slots : List (Option (Cell W I O))) (w : W) (c : Cell W I O)
-    → length slots ≡ length works → c.work ≡ w → c.count ≡ 0 → c.outs.items ≡ []
+    → length slots ≡ length works → (c.work ≡ w) × (c.count ≡ 0) × (c.outs.items ≡ [])
     → ((k : ℕ) (x : W) → get_elem? works k ≡ some x → IsFresh slots k x) → (k : ℕ) (x : W)
     → get_elem? (works ++ w ∷ []) k ≡ some x → IsFresh (slots ++ Some c ∷ []) k x
-more_fresh works slots w c long work count outs old k x e = ⊎_elim
+more_fresh works slots w c long new old k x e = ⊎_elim
     (λ t. let f = old k x t in (f.0, at_longer slots (Some c ∷ []) k (Some f.0) f.1, f.2, f.3, f.4))
-    (λ t. (
-      c,
-      ap (get_elem? (slots ++ Some c ∷ [])) t.0 ∙ at_last slots (Some c) (length works) long,
-      work
-          ∙ t.1,
-      count,
-      outs,
-    ))
+    (λ t. (c, rw t.0 (at_last slots (Some c) (length works) long), new.0 ∙ t.1, new.1, new.2))
     (at_end works w x k e)
 
 pub loop-work-init : goal.loop-work-init
-loop-work-init g c = let e = (c.in_ok-slots.ensures {u = tt}).items in (
+loop-work-init g c = let e = c.in_ok-slots.ensures {u = tt} in (
   sym c.into_iter-work-iterator.ensures.into_iter_gives.0,
-  ap length e,
+  ap length e.items,
   λ k w h. absurd (some-ne-none w (sym h)),
-  subst (λ (n : ℕ). n ≤ vec_capacity c.in_ok-slots.slots) (c.len.ensures ∙ c.args.works.ok.0)
-      (c.in_ok-slots.ensures {u = tt}).capacity,
+  rw (← c.args.works.ok.0, ← c.len.ensures) e.capacity,
 )
 
 pub push_reserved-requires : goal.push_reserved-requires
 push_reserved-requires g c =
-    let i = c.loop-work.invariant in
-    let steps = (c.in-Some.ensures {u = tt}).steps in
-    let left = c.next.new.self.rest.items in
-    let long = c.loop-work.slots.ok.0 in
+    let i = c.loop-work.invariant in let left = c.next.new.self.rest.items in let long = c.loop-work.slots.ok.0 in
     let all : length c.args.works.items ≡ length c.loop-work.yielded + suc (length left) =
-    ap length (i.0 ∙ ap (λ xs. c.loop-work.yielded ++ xs) steps.0)
-    ∙ length-append c.loop-work.yielded (c.in-Some.work ∷ left) in
-    let wide = i.1 in
-    let room = i.3 in
-    omega arith
+    rw (i.0, (c.in-Some.ensures {u = tt}).steps.0) (length-append c.loop-work.yielded (c.in-Some.work ∷ left)) in
+    let wide = i.1 in let room = i.3 in omega arith
 
 pub loop-work-preserved : goal.loop-work-preserved
 loop-work-preserved g c = let steps = (c.in-Some.ensures {u = tt}).steps in let i = c.loop-work.invariant in let p =
-    c.push_reserved.ensures.items in let left = c.next.new.self.rest.items in
-    let cell = c.fresh.result in
-    let new = c.fresh.ensures in (
-      i.0 ∙ ap (λ xs. c.loop-work.yielded ++ xs) steps.0
-          ∙ sym (append_assoc c.loop-work.yielded (c.in-Some.work ∷ []) left),
-      ap length p ∙ length-append c.loop-work.slots.items (Some cell ∷ []) ∙ ap (λ (n : ℕ). n + 1) i.1
-          ∙ sym (length-append c.loop-work.yielded (c.in-Some.work ∷ [])),
-      λ k w e. subst (λ xs. IsFresh xs k w) (sym p)
-          (more_fresh c.loop-work.yielded c.loop-work.slots.items c.in-Some.work cell i.1 new.0
-          new.1 new.2 i.2 k w e),
-      subst (λ (n : ℕ). length c.args.works.items ≤ n) (sym c.push_reserved.ensures.capacity) i.3,
+    c.push_reserved.ensures in let done = c.loop-work.yielded in (
+      rw (append_assoc, ← steps.0) i.0,
+      rw (p.items, length-append, length-append) (ap (λ (n : ℕ). n + 1) i.1),
+      λ k w e. rw p.items (more_fresh done c.loop-work.slots.items c.in-Some.work c.fresh.result i.1 c.fresh.ensures
+          i.2 k w e),
+      rw p.capacity i.3,
     )
 
 pub returns : goal.returns
 returns g c = let i = c.loop-work.invariant in let rest = c.loop-work.work-iterator.rest in
-    let all : c.args.works.items ≡ c.loop-work.yielded = i.0
-    ∙ ap (λ xs. c.loop-work.yielded ++ xs)
-    (nil_from_length rest.items (sym rest.ok.0 ∙ (c.in-None.ensures {u = tt}).steps.0))
-    ∙ append-nil c.loop-work.yielded in
-    (i.1 ∙ ap length (sym all), λ k w e. i.2 k w (ap (λ xs. get_elem? xs k) (sym all) ∙ e))
+    let all : c.args.works.items ≡ c.loop-work.yielded = rw (
+      i.0,
+      nil_from_length rest.items (sym rest.ok.0 ∙ (c.in-None.ensures {u = tt}).steps.0),
+      append-nil,
+    ) in
+    (rw all i.1, λ k w e. i.2 k w (rw all at e))

@@ -1,22 +1,15 @@
-use Rattle.std.proofs.Common.{◌<◌, length, suc, refl, sym, ap, ◌∙◌, subst, arith}
-use Rattle.std.specs.Prelude.{All}
-use Rattle.turn_hub.specs.Ends.{IsHandOf}
-use Rattle.turn_hub.proofs.Joined.{hands_join}
+use Rattle.std.proofs.Common.{◌<◌, suc, refl, ap, ◌∙◌, arith}
+use Rattle.turn_hub.proofs.Hands.{hands_join}
 use Rattle.turn_hub.proofs.hub.Hub.join_hands.Goals as goal
 
 pub loop-hand-init : goal.loop-hand-init
 loop-hand-init g c =
-    let given = c.into_iter-hand-iterator.ensures.into_iter_gives.0 in
-    (c.requires.main, refl, subst (All (λ h. IsHandOf c.args.self.now h)) (sym given) c.requires.hands)
+    (c.requires.main, refl, rw c.into_iter-hand-iterator.ensures.into_iter_gives.0 c.requires.hands)
 
 pub join_seat-requires : goal.join_seat-requires
 join_seat-requires g c =
-    let i = c.loop-hand.invariant in
-    let m = i.0 in
-    let steps = (c.in-Some.ensures {u = tt}).steps in
-    let main = c.loop-hand.main.seat in
-    let hand = c.in-Some.hand.seat in
-    let h = subst (All (λ h. IsHandOf c.args.self.now h)) steps.0 i.2 0 c.in-Some.hand (omega arith) in
+    let m = c.loop-hand.invariant.0 in let main = c.loop-hand.main.seat in let hand = c.in-Some.hand.seat in
+    let h = (rw (c.in-Some.ensures {u = tt}).steps.0 at c.loop-hand.invariant.2) 0 c.in-Some.hand (omega arith) in
     let sized = c.args.self.now.sized in
     let near : c.in-Some.hand.cell < c.args.self.now.table.shared.table_id.slots = h.4 in (
       m.0,
@@ -28,19 +21,9 @@ join_seat-requires g c =
 
 pub loop-hand-preserved : goal.loop-hand-preserved
 loop-hand-preserved g c =
-    let i = c.loop-hand.invariant in
-    let m = i.0 in
-    let steps = (c.in-Some.ensures {u = tt}).steps in
-    let did = c.join_seat.ensures in
-    let kept = did.2 in
-    let all = subst (All (λ h. IsHandOf c.args.self.now h)) steps.0 i.2 in (
-      (
-        did.0 ∙ m.0,
-        did.1 ∙ m.1,
-        ap (λ me. me.1) kept ∙ m.2,
-        ap (λ me. me.0.has) kept ∙ m.3,
-        ap (λ me. length me.0.lines) kept ∙ m.4,
-      ),
-      ap (λ me. me.0) kept ∙ i.1,
+    let i = c.loop-hand.invariant in let m = i.0 in let did = c.join_seat.ensures in
+    let all = rw (c.in-Some.ensures {u = tt}).steps.0 at i.2 in (
+      (did.0 ∙ m.0, did.1 ∙ m.1, rw did.2 m.2, rw did.2 m.3, rw did.2 m.4),
+      ap (λ me. me.0) did.2 ∙ i.1,
       λ k d near. all (suc k) d (omega arith),
     )
