@@ -1,6 +1,7 @@
 -- What is adopted, and what is merged of all pieces.
 use Rattle.std.proofs.Common.{◌≡◌, ◌≢◌, ℕ, Bool, true, false, ◌&&◌, ◌||◌, List, [], ◌∷◌, Option, None}
-use Rattle.std.proofs.Common.{Some, refl, sym, subst, ap, ◌∙◌, arith, inl, inr}
+use Rattle.std.proofs.Common.{Some, sym, ap, ◌∙◌, arith, inl, inr}
+use Rattle.std.proofs.Math.Bool.{or-false}
 use Rattle.std.proofs.Math.Dec.{eqb}
 use Rattle.std.proofs.lemmas.Bool.{and_from, eqb-true, or_cases, or_left, or_right}
 use Rattle.std.specs.List.{list_any}
@@ -22,36 +23,24 @@ use Rattle.monitor_state.proofs.PartLaw.{part_stands}
 use Rattle.state_merge.proofs.UnionLaw.{union_stands}
 
 spread : (a b c : Bool) → ((a || b) && c) ≡ ((b && c) || (a && c))
-spread true true true = refl
-spread true true false = refl
-spread true false true = refl
-spread true false false = refl
-spread false true true = refl
-spread false true false = refl
-spread false false c = refl
-
-or_none : (a c : Bool) → (a && c) ≡ ((a || false) && c)
-or_none true c = refl
-or_none false c = refl
+spread a b c = grind arith
 
 same_region : (core : CoreForm) (log : List TimePoint) (r q : Region) (state : State)
     → ((vs : List ℕ) (v : Valuation) → r vs v ≡ q vs v) → StandsInside (view_of core r log) core state
     → StandsInside (view_of core q log) core state
-same_region core log r q state same stands =
-    let equal : r ≡ q = λ i vs v. same vs v i in
-    subst (λ near. StandsInside (view_of core near log) core state) equal stands
+same_region core log r q state same stands = let equal : r ≡ q = λ i vs v. same vs v i in rw equal at stands
 
 pub adopt_merges : AdoptMerges
 unfolding PieceStands
 adopt_merges core s s2 k2 log [] k old new piece merged stands adopts =
-    let none : Adopts None piece.state new = subst (λ o. Adopts o piece.state new) merged adopts in (
+    let none : Adopts None piece.state new = rw merged at adopts in (
       piece.state,
       none,
       same_region core log (in_both (near_of s k) (near_of s2 k2)) (in_both (near_some s (k ∷ [])) (near_of s2 k2))
-          piece.state (λ vs v. or_none (near_of s k vs v) (near_of s2 k2 vs v)) stands,
+          piece.state (λ vs v. sym (ap (λ b. b && near_of s2 k2 vs v) (or-false (near_of s k vs v)))) stands,
     )
 adopt_merges core s s2 k2 log (j ∷ ks) k old new piece merged stands adopts =
-    let some : Adopts (Some merged.0) piece.state new = subst (λ o. Adopts o piece.state new) merged.1 adopts in (
+    let some : Adopts (Some merged.0) piece.state new = rw merged.1 at adopts in (
       some.0,
       some.1,
       union_stands (view_of core (near_of s2 k2) log) core (in_both (near_some s (j ∷ ks)) (near_of s2 k2))
@@ -63,9 +52,9 @@ adopt_merges core s s2 k2 log (j ∷ ks) k old new piece merged stands adopts =
 
 -- what passes at a number passes at one of a list that has it
 found : (p : ℕ → Bool) (k : ℕ) (ks : List ℕ) → p k ≡ true → list_any (eqb k) ks ≡ true → list_any p ks ≡ true
-found p k [] h there = absurd (let w : false ≡ true = there in cc)
+found p k [] h there = absurd cc
 found p k (j ∷ ks) h there = elim (or_cases (eqb k j) (list_any (eqb k) ks) there) [
-  | inl here ↦ or_left (p j) (list_any p ks) (ap p (sym (eqb-true k j here)) ∙ h)
+  | inl here ↦ or_left (p j) (list_any p ks) (rw (eqb-true k j here) at h)
   | inr more ↦ or_right (p j) (list_any p ks) (found p k ks h more)
 ]
 
@@ -90,10 +79,7 @@ pub finished : (core : CoreForm) (s s2 : Strategy) (k2 : ℕ) (log : List TimePo
     → StateRule core state × StateStands (view_of core (near_of s2 k2) log) core state
 finished core s s2 k2 log ks merged state is all m =
     let whole = all_merged core s s2 k2 log ks merged all.covers all.some m all.differ all.below all.size in
-    let same : whole.0 ≡ state = let e = whole.1 in cc in (
-      subst (StateRule core) same whole.2,
-      subst (StateStands (view_of core (near_of s2 k2) log) core) same whole.3,
-    )
+    let same : whole.0 ≡ state = let e = whole.1 in cc in (rw same at whole.2, rw same at whole.3)
 
 -- what was merged of all pieces keeps the rule of states
 pub whole_rule : (m : MergingOf) (state : State) → m.merged ≡ Some state → IsWhole m → StateRule m.core state

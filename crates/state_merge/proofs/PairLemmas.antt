@@ -1,5 +1,5 @@
 -- Two ascending lists walked side by side: what is found at each key, and that the keys ascend.
-use Rattle.std.proofs.Common.{◌≡◌, Bool, true, false, cond, List, [], ◌∷◌, map, Option, Some, None, refl, sym, subst}
+use Rattle.std.proofs.Common.{◌≡◌, Bool, true, false, cond, List, [], ◌∷◌, map, Option, Some, None, refl, sym}
 use Rattle.std.proofs.Common.{ap, ◌∙◌}
 use Rattle.std.proofs.lemmas.Map.Views.{tells_apart}
 use Rattle.std.proofs.lemmas.Map.Lookups.{CmpEqualImpliesEq}
@@ -7,7 +7,7 @@ use Rattle.std.specs.BTreeMap.{is_at}
 use Rattle.std.specs.Cmp.{IsTotalOrder}
 use Rattle.std.specs.List.{AllByRecursion}
 use Rattle.std.specs.List.Sorted.{IsStrictlySortedBy}
-use Rattle.std.specs.Map.{lookup, keys_of}
+use Rattle.std.specs.Map.{keys_of}
 use Rattle.std.specs.Ordering.{is_eq, ordering_reverse}
 use Rattle.std.specs.declared.cmp.Ordering.{Ordering}
 use Rattle.std.specs.declared.cmp.Ordering.TheVariants.{Less, Equal, Greater}
@@ -35,120 +35,87 @@ by_first order told both P x y xs ys less equal greater =
     chosen P (order x y) (told x ∷ walked order told both xs (y ∷ ys)) (both x y ∷ walked order told both xs ys)
     (told y ∷ walked order told both (x ∷ xs) ys) less equal greater
 
-module _ {I K X : Type 0} {cmp : K → K → Ordering} (total : IsTotalOrder cmp) (exact : CmpEqualImpliesEq cmp)
-    (key : I → K) (value : I → X) (both : X → X → X) where
-  abbrev order : I → I → Ordering
-  order x y = cmp (key x) (key y)
+-- ---- keys that ascend
 
-  abbrev told : I → K × X
-  told i = (key i, value i)
-
-  abbrev one : I → I → K × X
-  one x y = (key x, both (value x) (value y))
-
-  abbrev entries : List I → List (K × X)
-  entries is = map told is
-
-  abbrev merged : List I → List I → List (K × X)
-  merged xs ys = walked order told one xs ys
-
-  abbrev found : List (K × X) → K → Option X
-  found es k = lookup (is_at (cmp k)) es
-
-  -- each key is behind k
-  abbrev Behind : K → List (K × X) → Type 0
-  Behind k es = AllByRecursion (λ q. cmp k q ≡ Less) (keys_of es)
-
-  abbrev Ascend : List (K × X) → Type 0
-  Ascend es = IsStrictlySortedBy cmp (keys_of es)
-
-  turned : (a b : K) → cmp a b ≡ Greater → cmp b a ≡ Less
+module _ {K : Type 0} {cmp : K → K → Ordering} (total : IsTotalOrder cmp) where
+  -- what is greater than another one has that before it
+  pub turned : (a b : K) → cmp a b ≡ Greater → cmp b a ≡ Less
   turned a b e = total.antisymm b a ∙ ap ordering_reverse e
 
-  further : (k m : K) (es : List (K × X)) → cmp k m ≡ Less → Behind m es → Behind k es
+  -- what is behind m is behind k, which is before it
+  pub further : (k m : K) (ks : List K) → cmp k m ≡ Less → AllByRecursion (λ q. cmp m q ≡ Less) ks
+      → AllByRecursion (λ q. cmp k q ≡ Less) ks
   further k m [] low all = all
-  further k m (e ∷ es) low all = (total.trans k m e.0 low all.0, further k m es low all.1)
+  further k m (q ∷ ks) low all = (total.trans k m q low all.0, further k m ks low all.1)
 
-  absent : (k : K) (es : List (K × X)) → Behind k es → found es k ≡ None
-  absent k [] all = refl
-  absent k (e ∷ es) all = ap (λ o. cond (is_eq o) (Some e.1) (found es k)) all.0 ∙ absent k es all.1
+module _ {I K E : Type 0} {cmp : K → K → Ordering} (total : IsTotalOrder cmp) (exact : CmpEqualImpliesEq cmp)
+    (key : E → K) (told : I → E) (both : I → I → E)
+    (same : (x y : I) → cmp (key (told x)) (key (told y)) ≡ Equal → key (both x y) ≡ key (told x)) where
+  abbrev order : I → I → Ordering
+  order x y = cmp (key (told x)) (key (told y))
 
-  right_none : (o : Option X) → either both o None ≡ o
-  right_none None = refl
-  right_none (Some x) = refl
+  abbrev walk : List I → List I → List E
+  walk xs ys = walked order told both xs ys
 
-  merged_behind : (k : K) (xs ys : List I) → Behind k (entries xs) → Behind k (entries ys) → Behind k (merged xs ys)
-  merged_behind k [] ys ax ay = ay
-  merged_behind k (x ∷ xs) [] ax ay = ax
-  merged_behind k (x ∷ xs) (y ∷ ys) ax ay =
-      by_first order told one (Behind k) x y xs ys
-      (λ e. (ax.0, merged_behind k xs (y ∷ ys) ax.1 ay)) (λ e. (ax.0, merged_behind k xs ys ax.1 ay.1))
-      (λ e. (ay.0, merged_behind k (x ∷ xs) ys ax ay.1))
+  -- each key is behind k
+  abbrev Behind : K → List E → Type 0
+  Behind k es = AllByRecursion (λ q. cmp k q ≡ Less) (map key es)
 
-  -- the pairs ascend
-  pub merged_ascends : (xs ys : List I) → Ascend (entries xs) → Ascend (entries ys) → Ascend (merged xs ys)
+  abbrev Ascend : List E → Type 0
+  Ascend es = IsStrictlySortedBy cmp (map key es)
+
+  -- what both lists are behind, a walk over them is
+  pub walk_behind : (k : K) (xs ys : List I) → Behind k (map told xs) → Behind k (map told ys) → Behind k (walk xs ys)
+  walk_behind k [] ys ax ay = ay
+  walk_behind k (x ∷ xs) [] ax ay = ax
+  walk_behind k (x ∷ xs) (y ∷ ys) ax ay =
+      by_first order told both (Behind k) x y xs ys (λ e. (ax.0, walk_behind k xs (y ∷ ys) ax.1 ay))
+      (λ e. (rw (same x y e) ax.0, walk_behind k xs ys ax.1 ay.1)) (λ e. (ay.0, walk_behind k (x ∷ xs) ys ax ay.1))
+
+  -- the keys of a walk ascend
+  pub walk_ascends : (xs ys : List I) → Ascend (map told xs) → Ascend (map told ys) → Ascend (walk xs ys)
   unfolding IsStrictlySortedBy
-  merged_ascends [] ys ax ay = ay
-  merged_ascends (x ∷ xs) [] ax ay = ax
-  merged_ascends (x ∷ xs) (y ∷ ys) ax ay =
-      by_first order told one Ascend x y xs ys
+  walk_ascends [] ys ax ay = ay
+  walk_ascends (x ∷ xs) [] ax ay = ax
+  walk_ascends (x ∷ xs) (y ∷ ys) ax ay =
+      let k = key (told x) in
+      let m = key (told y) in
+      by_first order told both Ascend x y xs ys
       (λ e. (
-        merged_behind (key x) xs (y ∷ ys) ax.0 (e, further (key x) (key y) (entries ys) e ay.0),
-        merged_ascends xs (y ∷ ys) ax.1 ay,
+        walk_behind k xs (y ∷ ys) ax.0 (e, further total k m (map key (map told ys)) e ay.0),
+        walk_ascends xs (y ∷ ys) ax.1 ay,
       ))
       (λ e. (
-        merged_behind (key x) xs ys ax.0 (subst (λ k. Behind k (entries ys)) (sym (exact (key x) (key y) e)) ay.0),
-        merged_ascends xs ys ax.1 ay.1,
+        rw (same x y e) (walk_behind k xs ys ax.0 (rw (← exact k m e) at ay.0)),
+        walk_ascends xs ys ax.1 ay.1,
       ))
-      (λ e. let low : cmp (key y) (key x) ≡ Less = turned (key x) (key y) e in (
-        merged_behind (key y) (x ∷ xs) ys (low, further (key y) (key x) (entries xs) low ax.0) ay.0,
-        merged_ascends (x ∷ xs) ys ax ay.1,
+      (λ e. let low = turned total k m e in (
+        walk_behind m (x ∷ xs) ys (low, further total m k (map key (map told xs)) low ax.0) ay.0,
+        walk_ascends (x ∷ xs) ys ax ay.1,
       ))
 
-  -- for each key there is what both keep together
-  pub merged_finds : (xs ys : List I) → Ascend (entries xs) → Ascend (entries ys) → (k : K)
-      → found (merged xs ys) k ≡ either both (found (entries xs) k) (found (entries ys) k)
-  unfolding IsStrictlySortedBy
-  merged_finds [] ys ax ay k = refl
-  merged_finds (x ∷ xs) [] ax ay k = sym (right_none (found (entries (x ∷ xs)) k))
-  merged_finds (x ∷ xs) (y ∷ ys) ax ay k =
-      by_first order told one (λ es. found es k ≡ either both (found (entries (x ∷ xs)) k)
-      (found (entries (y ∷ ys)) k)) x y xs ys
-      (λ e. first e (is_at (cmp k) (key x)) refl (merged_finds xs (y ∷ ys) ax.1 ay k))
-      (λ e. same (is_at (cmp k) (key x)) (merged_finds xs ys ax.1 ay.1 k)
-      ∙ ap (λ q. either both (found (entries (x ∷ xs)) k) (cond (is_at (cmp k) q) (Some (value y))
-      (found (entries ys) k))) (exact (key x) (key y) e))
-      (λ e. second (turned (key x) (key y) e) (is_at (cmp k) (key y)) refl (merged_finds (x ∷ xs) ys ax ay.1 k))
-    where
-      first : cmp (key x) (key y) ≡ Less → (b : Bool) → is_at (cmp k) (key x) ≡ b
-          → found (merged xs (y ∷ ys)) k ≡ either both (found (entries xs) k) (found (entries (y ∷ ys)) k)
-          → cond b (Some (value x)) (found (merged xs (y ∷ ys)) k)
-          ≡ either both (cond b (Some (value x)) (found (entries xs) k)) (found (entries (y ∷ ys)) k)
-      first e true t h =
-          let none : found (entries (y ∷ ys)) (key x) ≡ None =
-          absent (key x) (entries (y ∷ ys)) (e, further (key x) (key y) (entries ys) e ay.0) in
-          sym (ap (either both (Some (value x))) (ap (found (entries (y ∷ ys))) (tells_apart exact k (key x) t) ∙ none))
-      first e false t h = h
+-- ---- what is found at a key
 
-      second : cmp (key y) (key x) ≡ Less → (b : Bool) → is_at (cmp k) (key y) ≡ b
-          → found (merged (x ∷ xs) ys) k ≡ either both (found (entries (x ∷ xs)) k) (found (entries ys) k)
-          → cond b (Some (value y)) (found (merged (x ∷ xs) ys) k)
-          ≡ either both (found (entries (x ∷ xs)) k) (cond b (Some (value y)) (found (entries ys) k))
-      second e true t h =
-          let none : found (entries (x ∷ xs)) (key y) ≡ None =
-          absent (key y) (entries (x ∷ xs)) (e, further (key y) (key x) (entries xs) e ax.0) in
-          sym (ap (λ o. either both o (Some (value y)))
-          (ap (found (entries (x ∷ xs))) (tells_apart exact k (key y) t) ∙ none))
-      second e false t h = h
+-- where the other keeps nothing, there is what the one keeps
+pub either_none : {X : Type 0} (both : X → X → X) (o : Option X) → either both o None ≡ o
+either_none both None = refl
+either_none both (Some x) = refl
 
-      same : (b : Bool) → found (merged xs ys) k ≡ either both (found (entries xs) k) (found (entries ys) k)
-          → cond b (Some (both (value x) (value y))) (found (merged xs ys) k)
-          ≡ either both (cond b (Some (value x)) (found (entries xs) k)) (cond b (Some (value y)) (found
-          (entries ys) k))
-      same true h = refl
-      same false h = h
+chose_first : {X : Type 0} (both : X → X → X) (b : Bool) (x : X) (rest o k : Option X) → (b ≡ true → k ≡ None)
+    → rest ≡ either both o k → cond b (Some x) rest ≡ either both (cond b (Some x) o) k
+chose_first both true x rest o k none h = rw (none refl) refl
+chose_first both false x rest o k none h = h
 
--- rows that a walk over two lists gives are the union of both
+chose_second : {X : Type 0} (both : X → X → X) (b : Bool) (x : X) (rest o k : Option X) → (b ≡ true → o ≡ None)
+    → rest ≡ either both o k → cond b (Some x) rest ≡ either both o (cond b (Some x) k)
+chose_second both true x rest o k none h = rw (none refl) refl
+chose_second both false x rest o k none h = h
+
+chose_both : {X : Type 0} (both : X → X → X) (b : Bool) (x y : X) (rest o k : Option X) → rest ≡ either both o k
+    → cond b (Some (both x y)) rest ≡ either both (cond b (Some x) o) (cond b (Some y) k)
+chose_both both true x y rest o k h = refl
+chose_both both false x y rest o k h = h
+
 module _ {I X : Type 0} (row : I → List Value) (value : I → X) (both : X → X → X) where
   abbrev kept : I → List Value × X
   kept i = (row i, value i)
@@ -156,13 +123,44 @@ module _ {I X : Type 0} (row : I → List Value) (value : I → X) (both : X →
   abbrev kept_of_both : I → I → List Value × X
   kept_of_both x y = (row x, both (value x) (value y))
 
+  abbrev rows_order : I → I → Ordering
+  rows_order x y = row_cmp (row x) (row y)
+
+  abbrev merged : List I → List I → List (List Value × X)
+  merged xs ys = walked rows_order kept kept_of_both xs ys
+
+  -- nothing is found for a row that all are behind
+  absent : (u w : List Value) (es : List (List Value × X)) → AllByRecursion (λ q. row_cmp w q ≡ Less) (keys_of es)
+      → is_at (row_cmp u) w ≡ true → kept_for es u ≡ None
+  absent u w [] all at = refl
+  absent u w (e ∷ es) all at =
+      ap (λ v. cond (is_at (row_cmp v) e.0) (Some e.1) (kept_for es u)) (tells_apart row_exact u w at)
+      ∙ ap (λ o. cond (is_eq o) (Some e.1) (kept_for es u)) all.0 ∙ absent u w es all.1 at
+
+  -- for each row there is what both keep together
+  merged_finds : (xs ys : List I) → RowsAscend (map kept xs) → RowsAscend (map kept ys) → (u : List Value)
+      → kept_for (merged xs ys) u ≡ either both (kept_for (map kept xs) u) (kept_for (map kept ys) u)
+  unfolding IsStrictlySortedBy
+  merged_finds [] ys ax ay u = refl
+  merged_finds (x ∷ xs) [] ax ay u = sym (either_none both (kept_for (map kept (x ∷ xs)) u))
+  merged_finds (x ∷ xs) (y ∷ ys) ax ay u =
+      by_first rows_order kept kept_of_both (λ es. kept_for es u ≡ either both (kept_for (map kept (x ∷ xs)) u)
+      (kept_for (map kept (y ∷ ys)) u)) x y xs ys
+      (λ e. chose_first both (is_at (row_cmp u) (row x)) (value x) _ _ _ (absent u (row x) (map kept (y ∷ ys))
+      (e, further row_total (row x) (row y) (keys_of (map kept ys)) e ay.0)) (merged_finds xs (y ∷ ys) ax.1 ay u))
+      (λ e. rw (← row_exact (row x) (row y) e) (chose_both both (is_at (row_cmp u) (row x)) (value x) (value y) _ _ _
+      (merged_finds xs ys ax.1 ay.1 u)))
+      (λ e. let low = turned row_total (row x) (row y) e in
+      chose_second both (is_at (row_cmp u) (row y)) (value y) _ _ _ (absent u (row y) (map kept (x ∷ xs))
+      (low, further row_total (row y) (row x) (keys_of (map kept xs)) low ax.0)) (merged_finds (x ∷ xs) ys ax ay.1 u))
+
+  -- rows that a walk over two lists gives are the union of both
   pub rows_united : (xs ys zs : List I) → RowsAscend (map kept xs) → RowsAscend (map kept ys)
-      → map kept zs ≡ walked (λ x y. row_cmp (row x) (row y)) kept kept_of_both xs ys
-      → RowsUnion both (map kept xs) (map kept ys) (map kept zs)
+      → map kept zs ≡ merged xs ys → RowsUnion both (map kept xs) (map kept ys) (map kept zs)
   rows_united xs ys zs ax ay is =
       record {
-        each = λ u. ap (λ es. kept_for es u) is ∙ merged_finds row_total row_exact row value both xs ys ax ay u;
-        ascend = subst RowsAscend (sym is) (merged_ascends row_total row_exact row value both xs ys ax ay);
+        each = λ u. rw is (merged_finds xs ys ax ay u);
+        ascend = rw is (walk_ascends row_total row_exact (λ e. e.0) kept kept_of_both (λ x y e. refl) xs ys ax ay);
       }
 
 -- where nothing is asked, it holds of all

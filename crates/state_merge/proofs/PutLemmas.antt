@@ -1,8 +1,10 @@
 -- Lists that ascend by a number: one put into another, item by item, is what walking over both gives.
 use Rattle.std.proofs.Common.{◌≡◌, ℕ, ◌<◌, Bool, true, false, ◌&&◌, ◌||◌, cond, nat_eq, nat_lt, List, [], ◌∷◌, length}
-use Rattle.std.proofs.Common.{map, refl, sym, subst, ap, ◌∙◌, arith}
-use Rattle.std.proofs.lemmas.Bool.{and_from, and_parts}
+use Rattle.std.proofs.Common.{map, refl, sym, ap, ◌∙◌, arith}
+use Rattle.std.proofs.lemmas.Bool.{and_parts}
+use Rattle.std.proofs.lemmas.Bool.Decides.{nat_tests}
 use Rattle.std.proofs.lemmas.Cmp.{nat_cmp_total}
+use Rattle.std.proofs.lemmas.List.{map-id}
 use Rattle.std.proofs.lemmas.Map.Keys.{IsStrictlyIncreasing-from_sorted, sorted_from_strictly_increasing}
 use Rattle.std.proofs.lemmas.Map.Lookups.{exact_unsigned}
 use Rattle.std.proofs.Math.Bool.{or_assoc}
@@ -15,25 +17,13 @@ use Rattle.mfotl_model.proofs.LogicLemmas.{or_moved}
 use Rattle.eval_until.specs.declared.recalled.Mark.{Mark}
 use Rattle.monitor_state.specs.JoinedRows.{marks_joined, put_mark, put_time, times_united}
 use Rattle.state_merge.specs.Pairs.{MarksAscend, by_order, lesser_mark, walked}
-use Rattle.state_merge.proofs.PairLemmas.{by_first, chosen}
-
-by_test : (l e : Bool) → cond l Less (cond e Equal Greater) ≡ Less → l ≡ true
-by_test true e h = refl
-by_test false true h = cc
-by_test false false h = cc
+use Rattle.state_merge.proofs.PairLemmas.{by_first, chosen, further, turned, walk_ascends, walk_behind}
 
 pub less_is : (x y : ℕ) → nat_cmp x y ≡ Less → nat_lt x y ≡ true
-less_is x y h = by_test (nat_lt x y) (nat_eq x y) h
-
-turned : (x y : ℕ) → nat_cmp x y ≡ Greater → nat_cmp y x ≡ Less
-turned x y h = nat_cmp_total.antisymm y x ∙ ap ordering_reverse h
+less_is x y h = grind (arith, nat_tests)
 
 turned_back : (x y : ℕ) → nat_cmp y x ≡ Less → nat_cmp x y ≡ Greater
 turned_back x y h = nat_cmp_total.antisymm x y ∙ ap ordering_reverse h
-
-pub same_items : {I : Type 0} (is : List I) → map (λ i. i) is ≡ is
-same_items [] = refl
-same_items (i ∷ is) = ap (λ js. i ∷ js) (same_items is)
 
 module _ {I : Type 0} (key : I → ℕ) (one : I → I → I) where
   -- an item put into a list by its key
@@ -51,18 +41,17 @@ module _ {I : Type 0} (key : I → ℕ) (one : I → I → I) where
       → P (put x (y ∷ ys))
   place P x y ys less equal greater =
       chosen P (nat_cmp (key x) (key y)) (x ∷ y ∷ ys) (one x y ∷ ys) (y ∷ put x ys) less equal
-      (λ e. greater (turned (key x) (key y) e))
+      (λ e. greater (turned nat_cmp_total (key x) (key y) e))
 
   -- ---- each item, some item, and how many
 
   module _ (p : I → Bool) (join : (x y : I) → p x ≡ true → p y ≡ true → p (one x y) ≡ true) where
     put_holds : (x : I) (ys : List I) → p x ≡ true → list_all p ys ≡ true → list_all p (put x ys) ≡ true
-    put_holds x [] px all = and_from (p x) true px refl
+    put_holds x [] px all = rw px refl
     put_holds x (y ∷ ys) px all =
         let parts = and_parts (p y) (list_all p ys) all in
-        place (λ zs. list_all p zs ≡ true) x y ys (λ e. and_from (p x) (p y && list_all p ys) px all)
-        (λ e. and_from (p (one x y)) (list_all p ys) (join x y px parts.0) parts.1)
-        (λ e. and_from (p y) (list_all p (put x ys)) parts.0 (put_holds x ys px parts.1))
+        place (λ zs. list_all p zs ≡ true) x y ys (λ e. rw (px, all) refl)
+        (λ e. rw (join x y px parts.0, parts.1) refl) (λ e. rw (parts.0, put_holds x ys px parts.1) refl)
 
     pub all_hold : (xs ys : List I) → list_all p xs ≡ true → list_all p ys ≡ true → list_all p (all_put xs ys) ≡ true
     all_hold [] ys ax ay = ay
@@ -76,14 +65,13 @@ module _ {I : Type 0} (key : I → ℕ) (one : I → I → I) where
     put_any x [] = refl
     put_any x (y ∷ ys) =
         place (λ zs. list_any p zs ≡ (p x || (p y || list_any p ys))) x y ys (λ e. refl)
-        (λ e. ap (λ b. b || list_any p ys) (join x y e) ∙ or_assoc (p x) (p y) (list_any p ys))
-        (λ e. ap (λ b. p y || b) (put_any x ys) ∙ or_moved (p y) (p x) (list_any p ys))
+        (λ e. rw (join x y e) (or_assoc (p x) (p y) (list_any p ys)))
+        (λ e. rw (put_any x ys) (or_moved (p y) (p x) (list_any p ys)))
 
     pub any_of_all : (xs ys : List I) → list_any p (all_put xs ys) ≡ (list_any p xs || list_any p ys)
     any_of_all [] ys = refl
     any_of_all (x ∷ xs) ys =
-        put_any x (all_put xs ys) ∙ ap (λ b. p x || b) (any_of_all xs ys)
-        ∙ sym (or_assoc (p x) (list_any p xs) (list_any p ys))
+        rw (put_any x (all_put xs ys), any_of_all xs ys) (sym (or_assoc (p x) (list_any p xs) (list_any p ys)))
 
   put_some : (x : I) (ys : List I) → 0 < length (put x ys)
   put_some x [] = omega arith
@@ -103,10 +91,6 @@ module _ {I : Type 0} (key : I → ℕ) (one : I → I → I) where
   abbrev pub Ascend : List I → Type 0
   Ascend is = IsStrictlySortedBy nat_cmp (map key is)
 
-  further : (k m : ℕ) (is : List I) → nat_cmp k m ≡ Less → Behind m is → Behind k is
-  further k m [] low all = all
-  further k m (i ∷ is) low all = (nat_cmp_total.trans k m (key i) low all.0, further k m is low all.1)
-
   first : (x : I) (zs : List I) → Behind (key x) zs → put x zs ≡ x ∷ zs
   first x [] all = refl
   first x (z ∷ zs) all = ap (λ o. by_order o (x ∷ z ∷ zs) (one x z ∷ zs) (z ∷ put x zs)) all.0
@@ -124,55 +108,41 @@ module _ {I : Type 0} (key : I → ℕ) (one : I → I → I) where
   all_alone (x ∷ xs) ax = ap (put x) (all_alone xs ax.1) ∙ first x xs ax.0
 
   module _ (same_key : (x y : I) → key (one x y) ≡ key y) where
-    put_behind : (k : ℕ) (x : I) (ys : List I) → nat_cmp k (key x) ≡ Less → Behind k ys → Behind k (put x ys)
-    put_behind k x [] low all = (low, all)
-    put_behind k x (y ∷ ys) low all =
-        place (Behind k) x y ys (λ e. (low, all))
-        (λ e. (subst (λ q. nat_cmp k q ≡ Less) (sym (same_key x y)) all.0, all.1))
-        (λ e. (all.0, put_behind k x ys low all.1))
-
-    all_behind : (k : ℕ) (xs ys : List I) → Behind k xs → Behind k ys → Behind k (all_put xs ys)
-    all_behind k [] ys ax ay = ay
-    all_behind k (x ∷ xs) ys ax ay = put_behind k x (all_put xs ys) ax.0 (all_behind k xs ys ax.1 ay)
-
-    put_ascends : (x : I) (ys : List I) → Ascend ys → Ascend (put x ys)
-    unfolding IsStrictlySortedBy
-    put_ascends x [] ay = (tt, tt)
-    put_ascends x (y ∷ ys) ay =
-        place Ascend x y ys (λ e. ((e, further (key x) (key y) ys e ay.0), ay))
-        (λ e. (subst (λ q. Behind q ys) (sym (same_key x y)) ay.0, ay.1))
-        (λ e. (put_behind (key y) x ys e ay.0, put_ascends x ys ay.1))
-
-    pub all_ascend : (xs ys : List I) → Ascend ys → Ascend (all_put xs ys)
-    all_ascend [] ys ay = ay
-    all_ascend (x ∷ xs) ys ay = put_ascends x (all_put xs ys) (all_ascend xs ys ay)
-
     -- ---- the walk
 
     abbrev order : I → I → Ordering
     order x y = nat_cmp (key x) (key y)
 
+    same : (x y : I) → order x y ≡ Equal → key (one x y) ≡ key x
+    same x y e = same_key x y ∙ sym (exact_unsigned (key x) (key y) e)
+
     walked_put : (xs ys : List I) → Ascend xs → Ascend ys → walked order (λ i. i) one xs ys ≡ all_put xs ys
     unfolding IsStrictlySortedBy
-    walked_put [] ys ax ay = same_items ys
-    walked_put (x ∷ xs) [] ax ay = same_items (x ∷ xs) ∙ sym (all_alone (x ∷ xs) ax)
+    walked_put [] ys ax ay = map-id ys
+    walked_put (x ∷ xs) [] ax ay = map-id (x ∷ xs) ∙ sym (all_alone (x ∷ xs) ax)
     walked_put (x ∷ xs) (y ∷ ys) ax ay =
         by_first order (λ i. i) one (λ is. is ≡ put x (all_put xs (y ∷ ys))) x y xs ys
-        (λ e. ap (λ is. x ∷ is) (walked_put xs (y ∷ ys) ax.1 ay)
-        ∙ sym (first x (all_put xs (y ∷ ys)) (all_behind (key x) xs (y ∷ ys) ax.0
-        (e, further (key x) (key y) ys e ay.0))))
+        (λ e. let rest = walked_put xs (y ∷ ys) ax.1 ay in
+        let behind = walk_behind nat_cmp_total exact_unsigned key (λ i. i) one same (key x) xs (y ∷ ys)
+        (rw (map-id xs) ax.0) (e, rw (map-id ys) (further nat_cmp_total (key x) (key y) (map key ys) e ay.0)) in
+        ap (λ is. x ∷ is) rest ∙ sym (first x (all_put xs (y ∷ ys)) (rw rest at behind)))
         (λ e. let zs = all_put xs ys in
         ap (λ is. one x y ∷ is) (walked_put xs ys ax.1 ay.1)
         ∙ sym (ap (λ o. by_order o (x ∷ y ∷ zs) (one x y ∷ zs) (y ∷ put x zs)) e)
-        ∙ sym (ap (put x) (all_later y xs ys (subst (λ k. Behind k xs) (exact_unsigned (key x) (key y) e) ax.0))))
-        (λ e. let low = turned (key x) (key y) e in
+        ∙ sym (ap (put x) (all_later y xs ys (rw (exact_unsigned (key x) (key y) e) at ax.0))))
+        (λ e. let low = turned nat_cmp_total (key x) (key y) e in
         ap (λ is. y ∷ is) (walked_put (x ∷ xs) ys ax ay.1)
-        ∙ sym (all_later y (x ∷ xs) ys (low, further (key y) (key x) xs low ax.0)))
+        ∙ sym (all_later y (x ∷ xs) ys (low, further nat_cmp_total (key y) (key x) (map key xs) low ax.0)))
 
     -- the items that a walk over two lists gives
     pub items_walked : (xs ys zs : List I) → Ascend xs → Ascend ys
         → map (λ i. i) zs ≡ walked order (λ i. i) one xs ys → zs ≡ all_put xs ys
-    items_walked xs ys zs ax ay is = sym (same_items zs) ∙ is ∙ walked_put xs ys ax ay
+    items_walked xs ys zs ax ay is = sym (map-id zs) ∙ is ∙ walked_put xs ys ax ay
+
+    pub all_ascend : (xs ys : List I) → Ascend xs → Ascend ys → Ascend (all_put xs ys)
+    all_ascend xs ys ax ay =
+        rw (← walked_put xs ys ax ay)
+        (walk_ascends nat_cmp_total exact_unsigned key (λ i. i) one same xs ys (rw (map-id xs) ax) (rw (map-id ys) ay))
 
 by_tests : {A : Type 0} (l e : Bool) (a b c : A)
     → cond l a (cond e b c) ≡ by_order (cond l Less (cond e Equal Greater)) a b c
@@ -199,13 +169,13 @@ times_are [] ys = refl
 times_are (x ∷ xs) ys = put_is x (times_united xs ys) ∙ ap (put time_of one_time x) (times_are xs ys)
 
 times_ascend : (xs : List ℕ) → IsStrictlyIncreasing xs → Ascend time_of one_time xs
-times_ascend xs up = subst (IsStrictlySortedBy nat_cmp) (sym (same_items xs)) (sorted_from_strictly_increasing xs up)
+times_ascend xs up = rw (map-id xs) (sorted_from_strictly_increasing xs up)
 
-pub times_increase : (xs ys : List ℕ) → IsStrictlyIncreasing ys → IsStrictlyIncreasing (times_united xs ys)
-times_increase xs ys up =
-    IsStrictlyIncreasing-from_sorted (times_united xs ys)
-    (subst (IsStrictlySortedBy nat_cmp) (same_items (all_put time_of one_time xs ys) ∙ sym (times_are xs ys))
-    (all_ascend time_of one_time (λ x y. refl) xs ys (times_ascend ys up)))
+pub times_increase : (xs ys : List ℕ) → IsStrictlyIncreasing xs → IsStrictlyIncreasing ys
+    → IsStrictlyIncreasing (times_united xs ys)
+times_increase xs ys ax ay =
+    let up = all_ascend time_of one_time (λ x y. refl) xs ys (times_ascend xs ax) (times_ascend ys ay) in
+    rw (times_are xs ys) (IsStrictlyIncreasing-from_sorted _ (rw (map-id (all_put time_of one_time xs ys)) at up))
 
 pub times_walked : (xs ys zs : List ℕ) → IsStrictlyIncreasing xs → IsStrictlyIncreasing ys
     → map time_of zs ≡ walked nat_cmp time_of one_time xs ys → zs ≡ times_united xs ys
@@ -228,9 +198,8 @@ pub marks_are : (ms ns : List Mark) → marks_joined ms ns ≡ all_put place_of 
 marks_are [] ns = refl
 marks_are (m ∷ ms) ns = put_mark_is m (marks_joined ms ns) ∙ ap (put place_of lesser_mark m) (marks_are ms ns)
 
-pub marks_ascend : (ms ns : List Mark) → MarksAscend ns → MarksAscend (marks_joined ms ns)
-marks_ascend ms ns up =
-    subst MarksAscend (sym (marks_are ms ns)) (all_ascend place_of lesser_mark (λ m n. refl) ms ns up)
+pub marks_ascend : (ms ns : List Mark) → MarksAscend ms → MarksAscend ns → MarksAscend (marks_joined ms ns)
+marks_ascend ms ns am an = rw (marks_are ms ns) (all_ascend place_of lesser_mark (λ m n. refl) ms ns am an)
 
 pub marks_walked : (ms ns os : List Mark) → MarksAscend ms → MarksAscend ns
     → map (λ m. m) os ≡ walked (λ (m n : Mark). nat_cmp m.place n.place) (λ m. m) lesser_mark ms ns

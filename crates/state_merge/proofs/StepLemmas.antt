@@ -1,6 +1,5 @@
 -- One step of a walk over two lists, by which of their first ones comes first.
-use Rattle.std.proofs.Common.{◌≡◌, ◌++◌, List, [], ◌∷◌, map, Option, Some, None, IfNone, option_to_list, refl, sym}
-use Rattle.std.proofs.Common.{subst}
+use Rattle.std.proofs.Common.{◌≡◌, ◌++◌, List, [], ◌∷◌, map, Option, Some, None, IfNone, option_to_list, refl}
 use Rattle.std.proofs.Common.{ap, arith}
 use Rattle.std.specs.declared.cmp.Ordering.{Ordering}
 use Rattle.std.specs.declared.cmp.Ordering.TheVariants.{Less, Greater}
@@ -26,32 +25,25 @@ module _ {I X : Type 0} (order : I → I → Ordering) (told : I → X) (both : 
   by_less : (next : Option I) (xs ys : List I) → IfNone next (option_to_list next ++ xs ≡ [])
       → order_of_firsts order (option_to_list next ++ xs) ys ≡ Less → Step (option_to_list next ++ xs) ys next xs ys
   by_less None [] [] none e = record { walk = refl; end = (refl, refl); fewer = omega arith }
-  by_less None [] (y ∷ ys) none e = absurd (let w : Greater ≡ Less = e in cc)
-  by_less None (x ∷ xs) ys none e = absurd (let w : x ∷ xs ≡ [] = none in cc)
-  by_less (Some x) xs [] none e =
-      record { walk = ap (λ ts. told x ∷ ts) (sym (alone xs)); end = tt; fewer = omega arith }
+  by_less (Some x) xs [] none e = record { walk = rw (alone xs) refl; end = tt; fewer = omega arith }
   by_less (Some x) xs (y ∷ ys) none e =
       record { walk = chosen_by x y xs ys Less e; end = tt; fewer = omega arith }
+  by_less next xs ys none e = absurd cc
 
   by_greater : (next : Option I) (xs ys : List I) → IfNone next (option_to_list next ++ ys ≡ [])
       → order_of_firsts order xs (option_to_list next ++ ys) ≡ Greater → Step xs (option_to_list next ++ ys) next xs ys
-  by_greater None [] [] none e = absurd (let w : Less ≡ Greater = e in cc)
-  by_greater None (x ∷ xs) [] none e = absurd (let w : Less ≡ Greater = e in cc)
-  by_greater None xs (y ∷ ys) none e = absurd (let w : y ∷ ys ≡ [] = none in cc)
+  by_greater None [] [] none e = absurd cc
   by_greater (Some y) [] ys none e = record { walk = refl; end = tt; fewer = omega arith }
   by_greater (Some y) (x ∷ xs) ys none e =
       record { walk = chosen_by x y xs ys Greater e; end = tt; fewer = omega arith }
+  by_greater next xs ys none e = absurd cc
 
   -- the first one of the first list is taken
   pub steps_in_first : (next : Option I) (xs xs2 ys : List I) → xs ≡ option_to_list next ++ xs2
       → IfNone next (xs ≡ []) → order_of_firsts order xs ys ≡ Less → Step xs ys next xs2 ys
-  steps_in_first next xs xs2 ys is none e =
-      subst (λ zs. IfNone next (zs ≡ []) → order_of_firsts order zs ys ≡ Less → Step zs ys next xs2 ys) (sym is)
-      (by_less next xs2 ys) none e
+  steps_in_first next xs xs2 ys is none e = rw is (by_less next xs2 ys (rw is at none) (rw is at e))
 
   -- that of the second list
   pub steps_in_second : (next : Option I) (xs ys ys2 : List I) → ys ≡ option_to_list next ++ ys2
       → IfNone next (ys ≡ []) → order_of_firsts order xs ys ≡ Greater → Step xs ys next xs ys2
-  steps_in_second next xs ys ys2 is none e =
-      subst (λ zs. IfNone next (zs ≡ []) → order_of_firsts order xs zs ≡ Greater → Step xs zs next xs ys2) (sym is)
-      (by_greater next xs ys2) none e
+  steps_in_second next xs ys ys2 is none e = rw is (by_greater next xs ys2 (rw is at none) (rw is at e))

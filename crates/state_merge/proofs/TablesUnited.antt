@@ -1,5 +1,5 @@
 -- Tables united: they are exact for both regions, have nothing outside them, and keep their columns and number.
-use Rattle.std.proofs.Common.{◌≡◌, ℕ, suc, ◌+◌, ◌≤◌, ◌^◌, ◌||◌, List, [], ◌∷◌, length, map, refl, sym, subst, ap, ap₂}
+use Rattle.std.proofs.Common.{◌≡◌, ℕ, suc, ◌+◌, ◌≤◌, ◌^◌, ◌||◌, List, [], ◌∷◌, length, map, refl, sym, ap, ap₂}
 use Rattle.std.proofs.Common.{◌∙◌}
 use Rattle.std.proofs.lemmas.Bool.{or_parts}
 use Rattle.std.specs.List.{AllByRecursion}
@@ -8,20 +8,19 @@ use Rattle.mfotl_model.specs.Formulas.{Form}
 use Rattle.mfotl_model.specs.FreeVariables.{fv}
 use Rattle.mfotl_model.specs.Regions.{Region}
 use Rattle.mfotl_model.specs.Satisfaction.{Valuation, sat}
-use Rattle.mfotl_model.specs.Tables.{TableOf, has, has_row}
+use Rattle.mfotl_model.specs.Tables.{TableOf, has}
 use Rattle.mfotl_model.specs.declared.value.Value.{Value}
 use Rattle.eval_bool.specs.BoolData.{TablesOver, with_tables}
 use Rattle.eval_bool.specs.IsJoin.{FewFrom}
 use Rattle.eval_bool.specs.JoinView.{ChildOf}
 use Rattle.monitorable.specs.CoreForms.{CoreForm, meaning}
-use Rattle.relations.specs.KeptRows.{kept_for}
 use Rattle.relations.specs.Pushed.{AreOver}
 use Rattle.monitor_state.specs.JoinedRows.{RowsUnion}
 use Rattle.monitor_state.specs.StateInside.{RowsInside, TableInside, TablesInside}
 use Rattle.monitor_state.specs.StateLaws.{seen_in}
 use Rattle.monitor_state.specs.StateStands.{TablesStand}
 use Rattle.monitor_state.specs.StateUnions.{ListsUnion, TableUnion, TablesUnion}
-use Rattle.state_merge.proofs.JoinedLemmas.{none_pooled, pooled_test}
+use Rattle.state_merge.proofs.JoinedLemmas.{pooled_test}
 
 pub over_union : (columns : List ℕ) (xs ys zs : List TableOf) → AreOver columns xs → TablesUnion xs ys zs
     → AreOver columns zs
@@ -35,55 +34,42 @@ union_length [] [] [] u = refl
 union_length (x ∷ xs) (y ∷ ys) (z ∷ zs) u = ap suc (union_length xs ys zs u.1)
 union_length xs ys zs u = absurd u
 
-pub lists_over : (children : List ChildOf) (xs ys zs : List (List TableOf)) → TablesOver children xs
-    → ListsUnion xs ys zs
-    → TablesOver children zs
-lists_over [] [] [] [] over u = tt
-lists_over (c ∷ children) (x ∷ xs) (y ∷ ys) (z ∷ zs) over u =
-    (over_union c.columns x y z over.0 u.0, lists_over children xs ys zs over.1 u.1)
-lists_over [] (x ∷ xs) ys zs over u = absurd over
-lists_over (c ∷ children) [] ys zs over u = absurd over
-lists_over children xs ys zs over u = absurd u
-
-pub lists_few : (p : ℕ) (children : List ChildOf) (xs ys zs : List (List TableOf)) → TablesOver children xs
-    → FewFrom p (with_tables children xs) → ListsUnion xs ys zs → FewFrom p (with_tables children zs)
-lists_few p [] [] [] [] over few u = tt
-lists_few p (c ∷ children) (x ∷ xs) (y ∷ ys) (z ∷ zs) over few u =
-    (subst (λ n. p + n ≤ 2 ^ 63) (sym (union_length x y z u.0)) few.0, lists_few p children xs ys zs over.1 few.1 u.1)
-lists_few p [] (x ∷ xs) ys zs over few u = absurd over
-lists_few p (c ∷ children) [] ys zs over few u = absurd over
-lists_few p children xs ys zs over few u = absurd u
+pub lists_rule : (p : ℕ) (children : List ChildOf) (xs ys zs : List (List TableOf)) → TablesOver children xs
+    → FewFrom p (with_tables children xs) → ListsUnion xs ys zs
+    → TablesOver children zs × FewFrom p (with_tables children zs)
+lists_rule p [] [] [] [] over few u = (tt, tt)
+lists_rule p (c ∷ children) (x ∷ xs) (y ∷ ys) (z ∷ zs) over few u =
+    let rest = lists_rule p children xs ys zs over.1 few.1 u.1 in
+    ((over_union c.columns x y z over.0 u.0, rest.0), (rw (union_length x y z u.0) few.0, rest.1))
+lists_rule p children xs ys zs over few u = absurd assumption
 
 module _ (view : View) (r q all : Region) (union : (vs : List ℕ) (v : Valuation) → all vs v ≡ (r vs v || q vs v)) where
-  has_union : (a b c : TableOf) → b.columns ≡ a.columns → TableUnion a b c → (v : Valuation)
-      → has c v ≡ (has a v || has b v)
-  unfolding has
-  has_union a b c same u v =
-      ap (λ columns. has_row c.rows (map v columns)) u.columns
-      ∙ u.rows (map v a.columns)
-      ∙ ap (λ columns. has_row a.rows (map v a.columns) || has_row b.rows (map v columns)) (sym same)
+  module _ (f : Form) (i : ℕ) (a b c : TableOf) (ea : Exact (seen_in view r) f i a) (ia : TableInside r a)
+      (eb : Exact (seen_in view q) f i b) (ib : TableInside q b) (u : TableUnion a b c) where
+    same : b.columns ≡ a.columns
+    same = eb.columns ∙ sym ea.columns
 
-  exact_union : (f : Form) (i : ℕ) (a b c : TableOf) → Exact (seen_in view r) f i a → TableInside r a
-      → Exact (seen_in view q) f i b → TableInside q b → TableUnion a b c → Exact (seen_in view all) f i c
-  exact_union f i a b c ea ia eb ib u =
+    has_union : (v : Valuation) → has c v ≡ (has a v || has b v)
+    unfolding has
+    has_union v = rw (u.columns, same) (u.rows (map v a.columns))
+
+    table_union : Exact (seen_in view all) f i c × TableInside all c
+    table_union = (
       record {
         columns = u.columns ∙ ea.columns;
         rows = λ dom v covers n.
-            has_union a b c (eb.columns ∙ sym ea.columns) u v
+            has_union v
             ∙ pooled_test (r (fv f) v) (q (fv f) v) (has a v) (has b v) (sat view.log dom v i f)
-            (λ t. ea.rows dom v covers t) (λ o. ia v (ap (λ columns. r columns v) ea.columns ∙ o))
-            (λ t. eb.rows dom v covers t) (λ o. ib v (ap (λ columns. q columns v) eb.columns ∙ o))
+            (ea.rows dom v covers) (λ o. ia v (ap (λ columns. r columns v) ea.columns ∙ o))
+            (eb.rows dom v covers) (λ o. ib v (ap (λ columns. q columns v) eb.columns ∙ o))
             (sym (union (fv f) v) ∙ n);
-      }
-
-  inside_union : (f : Form) (i : ℕ) (a b c : TableOf) → Exact (seen_in view r) f i a → TableInside r a
-      → Exact (seen_in view q) f i b → TableInside q b → TableUnion a b c → TableInside all c
-  inside_union f i a b c ea ia eb ib u v n =
-      let both = or_parts (r c.columns v) (q c.columns v) (sym (union c.columns v) ∙ n) in
-      let same : b.columns ≡ a.columns = eb.columns ∙ sym ea.columns in
-      has_union a b c same u v
-      ∙ ap₂ (λ x y. x || y) (ia v (ap (λ columns. r columns v) (sym u.columns) ∙ both.0))
-      (ib v (ap (λ columns. q columns v) (same ∙ sym u.columns) ∙ both.1))
+      },
+      λ v n.
+          let both = or_parts (r c.columns v) (q c.columns v) (sym (union c.columns v) ∙ n) in
+          has_union v
+          ∙ ap₂ (λ x y. x || y) (ia v (ap (λ columns. r columns v) (sym u.columns) ∙ both.0))
+          (ib v (ap (λ columns. q columns v) (same ∙ sym u.columns) ∙ both.1)),
+    )
 
   -- tables of one position after the other
   pub tables_union : (f : Form) (i : ℕ) (xs ys zs : List TableOf) → AllExact (seen_in view r) f i xs → TablesInside r xs
@@ -91,10 +77,9 @@ module _ (view : View) (r q all : Region) (union : (vs : List ℕ) (v : Valuatio
       → AllExact (seen_in view all) f i zs × TablesInside all zs
   tables_union f i [] [] [] ex ix ey iy u = (tt, tt)
   tables_union f i (x ∷ xs) (y ∷ ys) (z ∷ zs) ex ix ey iy u =
-      let rest = tables_union f (i + 1) xs ys zs ex.1 ix.1 ey.1 iy.1 u.1 in (
-        (exact_union f i x y z ex.0 ix.0 ey.0 iy.0 u.0, rest.0),
-        (inside_union f i x y z ex.0 ix.0 ey.0 iy.0 u.0, rest.1),
-      )
+      let first = table_union f i x y z ex.0 ix.0 ey.0 iy.0 u.0 in
+      let rest = tables_union f (i + 1) xs ys zs ex.1 ix.1 ey.1 iy.1 u.1 in
+      ((first.0, rest.0), (first.1, rest.1))
   tables_union f i xs ys zs ex ix ey iy u = absurd u
 
   -- the same where the tables stand behind equal numbers of positions
@@ -102,8 +87,7 @@ module _ (view : View) (r q all : Region) (union : (vs : List ℕ) (v : Valuatio
       → TablesInside r xs → AllExact (seen_in view q) f j ys → TablesInside q ys → TablesUnion xs ys zs
       → AllExact (seen_in view all) f k zs × TablesInside all zs
   tables_at f i j k xs ys zs ji ki ex ix ey iy u =
-      let both = tables_union f i xs ys zs ex ix (subst (λ n. AllExact (seen_in view q) f n ys) ji ey) iy u in
-      (subst (λ n. AllExact (seen_in view all) f n zs) (sym ki) both.0, both.1)
+      rw ki (tables_union f i xs ys zs ex ix (rw ji at ey) iy u)
 
   -- children's tables
   pub lists_union : (p : ℕ) (fs : List CoreForm) (xs ys zs : List (List TableOf)) → TablesStand (seen_in view r) p fs xs
@@ -114,14 +98,11 @@ module _ (view : View) (r q all : Region) (union : (vs : List ℕ) (v : Valuatio
       let first = tables_union (meaning f) p x y z ex.1 ix.0 ey.1 iy.0 u.0 in
       let rest = lists_union p fs xs ys zs ex.2 ix.1 ey.2 iy.1 u.1 in
       ((ap (λ n. p + n) (union_length x y z u.0) ∙ ex.0, first.0, rest.0), (first.1, rest.1))
-  lists_union p [] (x ∷ xs) ys zs ex ix ey iy u = absurd ex
-  lists_union p (f ∷ fs) [] ys zs ex ix ey iy u = absurd ex
-  lists_union p fs xs ys zs ex ix ey iy u = absurd u
+  lists_union p fs xs ys zs ex ix ey iy u = absurd assumption
 
   -- nothing is kept outside both regions
   pub rows_inside : {X : Type 0} (both : X → X → X) (columns : List ℕ) (a b c : List (List Value × X))
       → RowsInside r columns a → RowsInside q columns b → RowsUnion both a b c → RowsInside all columns c
   rows_inside both columns a b c ia ib u v n =
       let out = or_parts (r columns v) (q columns v) (sym (union columns v) ∙ n) in
-      u.each (map v columns)
-      ∙ none_pooled both (kept_for a (map v columns)) (kept_for b (map v columns)) (ia v out.0) (ib v out.1)
+      rw (u.each (map v columns), ia v out.0, ib v out.1) refl

@@ -1,23 +1,17 @@
 -- United states stand for both regions together.
-use Rattle.std.proofs.Common.{◌≡◌, ℕ, ◌-◌, List, [], ◌∷◌, length, drop, Vec, Global, refl, sym, subst, ap, ap₂, ◌∙◌}
+use Rattle.std.proofs.Common.{◌≡◌, ℕ, ◌-◌, List, [], ◌∷◌, refl, sym, ap, ◌∙◌}
 use Rattle.std.specs.Prelude.{min}
 use Rattle.mfotl_model.specs.Exact.{View}
 use Rattle.mfotl_model.specs.Log.{times}
 use Rattle.mfotl_model.specs.Regions.{Region}
-use Rattle.eval_since.specs.declared.recalled.PrevData.{PrevData}
-use Rattle.eval_until.specs.declared.recalled.NextData.{NextData}
-use Rattle.relations.specs.declared.table.Table.{Table}
 use Rattle.monitorable.specs.CoreForms.{CoreForm, And, Previous, Next, Since, Until}
 use Rattle.monitor_state.specs.Nodes.{left_operand, nodes_of}
 use Rattle.monitor_state.specs.StateLaws.{UnionStands, seen_in}
-use Rattle.monitor_state.specs.StateRules.{NodesKeep}
 use Rattle.monitor_state.specs.StateStands.{NodeDataStands, NodesDataStand, WindowDataStands}
 use Rattle.monitor_state.specs.StateTimes.{earliest, node_asks, times_of, window_asks}
 use Rattle.monitor_state.specs.StateUnions.{NodeUnion, NodesUnion, WindowUnion}
-use Rattle.monitor_state.specs.Views.{reached}
 use Rattle.monitor_state.specs.declared.state.NodeData.{NodeData}
 use Rattle.monitor_state.specs.declared.state.NodeData.TheVariants as kept
-use Rattle.monitor_state.specs.declared.state.State.{State}
 use Rattle.monitor_state.specs.declared.state.WindowData.{WindowData}
 use Rattle.monitor_state.specs.declared.state.WindowData.TheVariants as window
 use Rattle.state_merge.proofs.NodesUnited.{earliest_same, nodes_union}
@@ -30,50 +24,23 @@ module _ (view : View) (r q : Region) where
   window_alike p (Since i f g) (window.Since a) (window.Since b) (window.Since c) sa sb u =
       ap (λ n. n - 1) (sb.pulled ∙ sym sa.pulled)
   window_alike p (Until i f g) (window.Until a) (window.Until b) (window.Until c) sa sb u = sb.pulled ∙ sym sa.pulled
-  window_alike p (Since i f g) (window.Until a) b c sa sb u = absurd sa
-  window_alike p (Since i f g) (window.Since a) (window.Until b) c sa sb u = absurd sb
-  window_alike p (Since i f g) (window.Since a) (window.Since b) (window.Until c) sa sb u = absurd u
-  window_alike p (Until i f g) (window.Since a) b c sa sb u = absurd sa
-  window_alike p (Until i f g) (window.Until a) (window.Since b) c sa sb u = absurd sb
-  window_alike p (Until i f g) (window.Until a) (window.Until b) (window.Since c) sa sb u = absurd u
-  window_alike p f a b c sa sb u = absurd sa
-
-  filter_alike : (given : ℕ) (f : CoreForm) (xs ys zs : Vec Table Global) (a b c : WindowData)
-      → NodeDataStands (seen_in view r) f (kept.Filter xs a) → NodeDataStands (seen_in view q) f (kept.Filter ys b)
-      → WindowUnion a b c → window_asks b ≡ window_asks a
-  filter_alike given (And f g) xs ys zs a b c sa sb u =
-      window_alike (reached view (And f g)) (left_operand g) a b c sa.behind sb.behind u
-  filter_alike given f xs ys zs a b c sa sb u = absurd sa
-
-  windows_alike : (f : CoreForm) (a b c : WindowData) → NodeDataStands (seen_in view r) f (kept.Window a)
-      → NodeDataStands (seen_in view q) f (kept.Window b) → WindowUnion a b c → window_asks b ≡ window_asks a
-  windows_alike (Since i f g) a b c sa sb u =
-      window_alike (reached view (Since i f g)) (Since i f g) a b c sa sb u
-  windows_alike (Until i f g) a b c sa sb u =
-      window_alike (reached view (Until i f g)) (Until i f g) a b c sa sb u
-  windows_alike f a b c sa sb u = absurd sa
-
-  previous_alike : (f : CoreForm) (a b : PrevData) → NodeDataStands (seen_in view r) f (kept.Previous a)
-      → NodeDataStands (seen_in view q) f (kept.Previous b) → b.pulled - 1 ≡ a.pulled - 1
-  previous_alike (Previous i f) a b sa sb = ap (λ n. n - 1) (sb.pulled ∙ sym sa.pulled)
-  previous_alike f a b sa sb = absurd sa
-
-  next_alike : (f : CoreForm) (a b : NextData) → NodeDataStands (seen_in view r) f (kept.Next a)
-      → NodeDataStands (seen_in view q) f (kept.Next b) → b.pulled ≡ a.pulled
-  next_alike (Next i f) a b sa sb = sb.pulled ∙ sym sa.pulled
-  next_alike f a b sa sb = absurd sa
+  window_alike p f a b c sa sb u = absurd assumption
 
   node_alike : (given : ℕ) (f : CoreForm) (a b c : NodeData) → NodeDataStands (seen_in view r) f a
       → NodeDataStands (seen_in view q) f b → NodeUnion a b c → node_asks given b ≡ node_asks given a
   node_alike given f kept.Bare kept.Bare kept.Bare sa sb u = refl
   node_alike given f (kept.Join a) (kept.Join b) (kept.Join c) sa sb u = refl
   node_alike given f (kept.Or a) (kept.Or b) (kept.Or c) sa sb u = refl
-  node_alike given f (kept.Previous a) (kept.Previous b) (kept.Previous c) sa sb u = previous_alike f a b sa sb
-  node_alike given f (kept.Next a) (kept.Next b) (kept.Next c) sa sb u = next_alike f a b sa sb
-  node_alike given f (kept.Window a) (kept.Window b) (kept.Window c) sa sb u = windows_alike f a b c sa sb u
-  node_alike given f (kept.Filter xs a) (kept.Filter ys b) (kept.Filter zs c) sa sb u =
-      filter_alike given f xs ys zs a b c sa sb u.1
-  node_alike given f a b c sa sb u = absurd u
+  node_alike given (Previous i f) (kept.Previous a) (kept.Previous b) (kept.Previous c) sa sb u =
+      ap (λ n. n - 1) (sb.pulled ∙ sym sa.pulled)
+  node_alike given (Next i f) (kept.Next a) (kept.Next b) (kept.Next c) sa sb u = sb.pulled ∙ sym sa.pulled
+  node_alike given (Since i f g) (kept.Window a) (kept.Window b) (kept.Window c) sa sb u =
+      window_alike _ (Since i f g) a b c sa sb u
+  node_alike given (Until i f g) (kept.Window a) (kept.Window b) (kept.Window c) sa sb u =
+      window_alike _ (Until i f g) a b c sa sb u
+  node_alike given (And f g) (kept.Filter xs a) (kept.Filter ys b) (kept.Filter zs c) sa sb u =
+      window_alike _ (left_operand g) a b c sa.behind sb.behind u.1
+  node_alike given f a b c sa sb u = absurd assumption
 
   earliest_alike : (given : ℕ) (fs : List CoreForm) (xs ys zs : List NodeData) → NodesDataStand (seen_in view r) fs xs
       → NodesDataStand (seen_in view q) fs ys → NodesUnion xs ys zs → earliest given ys ≡ earliest given xs
@@ -81,34 +48,24 @@ module _ (view : View) (r q : Region) where
   earliest_alike given (f ∷ fs) (x ∷ xs) (y ∷ ys) (z ∷ zs) sx sy u =
       ap (λ n. earliest (min given n) ys) (node_alike given f x y z sx.0 sy.0 u.0)
       ∙ earliest_alike (min given (node_asks given x)) fs xs ys zs sx.1 sy.1 u.1
-  earliest_alike given [] (x ∷ xs) ys zs sx sy u = absurd sx
-  earliest_alike given (f ∷ fs) [] ys zs sx sy u = absurd sx
-  earliest_alike given fs xs ys zs sx sy u = absurd u
-
-same_kept : (a b : State) → b.taken ≡ a.taken → b.times.items ≡ a.times.items → times_of b ≡ times_of a
-same_kept a b taken stamps =
-    ap₂ (λ (n : ℕ) (ts : List ℕ). record { first = n - length ts; stamps = ts }) taken stamps
+  earliest_alike given fs xs ys zs sx sy u = absurd assumption
 
 pub union_stands : UnionStands
 union_stands view core r q all a b c union ha hb u =
     let taken : b.taken ≡ a.taken = hb.stands.taken ∙ sym ha.stands.taken in
     let given : b.given ≡ a.given = hb.stands.given ∙ sym ha.stands.given in
-    let stamps : b.times.items ≡ a.times.items = hb.stands.times
-    ∙ ap (λ n. drop n (times view.log)) (ap (λ n. earliest n b.nodes.items) given
-    ∙ earliest_alike view r q a.given (nodes_of core) a.nodes.items b.nodes.items c.nodes.items ha.stands.nodes
-    hb.stands.nodes u.nodes) ∙ sym ha.stands.times in
+    let asked = earliest_alike view r q a.given (nodes_of core) a.nodes.items b.nodes.items c.nodes.items
+    ha.stands.nodes hb.stands.nodes u.nodes in
+    let stamps : b.times.items ≡ a.times.items = (rw (given, asked) at hb.stands.times) ∙ sym ha.stands.times in
     let both = nodes_union view r q all union (times_of a) (nodes_of core) a.nodes.items b.nodes.items c.nodes.items
-    ha.rule ha.stands.nodes ha.inside
-    (subst (λ k. NodesKeep k (nodes_of core) b.nodes.items) (same_kept a b taken stamps) hb.rule)
-    hb.stands.nodes hb.inside u.nodes in
+    ha.rule ha.stands.nodes ha.inside (rw (taken, stamps) at hb.rule) hb.stands.nodes hb.inside u.nodes in
     record {
-      rule = subst (λ k. NodesKeep k (nodes_of core) c.nodes.items) (sym (same_kept a c u.taken u.times)) both.0;
+      rule = rw (u.taken, u.times) both.0;
       stands = record {
         taken = u.taken ∙ ha.stands.taken;
         given = u.given ∙ ha.stands.given;
-        times = u.times ∙ ha.stands.times ∙ ap (λ n. drop n (times view.log))
-            (sym (ap (λ n. earliest n c.nodes.items) u.given
-            ∙ earliest_same a.given a.nodes.items b.nodes.items c.nodes.items u.nodes));
+        times = rw (u.given, earliest_same a.given a.nodes.items b.nodes.items c.nodes.items u.nodes)
+            (u.times ∙ ha.stands.times);
         nodes = both.1;
       };
       inside = both.2;

@@ -38,6 +38,7 @@ impl Keyed for Mark {
 }
 
 /// The marks of both, by their places; of two for one place the lesser start.
+#[tactic(auto, using(crate::proofs::PairLemmas::unasked))]
 pub fn joined_marks(
     alloc: Global,
     first: Vec<Mark>,

@@ -47,6 +47,7 @@ fn least(alloc: Global, first: Vec<u64>, second: Vec<u64>) -> Result<Vec<u64>, A
 }
 
 /// The times of both, where `hi` is the greatest distance of the window.
+#[tactic(auto, using(crate::proofs::PairLemmas::unasked))]
 pub fn joined_times(
     alloc: Global,
     hi: Option<u64>,

@@ -80,6 +80,7 @@ fn marks_of(kept: KeptMarks) -> Vec<Mark>
 }
 
 /// For each row the start that is kept, of two the lesser one, by one walk over the two lists.
+#[tactic(auto, using(crate::proofs::PairLemmas::unasked))]
 pub fn united_starts(
     alloc: Global,
     first: Vec<KeptStart>,

@@ -1,9 +1,8 @@
 use Rattle.eval_since.specs.declared.recalled.KeptRow.{KeptRow}
-use Rattle.monitor_state.specs.JoinedRows.{times_joined}
 use Rattle.state_merge.proofs.PairLemmas.{rows_united}
 use Rattle.state_merge.proofs.since_rows.united_times.Goals as goal
 
 pub returns : goal.returns
 returns c =
-    rows_united (λ (k : KeptRow). k.row) (λ (k : KeptRow). k.times.items) (times_joined c.args.hi) c.args.first.items
-    c.args.second.items c.in_ok-rows.rows.items c.requires.first c.requires.second c.in_ok-rows.ensures
+    rows_united (λ (k : KeptRow). k.row) (λ (k : KeptRow). k.times.items) _ c.args.first.items c.args.second.items
+    c.in_ok-rows.rows.items c.requires.first c.requires.second c.in_ok-rows.ensures

@@ -1,9 +1,8 @@
 use Rattle.eval_until.specs.declared.recalled.KeptMarks.{KeptMarks}
-use Rattle.monitor_state.specs.JoinedRows.{marks_joined}
 use Rattle.state_merge.proofs.PairLemmas.{rows_united}
 use Rattle.state_merge.proofs.until_rows.united_marks.Goals as goal
 
 pub returns : goal.returns
 returns c =
-    rows_united (λ (k : KeptMarks). k.row) (λ (k : KeptMarks). k.marks.items) marks_joined c.args.first.items
-    c.args.second.items c.in_ok-rows.rows.items c.requires.first c.requires.second c.in_ok-rows.ensures
+    rows_united (λ (k : KeptMarks). k.row) (λ (k : KeptMarks). k.marks.items) _ c.args.first.items c.args.second.items
+    c.in_ok-rows.rows.items c.requires.first c.requires.second c.in_ok-rows.ensures
