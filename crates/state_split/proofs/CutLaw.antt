@@ -1,5 +1,5 @@
 -- A state cut to a part of its region stands for that part, and has nothing outside it.
-use Rattle.std.proofs.Common.{◌≡◌, ℕ, ◌-◌, ◌+◌, min, List, [], ◌∷◌, length, drop, refl, sym, subst, ap, ap₂, ◌∙◌}
+use Rattle.std.proofs.Common.{◌≡◌, ℕ, ◌-◌, ◌+◌, min, List, [], ◌∷◌, refl, ap, ◌∙◌}
 use Rattle.std.proofs.lemmas.Bool.{and_parts}
 use Rattle.mfotl_model.proofs.RegionLemmas.{both_pass}
 use Rattle.mfotl_model.specs.Exact.{View}
@@ -15,16 +15,16 @@ use Rattle.monitor_state.specs.Pieces.{AreCuts, PieceStands, view_of}
 use Rattle.monitor_state.specs.StateCuts.{NodeCut, NodesCut, StateCut, WindowCut}
 use Rattle.monitor_state.specs.StateInside.{StandsInside}
 use Rattle.monitor_state.specs.StateLaws.{CutIsPiece, CutStands, seen_in}
-use Rattle.monitor_state.specs.StateRules.{NodesKeep, StateRule}
+use Rattle.monitor_state.specs.StateRules.{StateRule}
 use Rattle.monitor_state.specs.StateStands.{StateStands}
-use Rattle.monitor_state.specs.StateTimes.{KeptTimes, earliest, node_asks, times_of, window_asks}
+use Rattle.monitor_state.specs.StateTimes.{earliest, node_asks, times_of, window_asks}
 use Rattle.monitor_state.specs.declared.state.NodeData.{NodeData}
 use Rattle.monitor_state.specs.declared.state.NodeData.TheVariants as kept
 use Rattle.monitor_state.specs.declared.state.Piece.{Piece}
 use Rattle.monitor_state.specs.declared.state.State.{State}
 use Rattle.monitor_state.specs.declared.state.WindowData.{WindowData}
 use Rattle.monitor_state.specs.declared.state.WindowData.TheVariants as window
-use Rattle.state_split.proofs.NodeCuts.{nodes_inside, nodes_rule, nodes_stand}
+use Rattle.state_split.proofs.NodeCuts.{nodes_cut}
 use Rattle.monitor_state.proofs.PartLaw.{part_stands}
 use Rattle.state_split.specs.Splits.{IsNumbered, SplitsStand, StrategiesCut}
 
@@ -53,33 +53,24 @@ earliest_same near given (n ∷ ns) (c ∷ cs) cut =
     ∙ earliest_same near (min given (node_asks given n)) ns cs cut.1
 earliest_same near given ns cs cut = absurd cut
 
--- the timestamps are where they were
-times_same : (near : Region) (old new : State) → StateCut near old new → times_of new ≡ times_of old
-times_same near old new cut =
-    ap₂ (λ taken (stamps : List ℕ). record { first = taken - length stamps; stamps = stamps }) cut.taken cut.times
-
 -- ---- states
 
 pub cut_stands : CutStands
 cut_stands view core small old new whole passes part rule stands cut =
     let seen : View = seen_in view small in
     let narrow : StateStands seen core old = part_stands view core small old part stands in
-    let places : KeptTimes = times_of old in
+    let nodes = nodes_cut seen (fv view.whole) passes (times_of old) (nodes_of core) old.nodes.items new.nodes.items
+    cut.nodes rule narrow.nodes in
     record {
-      rule = subst (λ k. NodesKeep k (nodes_of core) new.nodes.items) (sym (times_same small old new cut))
-          (nodes_rule seen (fv view.whole) passes places (nodes_of core) old.nodes.items new.nodes.items cut.nodes
-          rule);
+      rule = rw (cut.taken, cut.times) nodes.0;
       stands = record {
         taken = cut.taken ∙ narrow.taken;
         given = cut.given ∙ narrow.given;
-        times = cut.times ∙ narrow.times
-            ∙ ap (λ n. drop n (times view.log))
-            (sym (earliest_same small old.given old.nodes.items new.nodes.items cut.nodes))
-            ∙ ap (λ g. drop (earliest g new.nodes.items) (times view.log)) (sym cut.given);
-        nodes = nodes_stand seen (fv view.whole) passes places (nodes_of core) old.nodes.items new.nodes.items cut.nodes
-            rule narrow.nodes;
+        times = rw (cut.given, earliest_same small old.given old.nodes.items new.nodes.items cut.nodes)
+            (cut.times ∙ narrow.times);
+        nodes = nodes.1;
       };
-      inside = nodes_inside seen (fv view.whole) passes places old.nodes.items new.nodes.items cut.nodes;
+      inside = nodes.2;
     }
 
 -- what a region holds, cut to another one as well

@@ -1,7 +1,7 @@
 -- Rows without those outside a region: what is kept for a row, and what holds of each.
 use Rattle.std.proofs.Common.{◌≡◌, ℕ, Bool, true, false, ◌&&◌, cond, List, [], ◌∷◌, map, Option, None, refl}
-use Rattle.std.proofs.Common.{sym, subst, ap, ◌∙◌}
-use Rattle.std.proofs.lemmas.Bool.{and_from, and_parts}
+use Rattle.std.proofs.Common.{sym, ap, ◌∙◌, arith}
+use Rattle.std.proofs.lemmas.Grind.{common_steps}
 use Rattle.std.proofs.lemmas.List.Kept.{IsStrictlySortedBy-filter}
 use Rattle.std.proofs.lemmas.Map.Entries.{lookup-filter-keys}
 use Rattle.std.proofs.lemmas.Map.Views.{any-filter_same, tells_apart}
@@ -28,22 +28,12 @@ use Rattle.monitor_state.specs.StateInside.{RowsInside, TableInside}
 pub all_filtered : {X : Type 0} (P : X → Type 0) (p : X → Bool) (xs : List X) → AllByRecursion P xs
     → AllByRecursion P (filter p xs)
 all_filtered P p [] all = tt
-all_filtered {X} P p (x ∷ xs) all = by (p x) (all_filtered P p xs all.1)
-  where
-    by : (b : Bool) → AllByRecursion P (filter p xs) → AllByRecursion P (cond b (x ∷ filter p xs) (filter p xs))
-    by true rest = (all.0, rest)
-    by false rest = rest
+all_filtered P p (x ∷ xs) all = let rest = all_filtered P p xs all.1 in grind (arith, common_steps)
 
 pub tests_filtered : {X : Type 0} (q p : X → Bool) (xs : List X) → list_all q xs ≡ true
     → list_all q (filter p xs) ≡ true
 tests_filtered q p [] all = refl
-tests_filtered {X} q p (x ∷ xs) all =
-    let parts = and_parts (q x) (list_all q xs) all in by (p x) parts.0 (tests_filtered q p xs parts.1)
-  where
-    by : (b : Bool) → q x ≡ true → list_all q (filter p xs) ≡ true
-        → list_all q (cond b (x ∷ filter p xs) (filter p xs)) ≡ true
-    by true first rest = and_from (q x) (list_all q (filter p xs)) first rest
-    by false first rest = rest
+tests_filtered q p (x ∷ xs) all = grind (arith, tests_filtered q p xs)
 
 -- what holds of each element holds of each that is made of one, and back
 pub all_mapped : {X Y : Type 0} (P : Y → Type 0) (h : X → Y) (xs : List X) → AllByRecursion (λ x. P (h x)) xs
@@ -59,24 +49,18 @@ all_unmapped P h (x ∷ xs) all = (all.0, all_unmapped P h xs all.1)
 -- a list of which nothing is made has nothing
 pub none_mapped : {X Y : Type 0} (h : X → Y) (xs : List X) → map h xs ≡ [] → xs ≡ []
 none_mapped h [] e = refl
-none_mapped h (x ∷ xs) e = absurd (let w : h x ∷ map h xs ≡ [] = e in cc)
+none_mapped h (x ∷ xs) e = absurd cc
 
 -- a filter by the rows of pairs
 pub keys_filtered : {X : Type 0} (p : List Value → Bool) (es : List (List Value × X))
     → keys_of (filter (λ e. p e.0) es) ≡ filter p (keys_of es)
 keys_filtered p [] = refl
-keys_filtered {X} p (e ∷ es) = by (p e.0) (keys_filtered p es)
-  where
-    by : (b : Bool) → keys_of (filter (λ e. p e.0) es) ≡ filter p (keys_of es)
-        → keys_of (cond b (e ∷ filter (λ e. p e.0) es) (filter (λ e. p e.0) es))
-        ≡ cond b (e.0 ∷ filter p (keys_of es)) (filter p (keys_of es))
-    by true rest = ap (λ ks. e.0 ∷ ks) rest
-    by false rest = rest
+keys_filtered p (e ∷ es) = grind (arith, common_steps, keys_filtered p es)
 
 pub ascend_filtered : {X : Type 0} (p : List Value → Bool) (es : List (List Value × X)) → RowsAscend es
     → RowsAscend (filter (λ e. p e.0) es)
 ascend_filtered p es up =
-    subst (IsStrictlySortedBy row_cmp) (sym (keys_filtered p es)) (IsStrictlySortedBy-filter row_cmp p (keys_of es) up)
+    rw (keys_filtered p es) (IsStrictlySortedBy-filter row_cmp p (keys_of es) up)
 
 -- a pair with another value for its row
 abbrev pub changed : {X Y : Type 0} → (X → Y) → List Value × X → List Value × Y
@@ -86,13 +70,7 @@ changed h e = (e.0, h e.1)
 pub filter_mapped : {X Y : Type 0} (p : List Value → Bool) (h : X → Y) (es : List (List Value × X))
     → map (changed h) (filter (λ e. p e.0) es) ≡ filter (λ e. p e.0) (map (changed h) es)
 filter_mapped p h [] = refl
-filter_mapped {X} {Y} p h (e ∷ es) = by (p e.0) (filter_mapped p h es)
-  where
-    by : (b : Bool) → map (changed h) (filter (λ e. p e.0) es) ≡ filter (λ e. p e.0) (map (changed h) es)
-        → map (changed h) (cond b (e ∷ filter (λ e. p e.0) es) (filter (λ e. p e.0) es))
-        ≡ cond b (changed h e ∷ filter (λ e. p e.0) (map (changed h) es)) (filter (λ e. p e.0) (map (changed h) es))
-    by true rest = ap (λ rows. changed h e ∷ rows) rest
-    by false rest = rest
+filter_mapped p h (e ∷ es) = grind (arith, common_steps, filter_mapped p h es)
 
 -- ---- look-ups
 
@@ -107,7 +85,7 @@ module _ {X : Type 0} (near : Region) (columns : List ℕ) (rows : List (List Va
   -- what holds of nothing and of what there was holds of what there is
   pub found_cut : (P : Option X → Type 0) (u : List Value) → P None → P (kept_for rows u)
       → P (kept_for (cut_rows near columns rows) u)
-  found_cut P u none some = subst P (sym (kept_cut u)) (by (lies near columns u))
+  found_cut P u none some = rw (kept_cut u) (by (lies near columns u))
     where
       by : (b : Bool) → P (cond b (kept_for rows u) None)
       by true = some
@@ -127,18 +105,16 @@ module _ (free : List ℕ) (near : Region) (passes : Passes free near) where
   rows_cut : {X : Type 0} (columns : List ℕ) (rows : List (List Value × X)) (v : Valuation)
       → kept_for (cut_rows near columns rows) (map v columns)
       ≡ cond (near columns v) (kept_for rows (map v columns)) None
-  rows_cut columns rows v =
-      kept_cut near columns rows (map v columns)
-      ∙ ap (λ b. cond b (kept_for rows (map v columns)) None) (row_lies columns v)
+  rows_cut columns rows v = rw (kept_cut near columns rows (map v columns), row_lies columns v) refl
 
   -- for a near row there is what there was, for another one nothing
   pub rows_near : {X : Type 0} (columns : List ℕ) (rows : List (List Value × X)) (v : Valuation) → near columns v ≡ true
       → kept_for (cut_rows near columns rows) (map v columns) ≡ kept_for rows (map v columns)
-  rows_near columns rows v n = rows_cut columns rows v ∙ ap (λ b. cond b (kept_for rows (map v columns)) None) n
+  rows_near columns rows v n = rw (rows_cut columns rows v, n) refl
 
   pub none_outside : {X : Type 0} (columns : List ℕ) (rows : List (List Value × X))
       → RowsInside near columns (cut_rows near columns rows)
-  none_outside columns rows v n = rows_cut columns rows v ∙ ap (λ b. cond b (kept_for rows (map v columns)) None) n
+  none_outside columns rows v n = rw (rows_cut columns rows v, n) refl
 
   pub has_cut : (table : TableOf) (v : Valuation) → has (cut_table near table) v ≡ (near table.columns v && has table v)
   unfolding has
@@ -149,4 +125,4 @@ module _ (free : List ℕ) (near : Region) (passes : Passes free near) where
       table.rows
 
   pub table_inside : (table : TableOf) → TableInside near (cut_table near table)
-  table_inside table v n = has_cut table v ∙ ap (λ b. b && has table v) n
+  table_inside table v n = rw (has_cut table v, n) refl

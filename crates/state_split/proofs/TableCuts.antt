@@ -1,5 +1,5 @@
 -- Tables cut to a region: they are exact for it, have nothing outside it, and keep their columns and number.
-use Rattle.std.proofs.Common.{◌≡◌, ℕ, ◌+◌, ◌≤◌, ◌^◌, ◌&&◌, List, [], ◌∷◌, length, map, sym, subst, ap, ap₂, ◌∙◌}
+use Rattle.std.proofs.Common.{◌≡◌, ℕ, ◌+◌, ◌&&◌, List, [], ◌∷◌, length, map, ap, ◌∙◌}
 use Rattle.std.proofs.lemmas.List.{length-map}
 use Rattle.std.specs.List.{AllByRecursion}
 use Rattle.mfotl_model.specs.Exact.{AllExact, Exact, View}
@@ -23,7 +23,7 @@ module _ (near : Region) where
 
   pub over_cut : (columns : List ℕ) (ts cs : List TableOf) → cs ≡ cut_tables near ts → AreOver columns ts
       → AreOver columns cs
-  over_cut columns ts cs e over = subst (AreOver columns) (sym e) (over_all columns ts over)
+  over_cut columns ts cs e over = rw e (over_all columns ts over)
 
   pub length_cut : (ts cs : List TableOf) → cs ≡ cut_tables near ts → length cs ≡ length ts
   length_cut ts cs e = ap length e ∙ length-map ts (cut_table near)
@@ -31,24 +31,16 @@ module _ (near : Region) where
   -- tables pushed behind those pulled
   pub pushed_cut : (p q n : ℕ) (ts cs : List TableOf) → q ≡ p → cs ≡ cut_tables near ts → p + length ts ≡ n
       → q + length cs ≡ n
-  pushed_cut p q n ts cs at e pushed = ap₂ (λ a b. a + b) at (length_cut ts cs e) ∙ pushed
+  pushed_cut p q n ts cs at e pushed = rw (at, length_cut ts cs e) pushed
 
-  pub lists_over : (children : List ChildOf) (tss : List (List TableOf)) → TablesOver children tss
-      → TablesOver children (map (cut_tables near) tss)
-  lists_over [] [] over = tt
-  lists_over (c ∷ children) (ts ∷ tss) over = (over_all c.columns ts over.0, lists_over children tss over.1)
-  lists_over [] (ts ∷ tss) over = absurd over
-  lists_over (c ∷ children) [] over = absurd over
-
-  pub lists_few : (p : ℕ) (children : List ChildOf) (tss : List (List TableOf)) → TablesOver children tss
-      → FewFrom p (with_tables children tss) → FewFrom p (with_tables children (map (cut_tables near) tss))
-  lists_few p [] [] over few = tt
-  lists_few p (c ∷ children) (ts ∷ tss) over few = (
-    subst (λ n. p + n ≤ 2 ^ 63) (sym (length-map ts (cut_table near))) few.0,
-    lists_few p children tss over.1 few.1,
-  )
-  lists_few p [] (ts ∷ tss) over few = absurd over
-  lists_few p (c ∷ children) [] over few = absurd over
+  pub lists_rule : (p : ℕ) (children : List ChildOf) (tss : List (List TableOf)) → TablesOver children tss
+      → FewFrom p (with_tables children tss) → TablesOver children (map (cut_tables near) tss)
+      × FewFrom p (with_tables children (map (cut_tables near) tss))
+  lists_rule p [] [] over few = (tt, tt)
+  lists_rule p (c ∷ children) (ts ∷ tss) over few =
+      let rest = lists_rule p children tss over.1 few.1 in
+      ((over_all c.columns ts over.0, rest.0), (rw (length-map ts (cut_table near)) few.0, rest.1))
+  lists_rule p children tss over few = absurd assumption
 
 module _ (view : View) (free : List ℕ) (passes : Passes free view.near) where
   exact_cut : (f : Form) (i : ℕ) (t : TableOf) → Exact view f i t → Exact view f i (cut_table view.near t)
@@ -69,15 +61,14 @@ module _ (view : View) (free : List ℕ) (passes : Passes free view.near) where
   -- tables from one place on, or from an equal one
   pub tables_exact : (f : Form) (i j : ℕ) (ts cs : List TableOf) → j ≡ i → cs ≡ cut_tables view.near ts
       → AllExact view f i ts → AllExact view f j cs
-  tables_exact f i j ts cs at e all =
-      subst (λ n. AllExact view f n cs) (sym at) (subst (AllExact view f i) (sym e) (all_cut f i ts all))
+  tables_exact f i j ts cs at e all = rw (at, e) (all_cut f i ts all)
 
   all_inside : (ts : List TableOf) → TablesInside view.near (cut_tables view.near ts)
   all_inside [] = tt
   all_inside (t ∷ ts) = (table_inside free view.near passes t, all_inside ts)
 
   pub tables_inside : (ts cs : List TableOf) → cs ≡ cut_tables view.near ts → TablesInside view.near cs
-  tables_inside ts cs e = subst (TablesInside view.near) (sym e) (all_inside ts)
+  tables_inside ts cs e = rw e (all_inside ts)
 
   pub lists_stand : (p : ℕ) (fs : List CoreForm) (tss : List (List TableOf)) → TablesStand view p fs tss
       → TablesStand view p fs (map (cut_tables view.near) tss)
@@ -87,8 +78,7 @@ module _ (view : View) (free : List ℕ) (passes : Passes free view.near) where
     all_cut (meaning f) p ts all.1,
     lists_stand p fs tss all.2,
   )
-  lists_stand p [] (ts ∷ tss) all = absurd all
-  lists_stand p (f ∷ fs) [] all = absurd all
+  lists_stand p fs tss all = absurd all
 
   pub lists_inside : (tss : List (List TableOf))
       → AllByRecursion (TablesInside view.near) (map (cut_tables view.near) tss)

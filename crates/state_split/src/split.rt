@@ -29,8 +29,8 @@ fn cut_state<S: Sorter>(alloc: Global, sorter: &S, state: State) -> Result<Vec<S
 {
     let taken = state.taken;
     let given = state.given;
-    let times = copies(alloc, &state.times, sorter.workers())?;
     let cuts = cut_nodes(alloc, sorter, state.nodes)?;
+    let times = copies(alloc, &state.times, sorter.workers())?;
     let pairs = paired(alloc, times, cuts)?;
     pairs
         .into_iter()

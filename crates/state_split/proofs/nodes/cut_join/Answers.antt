@@ -1,4 +1,4 @@
-use Rattle.std.proofs.Common.{rules, ◌∙◌, refl}
+use Rattle.std.proofs.Common.{rules, refl}
 use Rattle.monitor_state.specs.declared.state.NodeData.TheVariants.{Join}
 use Rattle.state_split.proofs.ShareLemmas.{each_collected}
 use Rattle.state_split.proofs.nodes.cut_join.Goals as goal
@@ -6,7 +6,6 @@ use Rattle.state_split.proofs.nodes.cut_join.Goals as goal
 pub returns : goal.returns
 returns g c =
     each_collected _ _ _ (λ tables. Join (record { pulled = c.args.join.pulled; tables = tables }))
-    c.in_ok-lists.lists.items _ c.collect.result c.in_ok-lists.ensures
-    c.collect.ensures.ran c.map.ensures.source c.into_iter.ensures.rest
-    (c.into_iter.ensures.len ∙ c.in_ok-lists.lists.ok.0) c.map.ensures.closure (λ x y q k. search rules)
+    c.in_ok-lists.lists _ _ c.in_ok-lists.ensures c.collect.ensures.ran c.map.ensures.source
+    c.into_iter.ensures.rest c.into_iter.ensures.len c.map.ensures.closure (λ x y q k. search rules)
     (λ k x is fits. record { pulled = refl; tables = is })

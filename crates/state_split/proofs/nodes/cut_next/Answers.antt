@@ -1,4 +1,4 @@
-use Rattle.std.proofs.Common.{rules, ◌∙◌, refl}
+use Rattle.std.proofs.Common.{rules, refl}
 use Rattle.monitor_state.specs.declared.state.NodeData.TheVariants.{Next}
 use Rattle.state_split.proofs.ShareLemmas.{each_collected}
 use Rattle.state_split.proofs.nodes.cut_next.Goals as goal
@@ -7,7 +7,6 @@ pub returns : goal.returns
 returns g c =
     each_collected _ _ _
     (λ tables. Next (record { pulled = c.args.next.pulled; started = c.args.next.started; tables = tables }))
-    c.in_ok-lists.lists.items _ c.collect.result c.in_ok-lists.ensures
-    c.collect.ensures.ran c.map.ensures.source c.into_iter.ensures.rest
-    (c.into_iter.ensures.len ∙ c.in_ok-lists.lists.ok.0) c.map.ensures.closure (λ x y q k. search rules)
+    c.in_ok-lists.lists _ _ c.in_ok-lists.ensures c.collect.ensures.ran c.map.ensures.source
+    c.into_iter.ensures.rest c.into_iter.ensures.len c.map.ensures.closure (λ x y q k. search rules)
     (λ k x is fits. record { pulled = refl; started = refl; tables = is })

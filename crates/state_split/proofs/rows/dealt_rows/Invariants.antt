@@ -1,6 +1,6 @@
-use Rattle.std.proofs.Common.{◌≡◌, ℕ, Bool, ◌++◌, length, map}
+use Rattle.std.proofs.Common.{◌≡◌, ℕ, Bool, ◌++◌, map}
 use Rattle.std.specs.List.{filter}
-use Rattle.relations.specs.Pushed.{StandFrom}
+use Rattle.state_split.specs.Shares.{OneEach}
 use Rattle.state_split.specs.Sieves.{is_kept}
 use Rattle.state_split.proofs.rows.dealt_rows.Given as goal
 
@@ -8,9 +8,6 @@ use Rattle.state_split.proofs.rows.dealt_rows.Given as goal
 abbrev pub invariant-loop-kept : goal.invariant-loop-kept
 invariant-loop-kept g l =
     let test : ℕ → g.K.Kept.Told → Bool = λ k e. is_kept (g.S.Sorter.region l.sorter k) l.columns (g.K.Kept.row_of e) in
-    record {
-      sized : length l.shares.items ≡ g.S.Sorter.count l.sorter;
-      each : StandFrom (λ k share. share ++ filter (test k) (map g.K.Kept.told l.kept-iterator.rest.items)
-          ≡ filter (test k) (map g.K.Kept.told l.fn.rows.items)) 0
-          (map (λ s. map g.K.Kept.told s.items) l.shares.items);
-    }
+    OneEach (g.S.Sorter.count l.sorter) (λ k share.
+    map g.K.Kept.told share.items ++ filter (test k) (map g.K.Kept.told l.kept-iterator.rest.items)
+    ≡ filter (test k) (map g.K.Kept.told l.fn.rows.items)) l.shares.items

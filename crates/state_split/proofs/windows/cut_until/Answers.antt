@@ -10,14 +10,10 @@ pub returns : goal.returns
 returns g c =
     let near = g.S.Sorter.region c.args.sorter.now in
     let until = c.args.until in
-    let starts = starts_kept until.kept.starts.items in
-    let rows = marks_kept until.kept.rows.items in
-    each_collected _ _ _ (λ e. Until (record { left = e.0.0; right = e.0.1; kept = e.1 }))
-    c.in_ok-pairs.pairs.items _ c.collect.result
-    (each_paired _ _ _ c.in_ok-columns.columns.items c.in_ok-kept.kept.items c.in_ok-pairs.pairs.items
-    c.in_ok-columns.ensures c.in_ok-kept.ensures c.in_ok-pairs.ensures)
-    c.collect.ensures.ran c.map.ensures.source c.into_iter.ensures.rest
-    (c.into_iter.ensures.len ∙ c.in_ok-pairs.pairs.ok.0) c.map.ensures.closure (λ x y q k. search rules)
+    each_collected _ _ _ (λ e. Until (record { left = e.0.0; right = e.0.1; kept = e.1 })) c.in_ok-pairs.pairs _ _
+    (each_paired _ _ _ _ _ _ c.in_ok-columns.ensures c.in_ok-kept.ensures c.in_ok-pairs.ensures)
+    c.collect.ensures.ran c.map.ensures.source c.into_iter.ensures.rest c.into_iter.ensures.len
+    c.map.ensures.closure (λ x y q k. search rules)
     (λ k x is fits. record {
       left = is.0.0 ∙ c.deref.ensures.value;
       right = is.0.1 ∙ c.deref-2.ensures.value;
@@ -25,6 +21,6 @@ returns g c =
       taken = is.1.taken;
       lefts = is.1.lefts;
       rights = is.1.rights;
-      starts = is.1.starts ∙ inside_is_cut (near k) until.left.items starts fits.0;
-      rows = is.1.rows ∙ inside_is_cut (near k) until.right.items rows fits.1;
+      starts = is.1.starts ∙ inside_is_cut (near k) until.left.items (starts_kept until.kept.starts.items) fits.0;
+      rows = is.1.rows ∙ inside_is_cut (near k) until.right.items (marks_kept until.kept.rows.items) fits.1;
     })
