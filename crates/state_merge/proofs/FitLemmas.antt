@@ -17,7 +17,6 @@ use Rattle.monitorable.specs.Conjuncts.{conjuncts_of}
 use Rattle.monitorable.specs.CoreForms.{CoreForm, meaning, Not, And, Or, Previous, Next, Since, Until}
 use Rattle.monitorable.specs.NodeCount.{nodes}
 use Rattle.relations.proofs.KeptLemmas.{each_kept}
-use Rattle.relations.specs.declared.table.Table.{Table}
 use Rattle.monitor_state.proofs.SizeLemmas.{since_both_smaller, until_both_smaller}
 use Rattle.monitor_state.proofs.MarkLemmas.{entries_are}
 use Rattle.monitor_state.proofs.MonitorSteps.{children_append}

@@ -1,5 +1,5 @@
 -- The data of two SINCEs united stands for both regions, has nothing outside them, and keeps its rule.
-use Rattle.std.proofs.Common.{◌≡◌, ℕ, ◌+◌, ◌-◌, ◌≤◌, ◌<◌, ◌^◌, Bool, true, ◌||◌, cond, nat_eq, List, [], ◌∷◌, length}
+use Rattle.std.proofs.Common.{◌≡◌, ℕ, ◌-◌, ◌≤◌, ◌<◌, Bool, true, ◌||◌, cond, nat_eq, List, [], ◌∷◌, length}
 use Rattle.std.proofs.Common.{map, Option, Some, refl, sym, ap, ap₂, ◌∙◌}
 use Rattle.std.proofs.lemmas.Bool.{and_parts}
 use Rattle.std.proofs.Math.Bool.{or_self}
@@ -21,7 +21,7 @@ use Rattle.eval_since.specs.Times.{reaches}
 use Rattle.eval_since.specs.declared.recalled.KeptRow.{KeptRow}
 use Rattle.monitorable.specs.CoreForms.{CoreForm, meaning}
 use Rattle.relations.specs.KeptRows.{kept_for}
-use Rattle.monitor_state.specs.JoinedRows.{RowsUnion, either, times_joined}
+use Rattle.monitor_state.specs.JoinedRows.{RowsUnion, times_joined}
 use Rattle.monitor_state.specs.StateInside.{WindowInside}
 use Rattle.monitor_state.specs.StateLaws.{seen_in}
 use Rattle.monitor_state.specs.StateRules.{SinceKeeps}

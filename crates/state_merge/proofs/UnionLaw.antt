@@ -2,7 +2,6 @@
 use Rattle.std.proofs.Common.{◌≡◌, ℕ, ◌-◌, List, [], ◌∷◌, refl, sym, ap, ◌∙◌}
 use Rattle.std.specs.Prelude.{min}
 use Rattle.mfotl_model.specs.Exact.{View}
-use Rattle.mfotl_model.specs.Log.{times}
 use Rattle.mfotl_model.specs.Regions.{Region}
 use Rattle.monitorable.specs.CoreForms.{CoreForm, And, Previous, Next, Since, Until}
 use Rattle.monitor_state.specs.Nodes.{left_operand, nodes_of}

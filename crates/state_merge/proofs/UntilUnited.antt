@@ -1,6 +1,6 @@
 -- The data of two UNTILs united stands for both regions, has nothing outside them, and keeps its rule.
 use Rattle.std.proofs.Common.{◌≡◌, ℕ, ◌<◌, ◌≤◌, Bool, true, ◌||◌, cond, nat_le, List, [], length, map, sym, arith}
-use Rattle.std.proofs.Common.{ap, ap₂, ◌∙◌}
+use Rattle.std.proofs.Common.{ap₂, ◌∙◌}
 use Rattle.std.proofs.Math.Bool.{or_self}
 use Rattle.std.specs.List.{AllByRecursion, list_any}
 use Rattle.std.specs.Option.{unwrap_or}

@@ -1,5 +1,5 @@
 -- The data of an UNTIL cut to a region: it keeps its rule, stands for the region, and has nothing outside it.
-use Rattle.std.proofs.Common.{◌≡◌, ℕ, ◌+◌, ◌≤◌, ◌<◌, ◌^◌, Bool, true, nat_le, nat_lt, ◌&&◌, List, [], ◌∷◌, length}
+use Rattle.std.proofs.Common.{◌≡◌, ℕ, ◌≤◌, ◌<◌, Bool, true, nat_le, nat_lt, ◌&&◌, List, [], ◌∷◌, length}
 use Rattle.std.proofs.Common.{map, Option, None, refl, sym, ap, ◌∙◌}
 use Rattle.std.specs.List.{list_all, list_any}
 use Rattle.std.specs.Option.{IfSome, unwrap_or}

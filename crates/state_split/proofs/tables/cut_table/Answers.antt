@@ -1,4 +1,4 @@
-use Rattle.std.proofs.Common.{◌≡◌, ◌∙◌, map-id, refl, sym}
+use Rattle.std.proofs.Common.{◌∙◌, map-id, refl, sym}
 use Rattle.state_split.proofs.ShareLemmas.{each_mapped, stand_all}
 use Rattle.state_split.proofs.SieveLemmas.{kept_is_cut, kept_table}
 use Rattle.state_split.proofs.tables.cut_table.Goals as goal
