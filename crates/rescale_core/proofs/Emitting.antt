@@ -1,7 +1,7 @@
 -- What a Gather emits is the verdict due.
-use Rattle.std.proofs.Common.{◌≡◌, ℕ, ◌<◌, ◌≤◌, Bool, true, false, cond, nat_eq, Option, Some, None, List, [], ◌∷◌}
-use Rattle.std.proofs.Common.{◌++◌}
+use Rattle.std.proofs.Common.{◌≡◌, ℕ, ◌<◌, ◌≤◌, true, cond, nat_eq, Option, Some, None, List, [], ◌∷◌, ◌++◌, ⊎_elim}
 use Rattle.std.proofs.Common.{length, map, filter, slice_index, sym, refl, ap, ◌∙◌, subst, arith, eqb-true, eq-eqb}
+use Rattle.std.proofs.lemmas.Bool.Decides.{nat_tests}
 use Rattle.std.proofs.lemmas.List.{length-map}
 use Rattle.std.specs.List.{AllByRecursion, find}
 use Rattle.std.specs.List.Sorted.{IsStrictlySortedBy}
@@ -25,7 +25,7 @@ use Rattle.verdict_merge.specs.Laws.{IsPartition}
 use Rattle.verdict_merge.specs.declared.rows.Rows.{Rows}
 use Rattle.verdict_merge.specs.declared.rows.Verdict.{Verdict}
 use Rattle.rescale_core.proofs.Fitting.{every_filter, every_map}
-use Rattle.rescale_core.proofs.Settling.{one_slice_settles, slice_final}
+use Rattle.rescale_core.proofs.Settling.{head_or_tail, one_slice_settles, slice_final}
 use Rattle.rescale_core.specs.Lines.{AreSound, Due, Spot, first_spot, moved}
 use Rattle.rescale_core.specs.Lines.Due.{Slicing}
 use Rattle.rescale_core.specs.Soundly.{IsSound, KnownRow}
@@ -39,22 +39,11 @@ use Rattle.rescale_core.specs.Worlds.{World, IsGathered, slice_at, spot_in, verd
 first_found : (n : ℕ) (rs : List Rows) (first : Rows) (rest : List Rows) → rows_at n rs ≡ first ∷ rest
     → find (at_point n) rs ≡ Some first
 first_found n [] first rest e = cc
-first_found n (r ∷ rs) first rest e = at (at_point n r) e (first_found n rs first rest)
-  where
-    at : (b : Bool) → cond b (r ∷ rows_at n rs) (rows_at n rs) ≡ first ∷ rest
-        → (rows_at n rs ≡ first ∷ rest → find (at_point n) rs ≡ Some first)
-        → cond b (Some r) (find (at_point n) rs) ≡ Some first
-    at true e next = let same : r ≡ first = cc in ap Some same
-    at false e next = next e
+first_found n (r ∷ rs) first rest e = grind (arith, nat_tests, first_found n rs first rest)
 
 none_found : (n : ℕ) (rs : List Rows) → rows_at n rs ≡ [] → find (at_point n) rs ≡ None
 none_found n [] e = refl
-none_found n (r ∷ rs) e = at (at_point n r) e (none_found n rs)
-  where
-    at : (b : Bool) → cond b (r ∷ rows_at n rs) (rows_at n rs) ≡ [] → (rows_at n rs ≡ [] → find (at_point n) rs ≡ None)
-        → cond b (Some r) (find (at_point n) rs) ≡ None
-    at true e next = cc
-    at false e next = next e
+none_found n (r ∷ rs) e = grind (arith, nat_tests, none_found n rs)
 
 -- the Rows of the next time-point are there, as many as their generation has workers
 pub record IsComplete (g : GatherOf) (ts : ℕ) : Type 0 where
@@ -68,23 +57,18 @@ pub complete_some : (g : GatherOf) (ts : ℕ) → complete_ts g ≡ Some ts → 
 complete_some g ts e = by_rows (rows_at g.next g.added) refl
   where
     by_rows : (rs : List Rows) → rows_at g.next g.added ≡ rs → IsComplete g ts
-    by_rows [] is = let no_first = none_found g.next g.added is in
-        let clash : None ≡ Some ts = sym (ap (ts_among g) no_first) ∙ e in cc
+    by_rows [] is = let none = rw (none_found g.next g.added is) at e in cc
     by_rows (first ∷ rest) is =
-        by_count (nat_eq (length (rows_at g.next g.added)) (workers_in g.begun first.generation)) refl
-        (sym (ap (ts_among g) (first_found g.next g.added first rest is)) ∙ e)
-      where
-        by_count : (b : Bool) → nat_eq (length (rows_at g.next g.added)) (workers_in g.begun first.generation) ≡ b
-            → cond b (Some first.ts) None ≡ Some ts → IsComplete g ts
-        by_count true same s =
-            record {
-              first = first;
-              rest = rest;
-              rows = is;
-              all = eqb-true (length (rows_at g.next g.added)) (workers_in g.begun first.generation) same;
-              time = cc;
-            }
-        by_count false same s = cc
+        let long : ℕ = length (rows_at g.next g.added) in
+        let all : cond (nat_eq long (workers_in g.begun first.generation)) (Some first.ts) None ≡ Some ts =
+        sym (ap (ts_among g) (first_found g.next g.added first rest is)) ∙ e in
+        record {
+          first = first;
+          rest = rest;
+          rows = is;
+          all = grind (arith, nat_tests);
+          time = grind (arith, nat_tests);
+        }
 
 -- with all Rows a Gather is complete
 pub complete_with : (g : GatherOf) (first : Rows) (rest : List Rows) → rows_at g.next g.added ≡ first ∷ rest
@@ -119,15 +103,10 @@ pub slice_strategy : (c : CoreForm) (es : List Entry) (a : Spot) (n g : ℕ) (s 
 slice_strategy c [] a n g s log p f sound h = cc
 slice_strategy c (Change x ∷ es) a n g s log p f sound h =
     slice_strategy c es (moved a (Change x)) n g s log p sound.0 sound.1 h
-slice_strategy c (Point q ∷ es) a n g s log p f sound h =
-    by_test (nat_eq n (length a.points)) h (slice_strategy c es (moved a (Point q)) n g s log p f sound.1)
-  where
-    by_test : (b : Bool)
-        → cond b (Some (Slicing a.generation a.strategy a.points q)) (slice_at (moved a (Point q)) es n)
-        ≡ Some (Slicing g s log p)
-        → (slice_at (moved a (Point q)) es n ≡ Some (Slicing g s log p) → IsFor c s) → IsFor c s
-    by_test true h next = let same : a.strategy ≡ s = cc in subst (IsFor c) same f
-    by_test false h next = next h
+slice_strategy c (Point q ∷ es) a n g s log p f sound h = ⊎_elim
+    (λ here. let same : a.strategy ≡ s = cc in subst (IsFor c) same f)
+    (λ later. slice_strategy c es (moved a (Point q)) n g s log p f sound.1 later)
+    (head_or_tail a q es n (Slicing g s log p) h)
 
 module _ (w : World) (sound : IsSound w) (i : ℕ) where
   abbrev f : ℕ → Option Due
@@ -159,12 +138,9 @@ module _ (w : World) (sound : IsSound w) (i : ℕ) where
       let final = slice_final w.core sound.first.evaluable.fits w.read (first_spot w.first) i (length x.log)
       r.generation x.strategy x.log x.point sound.read x.is high2 in
       record {
-        ts = ap (λ (y : Rows). y.ts) x.row ∙ ap (λ n. slice_index (times (x.log ++ x.point ∷ [])) n) at ∙ final.1;
-        rows = ap (λ (y : Rows). y.rows) x.row
-            ∙ ap (λ n. owned_by x.strategy r.worker (violations_at w.core (x.log ++ x.point ∷ []) n)) at
-            ∙ ap (λ v. owned_by x.strategy r.worker v) final.0
-            ∙ ap (λ t. owned_by t r.worker (violations_at w.core points i)) s_is;
-        near = subst (λ t. r.worker < workers_of t) s_is x.near;
+        ts = rw (x.row, at) final.1;
+        rows = rw (x.row, at, final.0, s_is) refl;
+        near = rw (← s_is) x.near;
         generation = g_is;
       }
 
@@ -172,8 +148,7 @@ module _ (w : World) (sound : IsSound w) (i : ℕ) where
       → f (length log) ≡ Some (Slicing g s log p) → settled_in w.core log ≤ i → i < settled_in w.core (log ++ p ∷ [])
       → AllByRecursion (DueRow g s log p) (rows_at i w.rows)
   due_all g s log p is low high =
-      every_map (λ r. KnownRow f w.core r × (nat_eq r.point i ≡ true)) (DueRow g s log p) (rows_at i w.rows)
-      (due_row g s log p is low high)
+      every_map _ _ (rows_at i w.rows) (due_row g s log p is low high)
       (every_filter (KnownRow f w.core) (λ r. nat_eq r.point i) w.rows sound.rows_known)
 
   -- all Rows for a position are by owner a partition of its violations
@@ -187,9 +162,8 @@ module _ (w : World) (sound : IsSound w) (i : ℕ) where
       record {
         owned = all_owned s rows (slice_strategy w.core w.read (first_spot w.first) (length all.2) all.0 s all.2 all.3
             sound.first sound.read all.4).workers.some;
-        parts = every_map D (λ (r : Rows). r.rows ≡ owned_by s r.worker rows) (rows_at i w.rows) (λ r d. d.rows) due;
-        near = below_of (workers_of s) (rows_at i w.rows)
-            (every_map D (λ (r : Rows). r.worker < workers_of s) (rows_at i w.rows) (λ r d. d.near) due);
+        parts = every_map _ _ (rows_at i w.rows) (λ r d. d.rows) due;
+        near = below_of (workers_of s) (rows_at i w.rows) (every_map _ _ (rows_at i w.rows) (λ r d. d.near) due);
         apart = sound.rows_apart i;
         whole = length-map (rows_at i w.rows) (λ (r : Rows). r.worker) ∙ all.7;
       }
@@ -226,8 +200,6 @@ module _ (w : World) (sound : IsSound w) (i : ℕ) where
       owners_merge (owner s) (workers_of s) (rows_at i w.rows) rows (violations_ascend w.core points i)
       (gathered_partition gathered) in
       let time : first.ts ≡ slice_index (times points) i = (subst (AllByRecursion D) is all).0.ts in (
-        made
-            ∙ ap (λ t. record { point = i; ts = t; rows = ascending row_cmp (gathered_rows (rows_at i w.rows)) }) time
-            ∙ ap (λ y. record { point = i; ts = slice_index (times points) i; rows = y }) one,
+        rw (← time, ← one) made,
         gathered,
       )

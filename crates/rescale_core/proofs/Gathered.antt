@@ -1,12 +1,12 @@
 -- No row comes for a position that was emitted.
-use Rattle.std.proofs.Common.{◌≡◌, ℕ, ◌+◌, ◌<◌, ◌≤◌, nat_eq, List, [], ◌∷◌, ◌++◌}
-use Rattle.std.proofs.Common.{length, map, sym, ap, ◌∙◌, subst, arith, length-append}
+use Rattle.std.proofs.Common.{◌≡◌, ℕ, ◌+◌, ◌<◌, ◌≤◌, nat_eq, List, [], ◌∷◌, ◌++◌, length, map, sym, ap, ◌∙◌, subst}
+use Rattle.std.proofs.Common.{append-nil, arith, length-append}
 use Rattle.std.proofs.lemmas.List.Elements.{filter-append}
 use Rattle.std.proofs.lemmas.List.{length-map, nil_from_length}
 use native.Mathlib.Decide.{ℕ_discrete}
 use Rattle.mfotl_model.proofs.NumberLemmas.{at_most}
 use Rattle.mfotl_model.specs.Strategies.{workers_of}
-use Rattle.rescale_core.proofs.Emitting.{DueRow, below_of, due_all}
+use Rattle.rescale_core.proofs.Emitting.{below_of, due_all}
 use Rattle.rescale_core.proofs.Fitting.{every_map}
 use Rattle.rescale_core.proofs.Settling.{slice_more}
 use Rattle.rescale_core.proofs.Collecting.{collect_sound}
@@ -34,10 +34,8 @@ module _ (w : World) (k : ℕ) (r : IsSound w) where
       let few : length (map (λ (r : Rows). r.worker) (rows_at i (w.rows ++ rs))) ≤ workers_of g.1 =
       at_most (workers_of g.1) (map (λ (r : Rows). r.worker) (rows_at i (w.rows ++ rs))) (sound.rows_apart i)
       (below_of (workers_of g.1) (rows_at i (w.rows ++ rs))
-      (every_map (DueRow (world_after w (Collect k)) sound i g.0 g.1 g.2 g.3) (λ (r : Rows). r.worker < workers_of g.1)
-      (rows_at i (w.rows ++ rs)) (λ x d. d.near) all)) in
-      let same : length (map (λ (r : Rows). r.worker) (rows_at i (w.rows ++ rs))) ≡ length
-      (rows_at i (w.rows ++ rs)) = length-map (rows_at i (w.rows ++ rs)) (λ (r : Rows). r.worker) in
+      (every_map _ _ (rows_at i (w.rows ++ rs)) (λ x d. d.near) all)) in
+      let same = length-map (rows_at i (w.rows ++ rs)) (λ (r : Rows). r.worker) in
       let sum : length (rows_at i (w.rows ++ rs)) ≡ length (rows_at i w.rows) + length (rows_at i rs) =
       ap length (filter-append (λ r. nat_eq r.point i) w.rows rs)
       ∙ length-append (rows_at i w.rows) (rows_at i rs) in
@@ -66,9 +64,7 @@ step_gathered w (Collect k) r a g i h = let x = g i h in (
   x.4,
   x.5,
   x.6,
-  ap length (filter-append (λ r. nat_eq r.point i) w.rows (rs w k r)
-      ∙ ap (λ y. rows_at i w.rows ++ y) (none_more w k r i x)) ∙ length-append (rows_at i w.rows) []
-      ∙ (let e : length (rows_at i w.rows) + 0 ≡ length (rows_at i w.rows) = omega arith in e) ∙ x.7,
+  rw (filter-append (λ r. nat_eq r.point i) w.rows (rs w k r), none_more w k r i x, append-nil) x.7,
 )
 step_gathered w (Emit v) r a g i h = at (ℕ_discrete i (length w.emitted))
   where

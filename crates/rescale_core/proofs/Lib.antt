@@ -4,9 +4,9 @@ pub mod Chains
 pub mod WorldLemmas
 pub mod Fitting
 pub mod Settling
+pub mod Pieces
 pub mod Rowing
 pub mod Leading
-pub mod Pieces
 pub mod ReadyLemmas
 pub mod SeatLemmas
 pub mod Collecting

@@ -1,6 +1,5 @@
 -- What splitting, adopting and finishing do for a worker.
-use Rattle.std.proofs.Common.{◌≡◌, ℕ, ◌+◌, ◌<◌, ◌≤◌, Option, Some, None, IfSome, List, [], ◌∷◌, length}
-use Rattle.std.proofs.Common.{sym, refl, ap, ◌∙◌, subst, arith}
+use Rattle.std.proofs.Common.{◌≡◌, ℕ, ◌+◌, ◌<◌, Option, Some, None, IfSome, List, [], ◌∷◌, length, refl, ap, ◌∙◌, arith}
 use Rattle.mfotl_model.proofs.NumberLemmas.{at_most}
 use Rattle.mfotl_model.specs.FreeVariables.{fv, among}
 use Rattle.mfotl_model.specs.Regions.{near_of}
@@ -44,11 +43,9 @@ pub splits : (m : Monitor) (s : Strategy) (k : ℕ) (s2 : Strategy) (g : ℕ) (p
     → Splits m s k s2 g pieces
 splits m s k s2 g pieces size numbers stands = (
   size,
-  λ core log is is2 at. strategies_cut core s k s2 log g pieces numbers
-      (subst (λ c. PiecesStand c (near_of s k) (near_of s2) log pieces) at.of
-      (stands log (subst (λ c. BindsAll (length s) (fv (meaning c))) (sym at.of) (binds_all core s is))
-      (subst (λ c. BindsAll (length s2) (fv (meaning c))) (sym at.of) (binds_all core s2 is2))
-      (subst (λ c. Stands (view_of c (near_of s k) log) c (monitor_of m).state) (sym at.of) at.stands))),
+  λ core log is is2 own. strategies_cut core s k s2 log g pieces numbers
+      (rw (← own.of) (stands log (rw own.of (binds_all core s is)) (rw own.of (binds_all core s2 is2))
+      (rw own.of own.stands))),
 )
 
 -- ---- adopting
@@ -67,11 +64,8 @@ adopt_fits merging piece can = by (merging_of merging).merged can.8.merged
 pub adopt_due : (merging : Merging) (piece : Piece) → CanAdopt merging piece
     → (merging_of merging).adopted < (merging_of merging).count
 adopt_due merging piece can =
-    let few : length (piece.from ∷ can.5) ≤ workers_of can.1 =
-    at_most (workers_of can.1) (piece.from ∷ can.5) can.10.distinct can.10.near in
-    let adopted = can.8.adopted in
-    let count = can.8.count in
-    omega (arith, few, adopted, count)
+    let few = at_most (workers_of can.1) (piece.from ∷ can.5) can.10.distinct can.10.near in
+    omega (arith, few, can.8.adopted, can.8.count)
 
 pub merges_more : (old new : Merging) (piece : Piece) → (merging_of new).core ≡ (merging_of old).core
     → (merging_of new).count ≡ (merging_of old).count → (merging_of new).adopted ≡ (merging_of old).adopted + 1
@@ -109,8 +103,7 @@ is_whole merging full = (
   full.4,
   full.5,
   all_adopted full.0 full.1 full.5 full.6 full.9 full.10,
-  subst (λ c. HasMerged c full.1 full.2 full.3 full.4 full.5 (merging_of merging).merged) (sym full.8.of)
-      full.8.merged,
+  rw full.8.of full.8.merged,
 )
 
 suits : (core : CoreForm) (s : Strategy) (k : ℕ) (log : List TimePoint) → IsFor core s
@@ -134,8 +127,7 @@ pub finishes : (merging : Merging) (m : Monitor) → (monitor_of m).core ≡ (me
 finishes merging m same stands core s s2 k2 log froms is is2 merges adopted size =
     record {
       of = same ∙ merges.of;
-      stands = subst (λ c. Stands (view_of c (near_of s2 k2) log) c (monitor_of m).state) merges.of
-          (stands s s2 k2 log froms (all_adopted core s froms is adopted size)
-          (subst (λ c. HasMerged c s s2 k2 log froms (merging_of merging).merged) (sym merges.of) merges.merged)
-          (subst (λ c. SuitsWhole (view_of c (near_of s2 k2) log) c) (sym merges.of) (suits core s2 k2 log is2)));
+      stands = rw (← merges.of)
+          (stands s s2 k2 log froms (all_adopted core s froms is adopted size) (rw merges.of merges.merged)
+          (rw merges.of (suits core s2 k2 log is2)));
     }

@@ -1,15 +1,16 @@
 -- The pieces among what answers.
-use Rattle.std.proofs.Common.{◌≡◌, ◌≢◌, ◌⊎◌, ℕ, ◌+◌, ◌<◌, ◌≤◌, Bool, true, false, cond, ◌&&◌, nat_eq}
-use Rattle.std.proofs.Common.{Option, Some, List, [], ◌∷◌, ◌++◌, length, map, sym, refl}
-use Rattle.std.proofs.Common.{ap, ◌∙◌}
-use Rattle.std.proofs.Common.{subst, inl, inr, append_assoc, append-nil, arith, ne_eqb, eqb-true}
+use Rattle.std.proofs.Common.{◌≡◌, ◌≢◌, ℕ, ◌+◌, ◌<◌, ◌≤◌, Bool, true, false, ◌&&◌, nat_eq, Option, Some, List, [], ◌∷◌}
+use Rattle.std.proofs.Common.{◌++◌, length, filter, map, drop, sym, refl, ap, ◌∙◌, subst, ⊎_elim, append_assoc}
+use Rattle.std.proofs.Common.{append-nil, arith, ne_eqb, length-append, cond}
+use Rattle.std.proofs.lemmas.Bool.{cases_eq}
+use Rattle.std.proofs.lemmas.Bool.Decides.{nat_tests}
 use Rattle.std.proofs.lemmas.List.Elements.{filter-append}
 use Rattle.std.proofs.lemmas.List.{length-map}
+use Rattle.std.proofs.Math.Seq.{drop-append_seam}
 use Rattle.std.proofs.Permutation.{every_append}
-use native.Mathlib.Decide.{ℕ_discrete}
 use Rattle.mfotl_model.specs.Numbers.{Apart, NotIn}
 use Rattle.mfotl_model.specs.Strategies.{Strategy, workers_of}
-use Rattle.rescale_core.proofs.Fitting.{and_right, every_map}
+use Rattle.rescale_core.proofs.Fitting.{every_map}
 use Rattle.rescale_core.proofs.WorldLemmas.{AreChanges, Rises}
 use Rattle.rescale_core.specs.Lines.{ChangeOfStrategy, Due}
 use Rattle.rescale_core.specs.Soundly.{Known, last_part}
@@ -26,19 +27,44 @@ use Rattle.rescale_core.specs.Lines.Due.{Slicing, Parting, Hole}
 
 -- ---- lists
 
-pub distinct_snoc : (xs : List ℕ) (y : ℕ) → Apart xs → NotIn y xs → Apart (xs ++ y ∷ [])
-distinct_snoc [] y d n = (tt, tt)
-distinct_snoc (x ∷ xs) y d n = (apart x xs y d.0 n.0, distinct_snoc xs y d.1 n.1)
+pub every_front : {A : Type 0} (P : A → Type 0) (xs ys : List A) → AllByRecursion P (xs ++ ys) → AllByRecursion P xs
+every_front P [] ys h = tt
+every_front P (x ∷ xs) ys h = (h.0, every_front P xs ys h.1)
+
+pub every_behind : {A : Type 0} (P : A → Type 0) (xs ys : List A) → AllByRecursion P (xs ++ ys) → AllByRecursion P ys
+every_behind P [] ys h = h
+every_behind P (x ∷ xs) ys h = every_behind P xs ys h.1
+
+-- a filter keeps all, or none
+pub all_pass : {A : Type 0} (test : A → Bool) (xs : List A) → AllByRecursion (λ x. test x ≡ true) xs
+    → filter test xs ≡ xs
+all_pass test [] a = refl
+all_pass test (x ∷ xs) a = rw a.0 (ap (λ ys. x ∷ ys) (all_pass test xs a.1))
+
+pub none_pass : {A : Type 0} (test : A → Bool) (xs : List A) → AllByRecursion (λ x. test x ≡ false) xs
+    → filter test xs ≡ []
+none_pass test [] a = refl
+none_pass test (x ∷ xs) a = rw a.0 (none_pass test xs a.1)
+
+-- at most one more, by another worker than all the others
+pub distinct_lone : {A : Type 0} (by : A → ℕ) (xs ys : List A) → Apart (map by xs) → length ys ≤ 1
+    → AllByRecursion (λ y. AllByRecursion (λ x. by x ≢ by y) xs) ys → Apart (map by (xs ++ ys))
+distinct_lone by xs [] d l e = rw append-nil d
+distinct_lone by xs (y ∷ (z ∷ ys)) d l e = absurd (omega arith)
+distinct_lone {A} by xs (y ∷ []) d l e = distinct xs d e.0
   where
-    apart : (x : ℕ) (xs : List ℕ) (y : ℕ) → NotIn x xs → (y ≢ x) → NotIn x (xs ++ y ∷ [])
-    apart x [] y a b = ((λ e. b (sym e)), tt)
-    apart x (z ∷ xs) y a b = (a.0, apart x xs y a.1 b)
+    not_in : (n : ℕ) (xs : List A) → NotIn n (map by xs) → n ≢ by y → NotIn n (map by (xs ++ y ∷ []))
+    not_in n [] a b = (b, tt)
+    not_in n (x ∷ xs) a b = (a.0, not_in n xs a.1 b)
+
+    distinct : (xs : List A) → Apart (map by xs) → AllByRecursion (λ x. by x ≢ by y) xs
+        → Apart (map by (xs ++ y ∷ []))
+    distinct [] d e = (tt, tt)
+    distinct (x ∷ xs) d e = (not_in (by x) xs d.0 e.0, distinct xs d.1 e.1)
 
 same_length : {A : Type 0} (a b x y : List A) → length a ≡ length b → a ++ x ≡ b ++ y → x ≡ y
-same_length [] [] x y l e = e
-same_length [] (v ∷ b) x y l e = absurd (omega arith)
-same_length (u ∷ a) [] x y l e = absurd (omega arith)
-same_length (u ∷ a) (v ∷ b) x y l e = let t : a ++ x ≡ b ++ y = cc in same_length a b x y (omega arith) t
+same_length a b x y l e =
+    sym (drop-append_seam a x) ∙ ap (drop (length a)) e ∙ ap (λ n. drop n (b ++ y)) l ∙ drop-append_seam b y
 
 -- ---- answers, cut in two
 
@@ -79,17 +105,12 @@ last_more g (Slicing h s log p ∷ xs) ys = last_more g xs ys
 last_more g (Parting t ∷ xs) ys = last_more t.generation xs ys
 last_more g (Hole t j ∷ xs) ys = last_more g xs ys
 
-pub rises_cut : (g : ℕ) (xs ys : List Due) → Rises g (xs ++ ys) → Rises (last_part g xs) ys
-rises_cut g [] ys r = r
-rises_cut g (Slicing h s log p ∷ xs) ys r = rises_cut g xs ys r
-rises_cut g (Parting t ∷ xs) ys r = rises_cut t.generation xs ys r.1
-rises_cut g (Hole t j ∷ xs) ys r = rises_cut g xs ys r
-
-pub rises_front : (g : ℕ) (xs ys : List Due) → Rises g (xs ++ ys) → Rises g xs
-rises_front g [] ys r = tt
-rises_front g (Slicing h s log p ∷ xs) ys r = rises_front g xs ys r
-rises_front g (Parting t ∷ xs) ys r = (r.0, rises_front t.generation xs ys r.1)
-rises_front g (Hole t j ∷ xs) ys r = rises_front g xs ys r
+-- a front of the line, and what is behind it
+pub rises_apart : (g : ℕ) (xs ys : List Due) → Rises g (xs ++ ys) → Rises g xs × Rises (last_part g xs) ys
+rises_apart g [] ys r = (tt, r)
+rises_apart g (Slicing h s log p ∷ xs) ys r = rises_apart g xs ys r
+rises_apart g (Parting t ∷ xs) ys r = let h = rises_apart t.generation xs ys r.1 in ((r.0, h.0), h.1)
+rises_apart g (Hole t j ∷ xs) ys r = rises_apart g xs ys r
 
 pub last_rises : (g : ℕ) (xs : List Due) → Rises g xs → g ≤ last_part g xs
 last_rises g [] r = omega arith
@@ -97,17 +118,12 @@ last_rises g (Slicing h s log p ∷ xs) r = last_rises g xs r
 last_rises g (Parting t ∷ xs) r = let h = last_rises t.generation xs r.1 in let l = r.0 in omega arith
 last_rises g (Hole t j ∷ xs) r = last_rises g xs r
 
-pub changes_cut : (f : ℕ → Option ChangeOfStrategy) (xs ys : List Due) → AreChanges f (xs ++ ys) → AreChanges f ys
-changes_cut f [] ys r = r
-changes_cut f (Slicing h s log p ∷ xs) ys r = changes_cut f xs ys r
-changes_cut f (Parting t ∷ xs) ys r = changes_cut f xs ys r.1
-changes_cut f (Hole t j ∷ xs) ys r = changes_cut f xs ys r.1
-
-pub changes_front : (f : ℕ → Option ChangeOfStrategy) (xs ys : List Due) → AreChanges f (xs ++ ys) → AreChanges f xs
-changes_front f [] ys r = tt
-changes_front f (Slicing h s log p ∷ xs) ys r = changes_front f xs ys r
-changes_front f (Parting t ∷ xs) ys r = (r.0, changes_front f xs ys r.1)
-changes_front f (Hole t j ∷ xs) ys r = (r.0, changes_front f xs ys r.1)
+pub changes_apart : (f : ℕ → Option ChangeOfStrategy) (xs ys : List Due) → AreChanges f (xs ++ ys)
+    → AreChanges f xs × AreChanges f ys
+changes_apart f [] ys r = (tt, r)
+changes_apart f (Slicing h s log p ∷ xs) ys r = changes_apart f xs ys r
+changes_apart f (Parting t ∷ xs) ys r = let h = changes_apart f xs ys r.1 in ((r.0, h.0), h.1)
+changes_apart f (Hole t j ∷ xs) ys r = let h = changes_apart f xs ys r.1 in ((r.0, h.0), h.1)
 
 -- a piece that a part of k gave
 pub record Came (f : ℕ → Option ChangeOfStrategy) (c : CoreForm) (k lo hi : ℕ) (p : Piece) : Type 0 where
@@ -116,11 +132,12 @@ pub record Came (f : ℕ → Option ChangeOfStrategy) (c : CoreForm) (k lo hi : 
   pub above : lo < p.generation
   pub within : p.generation ≤ hi
 
-came_wider : (f : ℕ → Option ChangeOfStrategy) (c : CoreForm) (k lo lo' hi : ℕ) (p : Piece) → lo' ≤ lo
-    → Came f c k lo hi p
-    → Came f c k lo' hi p
-came_wider f c k lo lo' hi p e r =
-    record { known = r.known; from = r.from; above = (let h = r.above in omega arith); within = r.within }
+-- the first of the pieces that a part gave
+pub first_piece : (c : CoreForm) (k : ℕ) (t : ChangeOfStrategy) (k2 : ℕ) (p : Piece) (os : List Out)
+    → Parts c k t k2 (OfPiece p ∷ os) → (p.from ≡ k) × IsPieceFor c t k2 p
+first_piece c k t k2 p os ps =
+    let same : ps.0.0 ≡ p = (let x = ps.0.1 in cc) in
+    subst (λ (y : Piece). (y.from ≡ k) × IsPieceFor c t k2 y) same (ps.0.2, ps.0.3)
 
 parts_came : (f : ℕ → Option ChangeOfStrategy) (c : CoreForm) (k lo hi : ℕ) (t : ChangeOfStrategy) (k2 : ℕ)
     (os : List Out)
@@ -129,52 +146,44 @@ parts_came : (f : ℕ → Option ChangeOfStrategy) (c : CoreForm) (k lo hi : ℕ
     → AllByRecursion (Came f c k lo hi) (pieces_in os)
 parts_came f c k lo hi t k2 [] e l h n ps = tt
 parts_came f c k lo hi t k2 (OfRows r ∷ os) e l h n ps = let x = ps.0.1 in cc
-parts_came f c k lo hi t k2 (OfPiece p ∷ os) e l h n ps = let q : Piece = ps.0.0 in
-    let same : q ≡ p = (let x = ps.0.1 in cc) in
-    let is : IsPieceFor c t k2 p = subst (λ (y : Piece). IsPieceFor c t k2 y) same ps.0.3 in
-    let g_is : p.generation ≡ t.generation = is.generation in (
+parts_came f c k lo hi t k2 (OfPiece p ∷ os) e l h n ps =
+    let first = first_piece c k t k2 p os ps in
+    let is : IsPieceFor c t k2 p = first.1 in
+    let g_is : p.generation ≡ t.generation = is.generation in
+    let to : p.to ≡ k2 = is.to in (
       record {
         known = record {
           change = t;
           is = ap f g_is ∙ e;
-          piece_for = subst (λ (y : ℕ). IsPieceFor c t y p) (sym is.to) is;
-          near = (let to : p.to ≡ k2 = is.to in omega arith);
+          piece_for = subst (λ (y : ℕ). IsPieceFor c t y p) (sym to) is;
+          near = omega arith;
         };
-        from = subst (λ (y : Piece). y.from ≡ k) same ps.0.2;
+        from = first.0;
         above = omega arith;
         within = omega arith;
       },
       parts_came f c k lo hi t (k2 + 1) os e l h (omega arith) ps.1,
     )
 
-pub answers_came : (f : ℕ → Option ChangeOfStrategy) (c : CoreForm) (k lo : ℕ) (ds : List Due) (os : List Out)
-    → Rises lo ds
-    → AreChanges f ds → Answers c k ds os → AllByRecursion (Came f c k lo (last_part lo ds)) (pieces_in os)
-answers_came f c k lo [] os r t a = subst (λ x. AllByRecursion (Came f c k lo lo) (pieces_in x)) (sym a) tt
-answers_came f c k lo (Slicing g s log p ∷ ds) os r t a = let rest = answers_came f c k lo ds a.1 r t a.4 in
-    let none : pieces_in a.0 ≡ [] = ap pieces_in a.3 ∙ no_pieces_in c k g s log p (newly c log p) in
-    let e : pieces_in os ≡ pieces_in a.1 = ap pieces_in a.2 ∙ pieces_more a.0 a.1
-    ∙ ap (λ x. x ++ pieces_in a.1) none in
-    subst (AllByRecursion (Came f c k lo (last_part lo ds))) (sym e) rest
-answers_came f c k lo (Parting u ∷ ds) os r t a = let hi : ℕ = last_part u.generation ds in
-    let rest = answers_came f c k u.generation ds a.1 r.1 t.1 a.4 in
-    let high : u.generation ≤ hi = last_rises u.generation ds r.1 in
-    let low : lo < u.generation = r.0 in
-    let here = parts_came f c k lo hi u 0 a.0 t.0 low high (let l : length a.0 ≡ workers_of u.new = a.3.0 in
-    omega arith) a.3.1 in
-    subst (AllByRecursion (Came f c k lo hi)) (sym (ap pieces_in a.2 ∙ pieces_more a.0 a.1))
-    (every_append (Came f c k lo hi) (pieces_in a.0) (pieces_in a.1) here
-    (every_map (Came f c k u.generation hi) (Came f c k lo hi) (pieces_in a.1)
-    (λ p. came_wider f c k u.generation lo hi p (omega arith)) rest))
-answers_came f c k lo (Hole u j ∷ ds) os r t a = let rest = answers_came f c k lo ds a.1 r t.1 a.4 in
-    let e : pieces_in os ≡ pieces_in a.1 = ap pieces_in a.2 ∙ pieces_more a.0 a.1
-    ∙ ap (λ x. pieces_in x ++ pieces_in a.1) a.3 in
-    subst (AllByRecursion (Came f c k lo (last_part lo ds))) (sym e) rest
+pub answers_came : (f : ℕ → Option ChangeOfStrategy) (c : CoreForm) (k lo g : ℕ) (ds : List Due) (os : List Out)
+    → lo ≤ g → Rises g ds → AreChanges f ds → Answers c k ds os
+    → AllByRecursion (Came f c k lo (last_part g ds)) (pieces_in os)
+answers_came f c k lo g [] os low r t a = rw a tt
+answers_came f c k lo g (Slicing h s log p ∷ ds) os low r t a =
+    rw (a.2, pieces_more a.0 a.1, ap pieces_in a.3 ∙ no_pieces_in c k h s log p (newly c log p))
+    (answers_came f c k lo g ds a.1 low r t a.4)
+answers_came f c k lo g (Parting u ∷ ds) os low r t a =
+    let up = r.0 in
+    let l : length a.0 ≡ workers_of u.new = a.3.0 in
+    rw (a.2, pieces_more a.0 a.1)
+    (every_append (Came f c k lo (last_part u.generation ds)) (pieces_in a.0) (pieces_in a.1)
+    (parts_came f c k lo (last_part u.generation ds) u 0 a.0 t.0 (omega arith) (last_rises u.generation ds r.1)
+    (omega arith) a.3.1)
+    (answers_came f c k lo u.generation ds a.1 (omega arith) r.1 t.1 a.4))
+answers_came f c k lo g (Hole u j ∷ ds) os low r t a =
+    rw (a.2, pieces_more a.0 a.1, ap pieces_in a.3) (answers_came f c k lo g ds a.1 low r t.1 a.4)
 
 -- ---- at most one piece for a place
-
-abbrev pub Lone : List Piece → Type 0
-Lone xs = (xs ≡ []) ⊎ ((x : Piece) × (xs ≡ x ∷ []))
 
 pub and_false : (a b : Bool) → b ≡ false → a && b ≡ false
 and_false true b e = e
@@ -184,87 +193,57 @@ pub skips : (g q : ℕ) (p : Piece) (ps : List Piece) → p.generation ≢ g →
 skips g q p ps n =
     ap (λ b. cond (b && nat_eq p.to q) (p ∷ for_place g q ps) (for_place g q ps)) (ne_eqb p.generation g n)
 
-skips_to : (g q : ℕ) (p : Piece) (ps : List Piece) → p.to ≢ q → for_place g q (p ∷ ps) ≡ for_place g q ps
-skips_to g q p ps n =
-    ap (λ b. cond b (p ∷ for_place g q ps) (for_place g q ps))
-    (and_false (nat_eq p.generation g) (nat_eq p.to q) (ne_eqb p.to q n))
-
 came_none : (f : ℕ → Option ChangeOfStrategy) (c : CoreForm) (k lo hi g q : ℕ) (ps : List Piece)
     → AllByRecursion (Came f c k lo hi) ps → g ≤ lo → for_place g q ps ≡ []
-came_none f c k lo hi g q [] a e = refl
-came_none f c k lo hi g q (p ∷ ps) a e = skips g q p ps (λ same. (let h = a.0.above in omega arith))
-    ∙ came_none f c k lo hi g q ps a.1 e
+came_none f c k lo hi g q ps a e =
+    none_pass (λ p. nat_eq p.generation g && nat_eq p.to q) ps
+    (every_map _ _ ps (λ p h. (let above = h.above in grind (arith, nat_tests))) a)
 
-parts_none : (c : CoreForm) (k : ℕ) (t : ChangeOfStrategy) (k2 g q : ℕ) (os : List Out) → Parts c k t k2 os → q < k2
-    → for_place g q (pieces_in os) ≡ []
+parts_none : (c : CoreForm) (k : ℕ) (t : ChangeOfStrategy) (k2 g q : ℕ) (os : List Out) → Parts c k t k2 os
+    → (t.generation ≡ g → q < k2) → for_place g q (pieces_in os) ≡ []
 parts_none c k t k2 g q [] ps e = refl
 parts_none c k t k2 g q (OfRows r ∷ os) ps e = let x = ps.0.1 in cc
-parts_none c k t k2 g q (OfPiece p ∷ os) ps e = let o : Piece = ps.0.0 in let same : o ≡ p = (let x = ps.0.1 in cc) in
-    let to : p.to ≡ k2 = subst (λ (y : Piece). y.to ≡ k2) same ps.0.3.to in
-    skips_to g q p (pieces_in os) (λ h. (omega arith)) ∙ parts_none c k t (k2 + 1) g q os ps.1 (omega arith)
-
-parts_other : (c : CoreForm) (k : ℕ) (t : ChangeOfStrategy) (k2 g q : ℕ) (os : List Out) → Parts c k t k2 os
-    → t.generation ≢ g
-    → for_place g q (pieces_in os) ≡ []
-parts_other c k t k2 g q [] ps e = refl
-parts_other c k t k2 g q (OfRows r ∷ os) ps e = let x = ps.0.1 in cc
-parts_other c k t k2 g q (OfPiece p ∷ os) ps e = let o : Piece = ps.0.0 in let same : o ≡ p = (let x = ps.0.1 in cc) in
-    let is : p.generation ≡ t.generation = subst (λ (y : Piece). y.generation ≡ t.generation) same ps.0.3.generation in
-    skips g q p (pieces_in os) (λ h. e (sym is ∙ h)) ∙ parts_other c k t (k2 + 1) g q os ps.1 e
-
-lone_cons : (b : Bool) (p : Piece) (xs : List Piece) → (b ≡ true → xs ≡ []) → Lone xs → Lone (cond b (p ∷ xs) xs)
-lone_cons true p xs none l = inr (p, ap (λ x. p ∷ x) (none refl))
-lone_cons false p xs none l = l
+parts_none c k t k2 g q (OfPiece p ∷ os) ps e =
+    let is : IsPieceFor c t k2 p = (first_piece c k t k2 p os ps).1 in
+    let g_is : p.generation ≡ t.generation = is.generation in
+    let to : p.to ≡ k2 = is.to in
+    let rest = parts_none c k t (k2 + 1) g q os ps.1 (λ same. (let l = e same in omega arith)) in
+    let test : (nat_eq p.generation g && nat_eq p.to q) ≡ false = grind (arith, nat_tests) in
+    rw test rest
 
 parts_lone : (c : CoreForm) (k : ℕ) (t : ChangeOfStrategy) (k2 g q : ℕ) (os : List Out) → Parts c k t k2 os
-    → Lone (for_place g q (pieces_in os))
-parts_lone c k t k2 g q [] ps = inl refl
+    → length (for_place g q (pieces_in os)) ≤ 1
+parts_lone c k t k2 g q [] ps = omega arith
 parts_lone c k t k2 g q (OfRows r ∷ os) ps = parts_lone c k t (k2 + 1) g q os ps.1
-parts_lone c k t k2 g q (OfPiece p ∷ os) ps = let o : Piece = ps.0.0 in let same : o ≡ p = (let x = ps.0.1 in cc) in
-    let to : p.to ≡ k2 = subst (λ (y : Piece). y.to ≡ k2) same ps.0.3.to in
-    lone_cons (nat_eq p.generation g && nat_eq p.to q) p (for_place g q (pieces_in os))
-    (λ h. let is : p.to ≡ q = eqb-true p.to q (and_right (nat_eq p.generation g) (nat_eq p.to q) h) in
-    parts_none c k t (k2 + 1) g q os ps.1 (omega arith))
-    (parts_lone c k t (k2 + 1) g q os ps.1)
-
-lone_left : (xs ys : List Piece) → ys ≡ [] → Lone xs → Lone (xs ++ ys)
-lone_left xs ys e l = subst Lone (sym (ap (λ y. xs ++ y) e ∙ append-nil xs)) l
-
-lone_right : (xs ys : List Piece) → xs ≡ [] → Lone ys → Lone (xs ++ ys)
-lone_right xs ys e l = subst Lone (sym (ap (λ x. x ++ ys) e)) l
-
-place_more : (g q : ℕ) (a b : List Out)
-    → for_place g q (pieces_in (a ++ b)) ≡ for_place g q (pieces_in a) ++ for_place g q (pieces_in b)
-place_more g q a b = ap (for_place g q) (pieces_more a b)
-    ∙ filter-append (λ p. nat_eq p.generation g && nat_eq p.to q) (pieces_in a) (pieces_in b)
-
-by_generation : (f : ℕ → Option ChangeOfStrategy) (c : CoreForm) (k g q : ℕ) (u : ChangeOfStrategy) (ds : List Due)
-    (a b : List Out)
-    → Rises u.generation ds → AreChanges f ds → AnswersOne c k (Parting u) a → Answers c k ds b
-    → Lone (for_place g q (pieces_in b))
-    → Dec (u.generation ≡ g) → Lone (for_place g q (pieces_in a) ++ for_place g q (pieces_in b))
-by_generation f c k g q u ds a b r t gives answers rest (yes is) =
-    lone_left (for_place g q (pieces_in a)) (for_place g q (pieces_in b))
-    (came_none f c k u.generation (last_part u.generation ds) g q (pieces_in b)
-    (answers_came f c k u.generation ds b r t answers) (omega arith)) (parts_lone c k u 0 g q a gives.1)
-by_generation f c k g q u ds a b r t gives answers rest (no other) =
-    lone_right (for_place g q (pieces_in a)) (for_place g q (pieces_in b))
-    (parts_other c k u 0 g q a gives.1 other) rest
+parts_lone c k t k2 g q (OfPiece p ∷ os) ps =
+    let to : p.to ≡ k2 = (first_piece c k t k2 p os ps).1.to in
+    let rest = parts_lone c k t (k2 + 1) g q os ps.1 in
+    let none : p.to ≡ q → length (for_place g q (pieces_in os)) ≡ 0 =
+    λ e. ap length (parts_none c k t (k2 + 1) g q os ps.1 (λ _. (omega arith))) in
+    grind (arith, nat_tests)
 
 pub answers_lone : (f : ℕ → Option ChangeOfStrategy) (c : CoreForm) (k lo g q : ℕ) (ds : List Due) (os : List Out)
-    → Rises lo ds
-    → AreChanges f ds → Answers c k ds os → Lone (for_place g q (pieces_in os))
-answers_lone f c k lo g q [] os r t a = inl (ap (λ x. for_place g q (pieces_in x)) a)
+    → Rises lo ds → AreChanges f ds → Answers c k ds os → length (for_place g q (pieces_in os)) ≤ 1
+answers_lone f c k lo g q [] os r t a = rw a (omega arith)
 answers_lone f c k lo g q (Slicing h s log p ∷ ds) os r t a =
-    subst Lone (sym (ap (λ x. for_place g q (pieces_in x)) a.2 ∙ place_more g q a.0 a.1))
-    (lone_right (for_place g q (pieces_in a.0)) (for_place g q (pieces_in a.1))
-    (ap (for_place g q) (ap pieces_in a.3 ∙ no_pieces_in c k h s log p (newly c log p)))
-    (answers_lone f c k lo g q ds a.1 r t a.4))
+    rw (a.2, pieces_more a.0 a.1, ap pieces_in a.3 ∙ no_pieces_in c k h s log p (newly c log p))
+    (answers_lone f c k lo g q ds a.1 r t a.4)
 answers_lone f c k lo g q (Parting u ∷ ds) os r t a =
-    subst Lone (sym (ap (λ x. for_place g q (pieces_in x)) a.2 ∙ place_more g q a.0 a.1))
-    (by_generation f c k g q u ds a.0 a.1 r.1 t.1 a.3 a.4 (answers_lone f c k u.generation g q ds a.1 r.1 t.1 a.4)
-    (ℕ_discrete u.generation g))
+    let here : List Piece = for_place g q (pieces_in a.0) in
+    let later : List Piece = for_place g q (pieces_in a.1) in
+    let both : for_place g q (pieces_in os) ≡ here ++ later =
+    rw (a.2, pieces_more a.0 a.1)
+    (filter-append (λ p. nat_eq p.generation g && nat_eq p.to q) (pieces_in a.0) (pieces_in a.1)) in
+    let long : length (for_place g q (pieces_in os)) ≡ length here + length later =
+    ap length both ∙ length-append here later in
+    let one : length here ≤ 1 = parts_lone c k u 0 g q a.0 a.3.1 in
+    let rest : length later ≤ 1 = answers_lone f c k u.generation g q ds a.1 r.1 t.1 a.4 in
+    ⊎_elim
+    (λ same. let none : length later ≡ 0 =
+    ap length (came_none f c k u.generation (last_part u.generation ds) g q (pieces_in a.1)
+    (answers_came f c k u.generation u.generation ds a.1 (omega arith) r.1 t.1 a.4) (omega arith)) in omega arith)
+    (λ other. let none : length here ≡ 0 =
+    ap length (parts_none c k u 0 g q a.0 a.3.1 (λ same. absurd (other same))) in omega arith)
+    (cases_eq u.generation g)
 answers_lone f c k lo g q (Hole u j ∷ ds) os r t a =
-    subst Lone (sym (ap (λ x. for_place g q (pieces_in x)) a.2 ∙ place_more g q a.0 a.1))
-    (lone_right (for_place g q (pieces_in a.0)) (for_place g q (pieces_in a.1))
-    (ap (λ x. for_place g q (pieces_in x)) a.3) (answers_lone f c k lo g q ds a.1 r t.1 a.4))
+    rw (a.2, pieces_more a.0 a.1, ap pieces_in a.3) (answers_lone f c k lo g q ds a.1 r t.1 a.4)

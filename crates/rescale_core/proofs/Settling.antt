@@ -1,7 +1,7 @@
 -- Which time-point settles a position, and that what is settled is final.
-use Rattle.std.proofs.Common.{◌≡◌, ◌⊎◌, ℕ, zero, suc, ◌<◌, ◌≤◌, Bool, true, false, cond, nat_eq, Some, List, [], ◌∷◌}
-use Rattle.std.proofs.Common.{◌++◌, length, slice_index, sym, refl, ap, ◌∙◌, subst, inl, inr, ⊎_elim, arith}
-use Rattle.std.proofs.Common.{length-append}
+use Rattle.std.proofs.Common.{◌≡◌, ◌⊎◌, ℕ, zero, suc, ◌<◌, ◌≤◌, Some, List, [], ◌∷◌, ◌++◌, length, slice_index, sym}
+use Rattle.std.proofs.Common.{refl, ◌∙◌, subst, ⊎_elim, arith, length-append}
+use Rattle.std.proofs.lemmas.Bool.Decides.{nat_tests}
 use Rattle.mfotl_model.specs.Log.{times}
 use Rattle.mfotl_model.specs.Strategies.{Strategy}
 use Rattle.rescale_core.proofs.LogLemmas.{settled_more, settled_within, viol_final}
@@ -51,15 +51,10 @@ time_stays (Change x ∷ es) a i h = time_stays es (moved a (Change x)) i h
 abbrev IsSlice : Spot → List Entry → ℕ → ℕ → Strategy → List TimePoint → TimePoint → Type 0
 IsSlice a es n g s log p = slice_at a es n ≡ Some (Slicing g s log p)
 
-head_or_tail : (a : Spot) (q : TimePoint) (es : List Entry) (n : ℕ) (d : Due) → slice_at a (Point q ∷ es) n ≡ Some d
+-- a slice is of the first time-point or of a later one
+pub head_or_tail : (a : Spot) (q : TimePoint) (es : List Entry) (n : ℕ) (d : Due) → slice_at a (Point q ∷ es) n ≡ Some d
     → (d ≡ Slicing a.generation a.strategy a.points q) ⊎ (slice_at (moved a (Point q)) es n ≡ Some d)
-head_or_tail a q es n d e = by_test (nat_eq n (length a.points)) e
-  where
-    by_test : (b : Bool)
-        → cond b (Some (Slicing a.generation a.strategy a.points q)) (slice_at (moved a (Point q)) es n) ≡ Some d
-        → (d ≡ Slicing a.generation a.strategy a.points q) ⊎ (slice_at (moved a (Point q)) es n ≡ Some d)
-    by_test true e = inl cc
-    by_test false e = inr e
+head_or_tail a q es n d e = grind (arith, nat_tests)
 
 -- a later slice begins no lower
 pub slice_above : (c : CoreForm) (es : List Entry) (a : Spot) (n g : ℕ) (s : Strategy) (log : List TimePoint)
@@ -83,16 +78,12 @@ one_slice_settles c (Change z ∷ es) a i n m g h s t log log2 p q sound e f x y
     one_slice_settles c es (moved a (Change z)) i n m g h s t log log2 p q sound.1 e f x y u v
 one_slice_settles c (Point z ∷ es) a i n m g h s t log log2 p q sound e f x y u v = ⊎_elim
     (λ e1. ⊎_elim (λ f1. e1 ∙ sym f1)
-    (λ f2. let l : log ++ p ∷ [] ≡ a.points ++ z ∷ [] =
-    (let lp : log ≡ a.points = cc in let pz : p ≡ z = cc in
-    ap (λ k. k ++ p ∷ []) lp ∙ ap (λ k. a.points ++ k ∷ []) pz) in
+    (λ f2. let l : log ++ p ∷ [] ≡ a.points ++ z ∷ [] = cc in
     let low = slice_above c es (moved a (Point z)) m h t log2 q sound.1 f2 in
     let high : i < settled_in c (a.points ++ z ∷ []) = subst (λ k. i < settled_in c k) l y in absurd (omega arith))
     (head_or_tail a z es m (Slicing h t log2 q) f))
     (λ e2. ⊎_elim
-    (λ f1. let l : log2 ++ q ∷ [] ≡ a.points ++ z ∷ [] =
-    (let lp : log2 ≡ a.points = cc in let pz : q ≡ z = cc in
-    ap (λ k. k ++ q ∷ []) lp ∙ ap (λ k. a.points ++ k ∷ []) pz) in
+    (λ f1. let l : log2 ++ q ∷ [] ≡ a.points ++ z ∷ [] = cc in
     let low = slice_above c es (moved a (Point z)) n g s log p sound.1 e2 in
     let high : i < settled_in c (a.points ++ z ∷ []) = subst (λ k. i < settled_in c k) l v in absurd (omega arith))
     (λ f2. one_slice_settles c es (moved a (Point z)) i n m g h s t log log2 p q sound.1 e2 f2 x y u v)
@@ -109,15 +100,11 @@ slice_final c fits [] a i n g s log p sound e h = cc
 slice_final c fits (Change x ∷ es) a i n g s log p sound e h =
     slice_final c fits es (moved a (Change x)) i n g s log p sound.1 e h
 slice_final c fits (Point q ∷ es) a i n g s log p sound e h = ⊎_elim
-    (λ e1. let l : log ++ p ∷ [] ≡ a.points ++ q ∷ [] =
-    (let lp : log ≡ a.points = cc in let pq : p ≡ q = cc in
-    ap (λ k. k ++ p ∷ []) lp ∙ ap (λ k. a.points ++ k ∷ []) pq) in
+    (λ e1. let l : log ++ p ∷ [] ≡ a.points ++ q ∷ [] = cc in
     let high : i < settled_in c (a.points ++ q ∷ []) = subst (λ k. i < settled_in c k) l h in
     let w = settled_within c (a.points ++ q ∷ []) in (
-      ap (λ k. violations_at c k i) l
-          ∙ viol_stays c fits es (moved a (Point q)) i sound.1 high,
-      ap (λ k. slice_index (times k) i) l
-          ∙ sym (time_stays es (moved a (Point q)) i (omega arith)),
+      rw l (viol_stays c fits es (moved a (Point q)) i sound.1 high),
+      rw l (sym (time_stays es (moved a (Point q)) i (omega arith))),
     ))
     (λ e2. slice_final c fits es (moved a (Point q)) i n g s log p sound.1 e2 h)
     (head_or_tail a q es n (Slicing g s log p) e)
@@ -126,16 +113,7 @@ pub slice_more : (es more : List Entry) (a : Spot) (n : ℕ) (d : Due) → slice
     → slice_at a (es ++ more) n ≡ Some d
 slice_more [] more a n d e = cc
 slice_more (Change x ∷ es) more a n d e = slice_more es more (moved a (Change x)) n d e
-slice_more (Point q ∷ es) more a n d e =
-    by_test (nat_eq n (length a.points)) e (slice_more es more (moved a (Point q)) n d)
-  where
-    by_test : (b : Bool)
-        → cond b (Some (Slicing a.generation a.strategy a.points q)) (slice_at (moved a (Point q)) es n) ≡ Some d
-        → (slice_at (moved a (Point q)) es n ≡ Some d → slice_at (moved a (Point q)) (es ++ more) n ≡ Some d)
-        → cond b (Some (Slicing a.generation a.strategy a.points q))
-        (slice_at (moved a (Point q)) (es ++ more) n) ≡ Some d
-    by_test true e next = e
-    by_test false e next = next e
+slice_more (Point q ∷ es) more a n d e = grind (arith, nat_tests, slice_more es more (moved a (Point q)) n d)
 
 -- what a slice settles is settled by all that was read
 pub slice_below : (c : CoreForm) (es : List Entry) (a : Spot) (n g : ℕ) (s : Strategy) (log : List TimePoint)
@@ -144,10 +122,7 @@ pub slice_below : (c : CoreForm) (es : List Entry) (a : Spot) (n g : ℕ) (s : S
 slice_below c [] a n g s log p sound e = cc
 slice_below c (Change x ∷ es) a n g s log p sound e = slice_below c es (moved a (Change x)) n g s log p sound.1 e
 slice_below c (Point q ∷ es) a n g s log p sound e = ⊎_elim
-    (λ e1. let l : log ++ p ∷ [] ≡ a.points ++ q ∷ [] =
-    (let lp : log ≡ a.points = cc in let pq : p ≡ q = cc in
-    ap (λ k. k ++ p ∷ []) lp ∙ ap (λ k. a.points ++ k ∷ []) pq) in
-    subst (λ k. settled_in c k ≤ settled_in c (spot_after (moved a (Point q)) es).points) (sym l)
-    (level_rises c es (moved a (Point q)) sound.1))
+    (λ e1. let l : log ++ p ∷ [] ≡ a.points ++ q ∷ [] = cc in
+    rw l (level_rises c es (moved a (Point q)) sound.1))
     (λ e2. slice_below c es (moved a (Point q)) n g s log p sound.1 e2)
     (head_or_tail a q es n (Slicing g s log p) e)

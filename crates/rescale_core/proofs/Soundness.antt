@@ -1,10 +1,8 @@
 -- What holds in each world that steps reach.
-use Rattle.std.proofs.Common.{◌≡◌, ℕ, Bool, true, false, cond, nat_lt}
-use Rattle.std.proofs.Common.{List, [], ◌∷◌, length}
+use Rattle.std.proofs.Common.{◌≡◌, ℕ, Bool, true, false, cond, nat_lt, List, [], ◌∷◌, ◌++◌, length, refl}
 use Rattle.mfotl_model.specs.Strategies.{workers_of}
 use Rattle.rescale_core.proofs.Chains.{chained}
-use Rattle.rescale_core.proofs.Fitting.{froms_before}
-use Rattle.rescale_core.proofs.Fitting.{fits_of}
+use Rattle.rescale_core.proofs.Fitting.{froms_before, fits_of}
 use Rattle.rescale_core.proofs.Leading.{first_agrees}
 use Rattle.rescale_core.proofs.WorldLemmas.{line_changes}
 use Rattle.rescale_core.specs.Lines.{ChangeOfStrategy, first_spot}
@@ -12,46 +10,20 @@ use Rattle.rescale_core.specs.Seeds.{SeedOf}
 use Rattle.rescale_core.specs.Soundly.{change_of, IsSound}
 use Rattle.rescale_core.specs.Working.{Has, first_phase}
 use Rattle.rescale_core.specs.Handing.{for_place}
-use Rattle.rescale_core.specs.Worlds.{World, Step, line_in}
-use Rattle.rescale_core.specs.Worlds.{world_after, Allowed}
-use Rattle.rescale_core.specs.Worlds.{run_steps, AreAllowed}
+use Rattle.rescale_core.specs.Worlds.{World, Step, line_in, world_after, Allowed, run_steps, AreAllowed}
 use Rattle.rescale_core.specs.Worlds.Step.{Read, Feed, Take, Collect, Emit}
 use Rattle.rescale_core.specs.Phases.PhaseOf.{Active, Vacant, Waiting}
-use Rattle.rescale_core.proofs.SeatLemmas.{read_sound, feed_sound, take_sound}
+use Rattle.rescale_core.proofs.SeatLemmas.{read_sound, feed_sound, sound_moved, take_sound}
 use Rattle.rescale_core.proofs.Collecting.{collect_sound}
 
 -- ---- all steps
-
-emit_sound : (w : World) (v : _) → IsSound w → IsSound (world_after w (Emit v))
-emit_sound w v r =
-    record {
-      first = r.first;
-      read = r.read;
-      seated = λ q. (let s = r.seated q in
-          record {
-            supplied = s.supplied;
-            taken = s.taken;
-            collected = s.collected;
-            answers = s.answers;
-            back = s.back;
-            more = s.more;
-            rows = s.rows;
-            pieces = s.pieces;
-          });
-      known = r.known;
-      distinct = r.distinct;
-      past = r.past;
-      rows_known = r.rows_known;
-      rows_apart = r.rows_apart;
-      rows_past = r.rows_past;
-    }
 
 pub step_sound : (w : World) (s : Step) → IsSound w → Allowed w s → IsSound (world_after w s)
 step_sound w (Read e) r a = read_sound w e r a
 step_sound w (Feed k i) r a = feed_sound w k i r a.0 a.1
 step_sound w (Take k gave) r a = take_sound w k gave r a.0 a.1
 step_sound w (Collect k) r a = collect_sound w k r
-step_sound w (Emit v) r a = emit_sound w v r
+step_sound w (Emit v) r a = sound_moved w w.seats (w.emitted ++ v ∷ []) r (λ q. refl) r.seated
 
 pub run_sound : (w : World) (ss : List Step) → IsSound w → AreAllowed w ss → IsSound (run_steps w ss)
 run_sound w [] r a = r

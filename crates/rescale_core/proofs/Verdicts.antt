@@ -1,16 +1,14 @@
 -- What was emitted are the first verdicts on all that was read.
-use Rattle.std.proofs.Common.{◌≡◌, ℕ, zero, suc, ◌+◌, ◌<◌, ◌≤◌, List, [], ◌∷◌, ◌++◌, length, map, slice_index, sym}
-use Rattle.std.proofs.Common.{refl, ap, ◌∙◌, subst, arith, length-append}
+use Rattle.std.proofs.Common.{◌≡◌, ℕ, zero, suc, ◌+◌, ◌<◌, ◌≤◌, List, [], ◌∷◌, ◌++◌, length, map, sym, refl, ap, ◌∙◌}
+use Rattle.std.proofs.Common.{arith, length-append}
 use Rattle.std.specs.List.{range_with_len}
 use Rattle.std.proofs.lemmas.List.FromFn.{map-range_with_len_more}
-use Rattle.mfotl_model.specs.Log.{times}
 use Rattle.rescale_core.proofs.LogLemmas.{settled_within}
 use Rattle.rescale_core.proofs.Settling.{level_rises, viol_stays, time_stays, slice_below}
 use Rattle.rescale_core.proofs.Soundness.{step_sound}
 use Rattle.rescale_core.proofs.WorldLemmas.{spot_more}
-use Rattle.rescale_core.specs.Lines.{Spot, first_spot, moved}
+use Rattle.rescale_core.specs.Lines.{first_spot, moved}
 use Rattle.rescale_core.specs.Soundly.{IsSound}
-use Rattle.mfotl_model.specs.declared.value.Value.{Value}
 use Rattle.mfotl_model.specs.Strategies.{Strategy}
 use Rattle.monitorable.specs.CoreForms.{CoreForm}
 use Rattle.rescale_core.specs.Laws.{EmitsVerdicts}
@@ -18,7 +16,6 @@ use Rattle.rescale_core.specs.Workers.{violations_at, settled_in}
 use Rattle.rescale_core.specs.Worlds.{World, first_world, Step, spot_in, verdict_on, Allowed, AreAllowed, world_after}
 use Rattle.rescale_core.specs.Worlds.{run_steps}
 use Rattle.rescale_core.specs.declared.item.Entry.{Entry}
-use Rattle.verdict_merge.specs.declared.rows.Verdict.{Verdict}
 use Rattle.rescale_core.specs.Worlds.Step.{Read, Feed, Take, Collect, Emit}
 
 map_same : {A : Type 0} (f g : ℕ → A) (j n : ℕ) → ((i : ℕ) → i < j + n → f i ≡ g i)
@@ -38,12 +35,7 @@ verdict_stays w e i r may h =
     viol_stays w.core r.first.evaluable.fits (e ∷ []) (spot_in w) i (may, tt) h in
     let n = settled_within w.core (spot_in w).points in
     let t = time_stays (e ∷ []) (spot_in w) i (omega arith) in
-    ap (λ x. record { point = i; ts = x; rows = violations_at w.core (spot_in w).points i }) (sym t)
-    ∙ ap (λ x. verdict_of i (moved (spot_in w) e) x) v
-    ∙ ap (λ (a : Spot). verdict_on w.core a.points i) (sym more)
-  where
-    verdict_of : ℕ → Spot → List (List Value) → Verdict
-    verdict_of i a rows = record { point = i; ts = slice_index (times a.points) i; rows = rows }
+    rw (more, ← v, t)
 
 read_verdicts : (w : World) (e : Entry) → IsSound w → Allowed w (Read e) → EmitsVerdicts w
     → EmitsVerdicts (world_after w (Read e))
@@ -55,7 +47,7 @@ read_verdicts w e r may v = let more : spot_in (world_after w (Read e)) ≡ move
       settled = let s = v.settled in
           let up : settled_in w.core (spot_in w).points ≤ settled_in w.core (moved (spot_in w) e).points =
           level_rises w.core (e ∷ []) (spot_in w) (may, tt) in
-          subst (λ (a : Spot). length w.emitted ≤ settled_in w.core a.points) (sym more) (omega arith);
+          rw more (omega arith);
     }
 
 pub step_verdicts : (w : World) (s : Step) → IsSound w → Allowed w s → EmitsVerdicts w → EmitsVerdicts (world_after w s)

@@ -1,6 +1,6 @@
-use Rattle.std.proofs.Common.{◌<◌, refl, sym, ap, length, arith, ◌∙◌}
-use Rattle.rescale_core.proofs.MachineLemmas.{cell_has_taken, machine_collects, machine_uncollected, no_collect}
-use Rattle.rescale_core.proofs.CellLemmas.{nth_here}
+use Rattle.std.proofs.Common.{refl, sym, ap, arith, ◌∙◌}
+use Rattle.rescale_core.proofs.MachineLemmas.{cell_at, cell_has_taken, machine_collects, machine_uncollected}
+use Rattle.rescale_core.proofs.MachineLemmas.{no_collect}
 use Rattle.rescale_core.proofs.machine.Machine.collect.Goals as goal
 
 pub returns-then-worker-len : goal.returns-then-worker-len
@@ -9,33 +9,26 @@ returns-then-worker-len c = λ entries w is.
 
 pub returns-then-taken-eq0 : goal.returns-then-taken-eq0
 returns-then-taken-eq0 c =
-    let m = c.args.self.now in
-    let near : c.args.worker < length m.cells.items = omega (arith, c.len.ensures) in
     let none = sym c.replace-taken.ensures.value ∙ c.if-taken-eq0.true in
-    machine_uncollected m _ c.args.worker c.index_mut-cell.result.now _
-    (nth_here m.cells.items c.args.worker c.index_mut-cell.result.now near c.index_mut-cell.ensures.value)
-    refl refl refl refl none refl refl (c.replace-taken.ensures.after ∙ sym none) refl
+    machine_uncollected c.args.self.now _ c.args.worker c.index_mut-cell.result.now _ (omega (arith, c.len.ensures))
+    c.index_mut-cell.ensures.value refl refl refl refl none refl refl (c.replace-taken.ensures.after ∙ sym none) refl
 
 pub collect-requires-clause-taken : goal.collect-requires-clause-taken
 collect-requires-clause-taken c =
-    let m = c.args.self.now in
-    let near : c.args.worker < length m.cells.items = omega (arith, c.len.ensures) in
     let is = c.requires.2 in (
       c.requires.1,
       is.router,
       cell_has_taken c.requires.1 c.args.worker c.index_mut-cell.result.now c.replace-taken.result
           c.replace-outs.result.items
-          (is.cells c.args.worker c.index_mut-cell.result.now
-          (nth_here m.cells.items c.args.worker c.index_mut-cell.result.now near c.index_mut-cell.ensures.value))
+          (cell_at is c.args.worker c.index_mut-cell.result.now (omega (arith, c.len.ensures))
+          c.index_mut-cell.ensures.value)
           c.replace-taken.ensures.value (ap (λ v. v.items) c.replace-outs.ensures.value),
     )
 
 pub returns : goal.returns
 returns c =
-    let m = c.args.self.now in
-    let near : c.args.worker < length m.cells.items = omega (arith, c.len.ensures) in
-    machine_collects m _ c.args.worker c.index_mut-cell.result.now _ c.replace-taken.result c.replace-outs.result.items
-    (nth_here m.cells.items c.args.worker c.index_mut-cell.result.now near c.index_mut-cell.ensures.value)
-    refl refl refl c.if-taken-eq0.false c.replace-taken.ensures.value (ap (λ v. v.items) c.replace-outs.ensures.value)
+    machine_collects c.args.self.now _ c.args.worker c.index_mut-cell.result.now _ c.replace-taken.result
+    c.replace-outs.result.items (omega (arith, c.len.ensures)) c.index_mut-cell.ensures.value refl refl refl
+    c.if-taken-eq0.false c.replace-taken.ensures.value (ap (λ v. v.items) c.replace-outs.ensures.value)
     refl refl c.replace-taken.ensures.after (ap (λ v. v.items) c.replace-outs.ensures.after ∙ c.new.ensures.items)
     c.in_ok-collect.ensures
