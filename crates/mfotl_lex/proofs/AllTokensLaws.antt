@@ -1,5 +1,5 @@
 -- The reader that takes every token owes what the layer of first faults asks.
-use Rattle.std.proofs.Common.{◌≡◌, List, [], ◌∷◌, ◌++◌, Ok, Err, refl}
+use Rattle.std.proofs.Common.{◌≡◌, List, [], ◌∷◌, ◌++◌, Ok, Err, refl, arith}
 use Rattle.std.proofs.lemmas.List.{append-nil, append_assoc}
 use Rattle.std.specs.Prelude.{◌↔◌}
 use Rattle.mfotl_lex.specs.declared.fault.LexFault.{LexFault}
@@ -16,16 +16,11 @@ all_read (t ∷ ts) front = rw append_assoc at (all_read ts (front ++ t ∷ []))
 
 tail_shows : (tail : Tail LexFault) (ts : List Lexeme) (fault : LexFault)
     → (all_taken tail ts ≡ Err fault) ↔ (tail ≡ Broken fault)
-tail_shows (Broken other) ts fault =
-    (λ e. let same : other ≡ fault = cc e in rw same, λ e. let same : other ≡ fault = cc e in rw same)
+tail_shows (Broken other) ts fault = grind arith
 tail_shows other ts fault = (λ e. absurd cc, λ e. absurd cc)
 
 follows : FollowsGrammar take_token [] all_taken IsViable IsCause IsLast
-follows = record {
-  viable = λ ts s e. tt;
-  token = λ front s t fault e. (λ f. absurd cc, λ none. absurd none);
-  tail = λ ts s tail fault e. tail_shows tail s fault;
-}
+follows = grind (arith, tail_shows)
 
 taken : (tail : Tail LexFault) (ts vs : List Lexeme) → all_taken tail ts ≡ Ok vs
     → ((fault : LexFault) → tail ≡ Broken fault → ⊥) × (vs ≡ ts)
@@ -34,8 +29,7 @@ taken other ts vs e = (λ fault f. absurd cc, cc)
 
 read : (x : Text Lexeme LexFault) (vs : List Lexeme) → reading take_token [] all_taken x ≡ Ok vs → IsValue x vs
 unfolding reading
-read x vs e =
-    let all = taken x.tail x.list vs (rw (all_read x.list []) at e) in record { whole = all.0; value = all.1 }
+read x vs e = grind (arith, taken, all_read)
 
 whole_taken : (tail : Tail LexFault) (ts : List Lexeme) → ((fault : LexFault) → tail ≡ Broken fault → ⊥)
     → all_taken tail ts ≡ Ok ts

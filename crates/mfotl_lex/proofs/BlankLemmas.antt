@@ -30,13 +30,7 @@ blank_len-none ended b bytes h k = cond-false (is_space b) _ _ h ∙ cond-false 
 first_byte : (b : ℕ) → ((ended : Bool) (bytes : List ℕ) → blank_len ended (b ∷ bytes) ≡ suc (blank_len ended bytes))
     ⊎ (((ended : Bool) (bytes : List ℕ) → blank_len ended (b ∷ bytes) ≡ comment_len ended 1 bytes)
     ⊎ ((ended : Bool) (bytes : List ℕ) → blank_len ended (b ∷ bytes) ≡ 0))
-first_byte b = elim (cases_Bool (is_space b)) [
-  | inl h ↦ inl (λ ended bytes. blank_space ended b bytes h)
-  | inr h ↦ elim (cases_Bool (b == hash)) [
-    | inl k ↦ inr (inl (λ ended bytes. blank_hash ended b bytes h k))
-    | inr k ↦ inr (inr (λ ended bytes. blank_len-none ended b bytes h k))
-  ]
-]
+first_byte b = grind (arith, cases_Bool (is_space b), blank_space, cases_Bool (b == hash), blank_hash, blank_len-none)
 
 -- the end of a comment, or a byte of it
 comment_byte : (b : ℕ) → ((ended : Bool) (count : ℕ) (bytes : List ℕ)
@@ -44,10 +38,7 @@ comment_byte : (b : ℕ) → ((ended : Bool) (count : ℕ) (bytes : List ℕ)
     ⊎ ((ended : Bool) (count : ℕ) (bytes : List ℕ)
     → comment_len ended count (b ∷ bytes) ≡ comment_len ended (suc count) bytes)
 unfolding blank_len
-comment_byte b = elim (cases_Bool (b == line_feed)) [
-  | inl h ↦ inl (λ ended count bytes. cond-true (b == line_feed) _ _ h)
-  | inr h ↦ inr (λ ended count bytes. cond-false (b == line_feed) _ _ h)
-]
+comment_byte b = grind (arith, cases_Bool (b == line_feed), cond-true, cond-false)
 
 comment_end : (count : ℕ) → comment_len false count [] ≡ 0
 unfolding blank_len
@@ -142,12 +133,7 @@ none_or_all (b ∷ bytes) none = elim (first_byte b) [
 -- where blanks end before the bytes do, the end changes nothing
 blanks_before_end : (bytes : List ℕ) → blank_len true bytes < length bytes
     → blank_len false bytes ≡ blank_len true bytes
-blanks_before_end bytes lt =
-    let n = blank_len false bytes in
-    elim (none_or_all (drop n bytes) (none_shown bytes)) [
-      | inl z ↦ omega (arith, told_more true bytes, z)
-      | inr all ↦ absurd (omega (arith, told_more true bytes, all, length-drop n bytes))
-    ]
+blanks_before_end bytes lt = grind (arith, none_or_all, none_shown, told_more, length-drop)
 
 -- ---- nothing but the blanks that are counted
 
@@ -172,16 +158,7 @@ no_blanks (b ∷ bytes) more none all = elim (first_byte b) [
 -- a front as long as the blanks is blanks
 all_blanks : (front more : List ℕ) → blank_len false (front ++ more) ≡ length front
     → blank_len false front ≡ length front
-all_blanks front more all =
-    let n = blank_len false front in
-    let left : length (drop n front) ≡ 0 = no_blanks (drop n front) more (none_shown front) (omega (
-      arith,
-      all,
-      blank_len-append false front more,
-      length-drop n front,
-      blanks_within false front,
-    )) in
-    omega (arith, left, length-drop n front, blanks_within false front)
+all_blanks front more all = grind (arith, no_blanks, none_shown, blank_len-append, length-drop, blanks_within)
 
 -- the blanks alone are counted whole
 pub blank_len-take : (bytes : List ℕ)
@@ -198,14 +175,7 @@ pub blank_len-drop : (ended : Bool) (bytes : List ℕ)
     → blank_len ended (drop (blank_len ended bytes) bytes) ≡ 0
 blank_len-drop false bytes = none_shown bytes
 blank_len-drop true bytes =
-    elim (cases_lt (blank_len true bytes) (length bytes)) [
-      | inl lt ↦
-          let e = blanks_before_end bytes lt in
-          rw (← e) (omega (arith, told_more true bytes, e))
-      | inr le ↦
-          let n = blank_len true bytes in
-          rw (nil_from_length (drop n bytes) (omega (arith, length-drop n bytes))) (blank_nil true)
-    ]
+    grind (arith, cases_lt, blanks_before_end, told_more, nil_from_length, length-drop, blank_nil)
 
 -- the blanks before a byte are whole
 pub blanks_are_whole : (ended : Bool) (bytes : List ℕ) → blank_len ended bytes < length bytes
@@ -215,27 +185,15 @@ blanks_are_whole true bytes lt = rw (← blanks_before_end bytes lt) (blank_len-
 
 pub no_space : (ended : Bool) (b : ℕ) (bytes : List ℕ) → blank_len ended (b ∷ bytes) ≡ 0
     → is_space b ≡ false
-no_space ended b bytes none =
-    elim (cases_Bool (is_space b)) [
-      | inl h ↦ absurd (omega (arith, sym (blank_space ended b bytes h) ∙ none))
-      | inr h ↦ h
-    ]
+no_space ended b bytes none = grind (arith, blank_space, cases_Bool)
 
 comment_counts : (count : ℕ) (bytes : List ℕ) → count ≤ comment_len true count bytes
 comment_counts count [] = rw comment_end_told (omega arith)
-comment_counts count (b ∷ bytes) = elim (comment_byte b) [
-  | inl f ↦ rw f (omega arith)
-  | inr f ↦ rw f (omega (arith, comment_counts (suc count) bytes))
-]
+comment_counts count (b ∷ bytes) = grind (arith, comment_byte b, comment_counts (suc count) bytes)
 
 -- at the end every comment is a blank
 pub no_hash : (b : ℕ) (bytes : List ℕ) → blank_len true (b ∷ bytes) ≡ 0 → (b == hash) ≡ false
-no_hash b bytes none =
-    let h = no_space true b bytes none in
-    elim (cases_Bool (b == hash)) [
-      | inl k ↦ absurd (omega (arith, comment_counts 1 bytes, sym (blank_hash true b bytes h k) ∙ none))
-      | inr k ↦ k
-    ]
+no_hash b bytes none = grind (arith, no_space, cases_Bool, comment_counts, blank_hash)
 
 -- ---- a comment that stays open
 
@@ -262,8 +220,4 @@ pub blanks_of_open : (ended : Bool) (comment more : List ℕ) → blank_len fals
     → ((blank_len ended (hash ∷ more) ≡ 0) × (blank_len ended (hash ∷ (comment ++ more)) ≡ 0))
     ⊎ ((0 < blank_len ended (hash ∷ more)) ×
     (blank_len ended (hash ∷ (comment ++ more)) ≡ length comment + blank_len ended (hash ∷ more)))
-blanks_of_open ended comment more none =
-    let at_hash = λ (b : Bool) (bytes : List ℕ). blank_hash b hash bytes refl refl in
-    let whole = comment_goes_on ended 1 comment more (sym (at_hash false comment) ∙ none) in
-    rw (at_hash ended more, at_hash ended (comment ++ more), whole)
-    (comment_longer ended (length comment) 1 more (omega arith))
+blanks_of_open ended comment more none = grind (arith, blank_hash, comment_goes_on, comment_longer)

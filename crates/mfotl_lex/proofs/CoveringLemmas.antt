@@ -1,25 +1,19 @@
 -- The tokens and what lies between them are the bytes.
 use Rattle.std.proofs.Common.{◌≡◌, ℕ, zero, suc, ◌+◌, ◌<◌, Bool, true, false, List, [], ◌∷◌, ◌++◌, length, take, drop}
-use Rattle.std.proofs.Common.{Option, Some, None, Result, Ok, Err, refl, sym, ap, ◌∙◌, inl, inr, arith}
+use Rattle.std.proofs.Common.{Option, Some, None, Result, Ok, Err, refl, sym, ap, ◌∙◌, arith}
 use Rattle.std.specs.Prelude.{◌↔◌}
-use Rattle.std.proofs.lemmas.Bool.{cases_lt}
+use Rattle.std.proofs.{lemmas.Bool.cases_lt, Math.Seq.take-length, lemmas.Grind.common_steps}
 use Rattle.std.proofs.lemmas.List.{take-append-drop, length-drop, length-take-le, nil_from_length}
-use Rattle.std.proofs.Math.Seq.{take-length}
-use Rattle.mfotl_lex.specs.declared.fault.LexFault.{LexFault}
-use Rattle.mfotl_lex.specs.declared.kind.Mode.{Mode}
-use Rattle.mfotl_lex.specs.declared.kind.Mode.TheVariants.{Plain, Log}
-use Rattle.mfotl_lex.specs.declared.token.Token.{Token}
-use Rattle.mfotl_lex.specs.declared.scan.Scan.{Scan}
-use Rattle.mfotl_lex.specs.declared.scan.Scan.TheVariants.{Unshown, Takes}
-use Rattle.mfotl_lex.specs.Blanks.{blank_len}
+use Rattle.mfotl_lex.specs.declared.{fault.LexFault.LexFault, kind.Mode.Mode, kind.Mode.TheVariants.Plain}
+use Rattle.mfotl_lex.specs.declared.{kind.Mode.TheVariants.Log, token.Token.Token, scan.Scan.Scan}
+use Rattle.mfotl_lex.specs.declared.{scan.Scan.TheVariants.Unshown, scan.Scan.TheVariants.Takes}
+use Rattle.mfotl_lex.specs.{Blanks.blank_len, Places.Place}
 use Rattle.mfotl_lex.specs.Scans.{plain_scan, log_scan, scan, IsWithin}
-use Rattle.mfotl_lex.specs.Places.{Place}
 use Rattle.mfotl_lex.specs.Lexemes.{seen, Lexeme, past_blanks, token_at, place_after, next_token, after}
 use Rattle.mfotl_lex.specs.Covering.{AreBlanks, AreTheBytes, TokensAreTheBytes}
-use Rattle.mfotl_lex.proofs.BlankLoop.{blanks_within}
+use Rattle.mfotl_lex.proofs.{BlankLoop.blanks_within, Growth.shown_at_end}
 use Rattle.mfotl_lex.proofs.BlankLemmas.{told_more, blank_len-drop, blank_len-take, blanks_are_whole, blank_nil}
 use Rattle.mfotl_lex.proofs.BlankLemmas.{no_hash}
-use Rattle.mfotl_lex.proofs.Growth.{shown_at_end}
 use Rattle.mfotl_lex.proofs.Sequence.{scan_at, at_within, next_is, after_shorter, after_ended, tokens_token}
 use Rattle.mfotl_lex.proofs.Sequence.{tokens_none, tokens_fault, unshown, stopped_at_token, stopped_at_none}
 use Rattle.mfotl_lex.proofs.Sequence.{stopped_at_fault}
@@ -33,23 +27,12 @@ len_front ended bytes = length-take-le (blank_len ended bytes) bytes (blanks_wit
 -- blanks whose end isn't needed are blanks at the end too
 blanks_at_end : (blanks : List ℕ) → blank_len false blanks ≡ length blanks
     → blank_len true blanks ≡ length blanks
-blanks_at_end blanks e =
-    let none : drop (blank_len false blanks) blanks ≡ [] =
-    nil_from_length _ (omega (arith, e, length-drop (blank_len false blanks) blanks)) in
-    let nothing : blank_len true (drop (blank_len false blanks) blanks) ≡ 0 = rw none (blank_nil true) in
-    omega (arith, told_more true blanks, nothing, e)
+blanks_at_end blanks e = grind (arith, common_steps, nil_from_length, length-drop, blank_nil, told_more)
 
 front_is_blank : (ended : Bool) (bytes : List ℕ) → AreBlanks ended (take (blank_len ended bytes) bytes)
 front_is_blank false bytes = blank_len-take bytes ∙ sym (len_front false bytes)
 front_is_blank true bytes =
-    elim (cases_lt (blank_len true bytes) (length bytes)) [
-      | inl lt ↦ blanks_at_end (take (blank_len true bytes) bytes)
-          (blanks_are_whole true bytes lt ∙ sym (len_front true bytes))
-      | inr le ↦
-          let all : blank_len true bytes ≡ length bytes = omega (arith, blanks_within true bytes) in
-          let e : take (blank_len true bytes) bytes ≡ bytes = rw all (take-length bytes) in
-          rw e all
-    ]
+    grind (arith, common_steps, cases_lt, blanks_at_end, blanks_are_whole, len_front, blanks_within, take-length)
 
 -- ---- one token
 
@@ -58,11 +41,7 @@ found_at : (p : Place) (s : Scan) (t : Lexeme) → IsWithin (past_blanks p).rest
     → token_at (past_blanks p) s ≡ Ok (Some t)
     → (t.text ++ (place_after p (past_blanks p) s).rest ≡ (past_blanks p).rest) × (t.at ≡ (past_blanks p).at)
     × ((place_after p (past_blanks p) s).at ≡ t.at + length t.text) × (0 < length (past_blanks p).rest)
-found_at p (Takes kind n) t w e =
-    let q = past_blanks p in
-    let made : Lexeme = record { kind = kind; at = q.at; text = take n q.rest } in
-    let is : made ≡ t = cc in
-    rw (← is) (take-append-drop n q.rest, refl, rw (length-take-le n q.rest w.1), omega (arith, w.0, w.1))
+found_at p (Takes kind n) t w e = grind (arith, take-append-drop, length-take-le)
 found_at p other t w e = absurd cc
 
 -- ---- at the end
@@ -74,9 +53,7 @@ nothing_left mode (b ∷ bytes) none e = absurd (rw e at (shown_at_end mode b by
 
 -- at the end no token and no fault leaves no byte
 left_at_end : (p : Place) → p.ended ≡ true → next_token p ≡ Ok None → (past_blanks p).rest ≡ []
-left_at_end p told e =
-    rw told (nothing_left p.mode (drop (blank_len true p.rest) p.rest) (blank_len-drop true p.rest)
-    (rw told at (unshown (past_blanks p) (scan_at p) (sym (next_is p) ∙ e))))
+left_at_end p told e = grind (arith, nothing_left, blank_len-drop, unshown, scan_at, next_is)
 
 -- ---- all tokens
 
@@ -100,17 +77,8 @@ covers_step p (Ok (Some t)) e behind =
           rw (stopped_at_token p t e) (b.whole (after_ended p ∙ told) (rw (tokens_token p t e) at none));
     }
 covers_step p (Ok None) e behind =
-    let n = blank_len p.ended p.rest in
-    record {
-      spread = rw (tokens_none p e, stopped_at_none p e)
-          (take n p.rest, front_is_blank p.ended p.rest, sym (take-append-drop n p.rest));
-      whole = λ told none. rw (stopped_at_none p e) (left_at_end p told e);
-    }
-covers_step p (Err f) e behind =
-    record {
-      spread = rw (tokens_fault p f e, stopped_at_fault p f e) ([], blank_nil p.ended, refl);
-      whole = λ told none. let is = rw (tokens_fault p f e) at none in absurd cc;
-    }
+    grind (arith, tokens_none p e, stopped_at_none p e, front_is_blank p.ended p.rest, take-append-drop, left_at_end)
+covers_step p (Err f) e behind = grind (arith, tokens_fault, stopped_at_fault, blank_nil)
 
 covers : (n : ℕ) (p : Place) → length p.rest < n → AreTheBytes p
 covers zero p lt = absurd (omega arith)
@@ -135,10 +103,7 @@ scan_nil Plain ended = refl
 scan_nil Log ended = refl
 
 only_blanks : (p : Place) → p.ended ≡ true → AreBlanks true p.rest → next_token p ≡ Ok None
-only_blanks p told all =
-    let none : (past_blanks p).rest ≡ [] =
-    nil_from_length _ (omega (arith, rw (← told) at all, length-drop (blank_len p.ended p.rest) p.rest)) in
-    rw (next_is p, none, scan_nil p.mode p.ended)
+only_blanks p told all = grind (arith, common_steps, nil_from_length, length-drop, next_is, scan_nil)
 
 seen_none : (r : Result (Option Token) LexFault) → seen r ≡ Ok None → r ≡ Ok None
 seen_none (Ok None) e = refl
@@ -147,5 +112,4 @@ seen_none other e = absurd cc
 -- a call answers that nothing is left exactly where only blanks are
 pub none_at_end : (p : Place) (r : Result (Option Token) LexFault) → seen r ≡ next_token p
     → p.ended ≡ true → (r ≡ Ok None) ↔ AreBlanks true p.rest
-none_at_end p r found told =
-    (λ e. blanks_left p told (sym found ∙ ap seen e), λ all. seen_none r (found ∙ only_blanks p told all))
+none_at_end p r found told = grind (arith, blanks_left, seen_none, only_blanks)

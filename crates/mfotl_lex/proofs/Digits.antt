@@ -1,6 +1,6 @@
 -- Digits only add to a number.
-use Rattle.std.proofs.Common.{◌≡◌, ℕ, suc, ◌+◌, ◌-◌, ◌*◌, ◌≤◌, ◌<◌, List, [], ◌∷◌, length, get_or, drop, None, refl}
-use Rattle.std.proofs.Common.{arith, drop-cons}
+use Rattle.std.proofs.Common.{◌≡◌, ℕ, ◌+◌, ◌-◌, ◌*◌, ◌≤◌, ◌<◌, List, [], ◌∷◌, length, get_or, drop, None, arith}
+use Rattle.std.proofs.Common.{drop-cons}
 use Rattle.std.proofs.lemmas.Bool.{lt-leb}
 use Rattle.mfotl_lex.specs.Numbers.{digits_value, within_limit}
 
@@ -15,7 +15,4 @@ pub passes_limit : (limit n digit i : ℕ) (bytes : List ℕ) → i < length byt
     → digits_value n (drop i bytes) ≡ digits_value 0 bytes → limit < 10 * n + digit
     → None ≡ within_limit limit (digits_value 0 bytes)
 unfolding digits_value
-passes_limit limit n digit i bytes lt e so_far above =
-    let next = 10 * n + (get_or bytes i 0 - 48) in
-    let same : digits_value next (drop (suc i) bytes) ≡ digits_value 0 bytes = rw (drop-cons bytes i 0) at so_far in
-    rw (lt-leb (digits_value 0 bytes) limit (omega (arith, same, grows next (drop (suc i) bytes)))) refl
+passes_limit limit n digit i bytes lt e so_far above = grind (arith, drop-cons, lt-leb, grows)

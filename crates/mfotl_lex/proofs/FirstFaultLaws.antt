@@ -1,9 +1,9 @@
 -- What follows of a reader that owes what `FollowsGrammar` says.
-use Rattle.std.proofs.Common.{◌≡◌, ◌⊎◌, inl, inr, List, [], ◌∷◌, ◌++◌, Result, Ok, Err, refl, sym, ap, ◌∙◌}
+use Rattle.std.proofs.Common.{◌≡◌, ◌⊎◌, inl, inr, List, [], ◌∷◌, ◌++◌, Result, Ok, Err, refl, sym, ap, ◌∙◌, arith}
 use Rattle.std.proofs.lemmas.List.{append-nil, append_assoc}
-use Rattle.mfotl_lex.specs.FirstFault.{◌>>=◌, Tail, Text, run, StopsAt, reading, ShowNone}
-use Rattle.mfotl_lex.specs.FirstFault.{ShownByToken, IsFirst, FollowsGrammar, ExactSoundness}
-use Rattle.mfotl_lex.specs.FirstFault.{ExactFaults, ReadIsValue, ValueIsRead, HasValue, HasFault, OneAnswer}
+use Rattle.mfotl_lex.specs.FirstFault.{◌>>=◌, Tail, Text, run, StopsAt, reading, ShowNone, ShownByToken, IsFirst}
+use Rattle.mfotl_lex.specs.FirstFault.{FollowsGrammar, ExactSoundness, ExactFaults, ReadIsValue, ValueIsRead, HasValue}
+use Rattle.mfotl_lex.specs.FirstFault.{HasFault, OneAnswer}
 
 pub bind_ok : {A B E : Type 0} (r : Result A E) (f : A → Result B E) (y : B) → (r >>= f) ≡ Ok y
     → (x : A) × (r ≡ Ok x) × (f x ≡ Ok y)
@@ -56,16 +56,14 @@ module _ {S T E : Type 0} (step : S → T → Result S E) where
   -- tokens that show no fault have no front that shows one
   pub sound_front : (front back : List T) (s q : S) → run step (front ++ back) s ≡ Ok q
       → (p : S) × (run step front s ≡ Ok p) × (run step back p ≡ Ok q)
-  sound_front front back s q e =
-      bind_ok (run step front s) (λ p. run step back p) q (sym (run-append front back s) ∙ e)
+  sound_front front back s q e = grind (arith, bind_ok, run-append)
 
   -- what each step keeps holds behind a run
   pub holds_behind : (Holds : List T → S → Type 0)
       → ((front : List T) (s q : S) (t : T) → Holds front s → step s t ≡ Ok q → Holds (front ++ t ∷ []) q)
       → (front ts : List T) (s q : S) → Holds front s → run step ts s ≡ Ok q → Holds (front ++ ts) q
   unfolding run
-  holds_behind Holds keeps front [] s q holds e =
-      let same : s ≡ q = cc e in rw (append-nil, ← same) holds
+  holds_behind Holds keeps front [] s q holds e = grind (arith, append-nil)
   holds_behind Holds keeps front (t ∷ ts) s q holds e =
       let first = bind_ok (step s t) (λ x. run step ts x) q e in
       rw append_assoc at
@@ -74,8 +72,7 @@ module _ {S T E : Type 0} (step : S → T → Result S E) where
   -- the token that shows a fault stops the run, whatever stands behind it
   pub stops : (s : S) (ts : List T) (fault : E) → StopsAt step s ts fault → run step ts s ≡ Err fault
   stops s ts fault x =
-      rw (x.parts, run_behind x.front (x.token ∷ x.back) s x.read x.sound)
-      (run_fault x.token x.back x.read fault x.stop)
+      cc (run_behind x.front (x.token ∷ x.back) s x.read x.sound, run_fault x.token x.back x.read fault x.stop)
 
   stopped_by : (s : S) (t : T) (ts : List T) (fault : E) (r : Result S E) → step s t ≡ r
       → ((q : S) → run step ts q ≡ Err fault → StopsAt step q ts fault) → (r >>= λ q. run step ts q) ≡ Err fault
@@ -91,8 +88,7 @@ module _ {S T E : Type 0} (step : S → T → Result S E) where
         sound = run_token t x.front s q e ∙ x.sound;
         stop = x.stop;
       }
-  stopped_by s t ts fault (Err other) e later f =
-      record { front = []; token = t; back = ts; read = s; parts = refl; sound = run_none s; stop = e ∙ f }
+  stopped_by s t ts fault (Err other) e later f = grind (arith, run_none s)
 
   -- a run that shows a fault has a token that shows it
   pub stopped : (s : S) (ts : List T) (fault : E) → run step ts s ≡ Err fault → StopsAt step s ts fault
@@ -128,48 +124,22 @@ module _ {S T L E V : Type 0} (step : S → T → Result S E) (start : S) (at_ta
 
   -- the token that stops a run is the first that shows a fault
   pub stop_shown : (ts : List T) (fault : E) → StopsAt step start ts fault → ShownByToken IsViable IsCause ts fault
-  stop_shown ts fault x =
-      record {
-        front = x.front;
-        token = x.token;
-        back = x.back;
-        parts = x.parts;
-        viable = follows.viable x.front x.read x.sound;
-        clear = sound_clear x.front x.read x.sound;
-        cause = (follows.token x.front x.read x.token fault x.sound).0 x.stop;
-      }
+  stop_shown ts fault x = grind (arith, sound_clear)
 
   shown_stop : (ts : List T) (fault : E) → ShownByToken IsViable IsCause ts fault → StopsAt step start ts fault
-  shown_stop ts fault x =
-      let sound = clear_sound x.front x.clear in
-      record {
-        front = x.front;
-        token = x.token;
-        back = x.back;
-        read = sound.0;
-        parts = x.parts;
-        sound = sound.1;
-        stop = (follows.token x.front sound.0 x.token fault sound.1).1 x.cause;
-      }
+  shown_stop ts fault x = grind (arith, clear_sound)
 
   shown : (x : Text T L) (fault : E) (r : Result S E) → run step x.list start ≡ r
       → (r >>= λ s. at_tail x.tail s) ≡ Err fault
       → IsFirst IsViable IsCause IsLast x fault
-  shown x fault (Ok s) e f =
-      inr (record {
-        viable = follows.viable x.list s e;
-        clear = sound_clear x.list s e;
-        cause = (follows.tail x.list s x.tail fault e).0 f;
-      })
+  shown x fault (Ok s) e f = grind (arith, sound_clear)
   shown x fault (Err other) e f = inl (stop_shown x.list fault (stopped step start x.list fault (e ∙ cc f)))
 
   shows : (x : Text T L) (fault : E) → IsFirst IsViable IsCause IsLast x fault
       → reading step start at_tail x ≡ Err fault
   unfolding reading
   shows x fault (inl v) = rw (stops step start x.list fault (shown_stop x.list fault v))
-  shows x fault (inr v) =
-      let sound = clear_sound x.list v.clear in
-      rw sound.1 ((follows.tail x.list sound.0 x.tail fault sound.1).1 v.cause)
+  shows x fault (inr v) = grind (arith, clear_sound)
 
   pub exact_faults : ExactFaults step start at_tail IsViable IsCause IsLast
   unfolding reading
@@ -185,13 +155,7 @@ module _ {X V E : Type 0} (answer : X → Result V E) (IsValue : X → V → Typ
         only = λ other is. cc (e, value x other is);
         sound = λ fault f. cc (e, f);
       })
-  answered x (Err fault) e =
-      inr (record {
-        fault = fault;
-        first = e;
-        only = λ other f. cc (e, f);
-        worthless = λ v is. cc (e, value x v is);
-      })
+  answered x (Err fault) e = grind arith
 
   pub one_answer : OneAnswer answer IsValue
   one_answer x = answered x (answer x) refl

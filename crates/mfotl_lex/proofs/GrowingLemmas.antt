@@ -1,18 +1,14 @@
 -- A place reads on with more bytes.
 use Rattle.std.proofs.Common.{◌≡◌, ℕ, zero, suc, ◌+◌, ◌<◌, Bool, false, List, ◌∷◌, ◌++◌, length, drop, Option, Some}
-use Rattle.std.proofs.Common.{None, Result, Ok, Err, refl, sym, ap, ◌∙◌, arith, add_assoc}
+use Rattle.std.proofs.Common.{None, Result, Ok, Err, refl, sym, ◌∙◌, arith, add_assoc}
 use Rattle.std.proofs.lemmas.List.{take-append-le, drop-append-le, drop-drop}
-use Rattle.mfotl_lex.specs.declared.fault.LexFault.{LexFault}
-use Rattle.mfotl_lex.specs.declared.scan.Scan.{Scan}
+use Rattle.mfotl_lex.specs.declared.{fault.LexFault.LexFault, scan.Scan.Scan}
 use Rattle.mfotl_lex.specs.declared.scan.Scan.TheVariants.{Unshown, Takes, Fails}
-use Rattle.mfotl_lex.specs.Blanks.{blank_len}
-use Rattle.mfotl_lex.specs.Scans.{scan, IsWithin}
-use Rattle.mfotl_lex.specs.Places.{Place}
+use Rattle.mfotl_lex.specs.{Blanks.blank_len, Scans.IsWithin, Places.Place}
 use Rattle.mfotl_lex.specs.Lexemes.{Lexeme, Tokens, past_blanks, token_at, place_after, next_token, after, followed}
 use Rattle.mfotl_lex.specs.Lexemes.{tokens}
 use Rattle.mfotl_lex.specs.Growing.{grown, ReadsOn, stopped, joined_at, tokens_joined, MoreBytesChangeNothing}
-use Rattle.mfotl_lex.proofs.BlankLoop.{blanks_within}
-use Rattle.mfotl_lex.proofs.BlankLemmas.{blank_len-append, blank_len-drop}
+use Rattle.mfotl_lex.proofs.{BlankLoop.blanks_within, BlankLemmas.blank_len-append, BlankLemmas.blank_len-drop}
 use Rattle.mfotl_lex.proofs.Growth.{IsShown, keeps_shown, scan_keeps, no_blank_before}
 use Rattle.mfotl_lex.proofs.Sequence.{scan_at, at_within, next_is, after_is, after_shorter, after_ended, nothing_after}
 use Rattle.mfotl_lex.proofs.Sequence.{tokens_step, tokens_token, tokens_none, tokens_fault, stopped_at_token}
@@ -41,29 +37,17 @@ grown_after p q more ended other t w e = absurd cc
 
 module _ (p : Place) (more : List ℕ) (ended : Bool) (untold : p.ended ≡ false) where
   past_same : IsShown (scan_at p) → past_blanks (grown p more ended) ≡ grown (past_blanks p) more ended
-  past_same shown =
-      let n = blank_len false p.rest in
-      let none = no_blank_before p.mode (drop n p.rest) more ended (blank_len-drop false p.rest) (rw untold at shown) in
-      let count : blank_len ended (p.rest ++ more) ≡ n = omega (arith, blank_len-append ended p.rest more, none) in
-      rw (untold, count, drop-append-le n p.rest more (blanks_within false p.rest)) refl
+  past_same shown = grind (arith, no_blank_before, blank_len-drop, blank_len-append, drop-append-le, blanks_within)
 
   scan_same : IsShown (scan_at p) → scan_at (grown p more ended) ≡ scan_at p
-  scan_same shown =
-      ap (λ (q : Place). scan p.mode ended q.rest) (past_same shown)
-      ∙ keeps_shown (scan_at p) (scan p.mode ended ((past_blanks p).rest ++ more))
-      (rw untold (scan_keeps p.mode ended (drop (blank_len false p.rest) p.rest) more)) shown
+  scan_same shown = grind (arith, past_same, keeps_shown, scan_at, scan_keeps)
 
   next_same : IsShown (scan_at p) → next_token (grown p more ended) ≡ next_token p
-  next_same shown =
-      rw (next_is (grown p more ended), past_same shown, scan_same shown, next_is p)
-      (grown_token (past_blanks p) more ended (scan_at p) (at_within p))
+  next_same shown = simp (next_is, past_same, scan_same, grown_token, scan_at, at_within)
 
   after_same : (t : Lexeme) → token_at (past_blanks p) (scan_at p) ≡ Ok (Some t)
       → after (grown p more ended) ≡ grown (after p) more ended
-  after_same t e =
-      let shown = shown_by_token (past_blanks p) (scan_at p) t e in
-      rw (after_is (grown p more ended), past_same shown, scan_same shown, after_is p)
-      (grown_after p (past_blanks p) more ended (scan_at p) t (at_within p) e)
+  after_same t e = search (shown_by_token, scan_at, after_is, past_same, scan_same, grown_after, at_within)
 
   -- ---- where nothing is shown
 
@@ -83,12 +67,7 @@ any_before a b q (Fails fault n) = refl
 
 -- places that have the same behind their blanks have the same tokens
 pub tokens_same : (p q : Place) → past_blanks p ≡ past_blanks q → tokens p ≡ tokens q
-tokens_same p q e =
-    let from : Place → Place → Tokens = λ a r. followed (token_at r (scan r.mode r.ended r.rest))
-    (tokens (place_after a r (scan r.mode r.ended r.rest))) in
-    let first : tokens p ≡ from p (past_blanks p) = rw (tokens_step p, next_is p, after_is p) refl in
-    let second : tokens q ≡ from q (past_blanks q) = rw (tokens_step q, next_is q, after_is q) refl in
-    first ∙ any_before p q (past_blanks p) _ ∙ ap (from q) e ∙ sym second
+tokens_same p q e = grind (arith, tokens_step, next_is, after_is, any_before)
 
 -- ---- the law
 
@@ -117,18 +96,9 @@ joined_step : (p : Place) (more : List ℕ) (ended : Bool) (r : Result (Option L
     → ((t : Lexeme) → next_token p ≡ Ok (Some t) → tokens (grown (after p) more ended)
     ≡ tokens_joined (tokens (after p)) (tokens (grown (stopped (after p)) more ended)))
     → tokens (grown p more ended) ≡ tokens_joined (tokens p) (tokens (grown (stopped p) more ended))
-joined_step p more ended (Ok (Some t)) on e behind =
-    rw (
-      tokens_token (grown p more ended) t (on.token t e),
-      on.behind t e,
-      behind t e,
-      tokens_token p t e,
-      stopped_at_token p t e,
-    ) (joined_cons t _ _ _)
-joined_step p more ended (Ok None) on e behind =
-    on.none e ∙ rw (tokens_none p e, nothing_after p e, stopped_at_none p e) refl
-joined_step p more ended (Err f) on e behind =
-    tokens_fault (grown p more ended) f (on.fault f e) ∙ rw (tokens_fault p f e) refl
+joined_step p more ended (Ok (Some t)) on e behind = grind (arith, tokens_token, stopped_at_token, joined_cons)
+joined_step p more ended (Ok None) on e behind = grind (arith, tokens_none, nothing_after, stopped_at_none)
+joined_step p more ended (Err f) on e behind = grind (arith, tokens_fault)
 
 joined_within : (n : ℕ) (p : Place) (more : List ℕ) (ended : Bool) → length p.rest < n → p.ended ≡ false
     → tokens (grown p more ended) ≡ tokens_joined (tokens p) (tokens (grown (stopped p) more ended))
@@ -140,5 +110,4 @@ joined_within (suc n) p more ended lt e =
 
 -- more bytes change nothing
 pub more_bytes : MoreBytesChangeNothing
-more_bytes p more ended e =
-    (reads_on p more ended e, joined_within (suc (length p.rest)) p more ended (omega arith) e)
+more_bytes p more ended e = grind (arith, reads_on, joined_within)

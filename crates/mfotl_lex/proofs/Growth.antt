@@ -1,23 +1,17 @@
 -- More bytes never change what was scanned.
 use Rattle.std.proofs.Common.{◌≡◌, ℕ, suc, ◌≤◌, ◌<◌, Bool, true, false, cond, List, [], ◌∷◌, ◌++◌, length, take, nat_lt}
 use Rattle.std.proofs.Common.{drop, refl, ap, inl, inr, arith, Option, Some, None}
-use Rattle.std.specs.Prelude.{◌==◌}
-use Rattle.std.specs.Char.{is_ascii_digit}
-use Rattle.std.specs.List.{prefix_len}
+use Rattle.std.specs.{Prelude.◌==◌, Char.is_ascii_digit, List.prefix_len}
 use Rattle.std.proofs.lemmas.Bool.{cases_Bool, cases_lt, eqb-true}
-use Rattle.std.proofs.lemmas.Bool.Decides.{nat_tests}
-use Rattle.std.proofs.lemmas.List.Folds.{prefix_len-append}
-use Rattle.std.proofs.lemmas.List.Sums.{prefix_len-le-length}
+use Rattle.std.proofs.{lemmas.Bool.Decides.nat_tests, lemmas.List.Folds.prefix_len-append}
+use Rattle.std.proofs.{lemmas.List.Sums.prefix_len-le-length}
 use Rattle.std.proofs.lemmas.List.{take-append-le, drop-append-le, length-append, length-drop, nil_from_length}
-use Rattle.mfotl_lex.specs.declared.kind.Kind.{Kind}
+use Rattle.mfotl_lex.specs.declared.{kind.Kind.Kind, kind.Mode.Mode, kind.Mode.TheVariants.Plain}
+use Rattle.mfotl_lex.specs.declared.{kind.Mode.TheVariants.Log, scan.Scan.Scan}
 use Rattle.mfotl_lex.specs.declared.kind.Kind.TheVariants.{Less, LessEqual, Greater, GreaterEqual}
-use Rattle.mfotl_lex.specs.declared.kind.Mode.{Mode}
-use Rattle.mfotl_lex.specs.declared.kind.Mode.TheVariants.{Plain, Log}
-use Rattle.mfotl_lex.specs.declared.scan.Scan.{Scan}
 use Rattle.mfotl_lex.specs.declared.scan.Scan.TheVariants.{Unshown, Takes, Fails}
 use Rattle.mfotl_lex.specs.Bytes.{quote, hash, minus, begins_plain_word, in_plain_word, in_log_word, in_text}
-use Rattle.mfotl_lex.specs.Blanks.{blank_len}
-use Rattle.mfotl_lex.specs.Numbers.{integer_value, is_int64}
+use Rattle.mfotl_lex.specs.{Blanks.blank_len, Numbers.integer_value, Numbers.is_int64}
 use Rattle.mfotl_lex.specs.Scans.{word_scan, number_scan, minus_scan, closed_text, text_end, text_scan, order_scan}
 use Rattle.mfotl_lex.specs.Scans.{mark_scan, plain_scan, log_scan, scan}
 use Rattle.mfotl_lex.proofs.BlankLemmas.{no_space, blank_len-none}
@@ -40,8 +34,7 @@ keeps_both false x y x' y' left right = right
 -- ---- the longest front that passes
 
 prefix_grows : (p : ℕ → Bool) (bytes more : List ℕ) → prefix_len p bytes ≤ prefix_len p (bytes ++ more)
-prefix_grows p bytes more =
-    grind (arith, nat_tests, prefix_len-append p bytes more, prefix_len-le-length p bytes)
+prefix_grows p bytes more = grind (arith, prefix_len-append, prefix_len-le-length)
 
 prefix_stays : (p : ℕ → Bool) (bytes more : List ℕ) → prefix_len p bytes < length bytes
     → prefix_len p (bytes ++ more) ≡ prefix_len p bytes
@@ -57,8 +50,7 @@ word_keeps ended limit count count' len len' le same longer = grind (arith, nat_
 number_keeps : (ended : Bool) (count count' : ℕ) (bytes more : List ℕ) →
     (count < length bytes → count' ≡ count)
     → Keeps (number_scan false count bytes) (number_scan ended count' (bytes ++ more))
-number_keeps ended count count' bytes more same =
-    grind (arith, nat_tests, take-append-le count bytes more, length-append bytes more)
+number_keeps ended count count' bytes more same = grind (arith, take-append-le, length-append)
 
 minus_keeps : (ended : Bool) (bytes more : List ℕ)
     → Keeps (minus_scan false bytes) (minus_scan ended (bytes ++ more))
@@ -103,9 +95,7 @@ order_keeps ended alone with_equal (b ∷ bytes) more = keeps_same _
 run_keeps : (ended : Bool) (limit : ℕ) (p : ℕ → Bool) (bytes more : List ℕ)
     → Keeps (word_scan false limit (prefix_len p bytes) (length bytes))
     (word_scan ended limit (prefix_len p (bytes ++ more)) (length (bytes ++ more)))
-run_keeps ended limit p bytes more =
-    word_keeps ended limit _ _ _ _ (prefix_grows p bytes more) (prefix_stays p bytes more)
-    (omega (arith, length-append bytes more))
+run_keeps ended limit p bytes more = grind (arith, word_keeps, prefix_grows, prefix_stays, length-append)
 
 digits_keep : (ended : Bool) (bytes more : List ℕ)
     → Keeps (number_scan false (prefix_len is_ascii_digit bytes) bytes)
@@ -144,11 +134,7 @@ scan_hash Log ended bytes = refl
 -- an open comment shows nothing
 pub shown_no_hash : (mode : Mode) (ended : Bool) (b : ℕ) (bytes : List ℕ)
     → IsShown (scan mode ended (b ∷ bytes)) → (b == hash) ≡ false
-shown_no_hash mode ended b bytes shown =
-    elim (cases_Bool (b == hash)) [
-      | inl k ↦ absurd (rw (eqb-true b hash k, scan_hash mode ended bytes) at shown)
-      | inr k ↦ k
-    ]
+shown_no_hash mode ended b bytes shown = grind (arith, cases_Bool, eqb-true, scan_hash)
 
 shown_both : (b : Bool) (x y : Scan) → IsShown x → IsShown y → IsShown (cond b x y)
 shown_both true x y left right = left
@@ -201,8 +187,7 @@ shown_at_end Plain b bytes no_comment = search (
   order_at_end,
   mark_is_shown,
 ) depth 12
-shown_at_end Log b bytes no_comment =
-    search (shown_both, shown_else, word_at_end, text_at_end, mark_is_shown) depth 12
+shown_at_end Log b bytes no_comment = grind (arith, shown_both, shown_else, word_at_end, text_at_end, mark_is_shown)
 
 -- what is shown is scanned again
 pub keeps_shown : (s later : Scan) → Keeps s later → IsShown s → later ≡ s
@@ -216,6 +201,4 @@ pub no_blank_before : (mode : Mode) (front more : List ℕ) (ended : Bool) → b
 unfolding plain_scan log_scan
 no_blank_before Plain [] more ended none shown = absurd shown
 no_blank_before Log [] more ended none shown = absurd shown
-no_blank_before mode (b ∷ bytes) more ended none shown =
-    blank_len-none ended b (bytes ++ more) (no_space false b bytes none)
-    (shown_no_hash mode false b bytes shown)
+no_blank_before mode (b ∷ bytes) more ended none shown = grind (arith, blank_len-none, no_space, shown_no_hash)

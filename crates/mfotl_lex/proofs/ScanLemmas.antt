@@ -1,26 +1,15 @@
 -- What a scan gives lies within the bytes.
-use Rattle.std.proofs.Common.{◌≡◌, ℕ, suc, ◌+◌, ◌≤◌, ◌<◌, Bool, true, false, cond, ◌||◌, List, [], ◌∷◌, length, take}
-use Rattle.std.proofs.Common.{drop, Option, Some, None, arith, nat_lt}
-use Rattle.std.specs.Prelude.{◌==◌}
-use Rattle.std.specs.Char.{is_ascii_digit}
-use Rattle.std.specs.List.{prefix_len}
-use Rattle.std.specs.Str.{is_utf8}
-use Rattle.std.proofs.lemmas.Bool.{cond_both, eqb-true}
-use Rattle.std.proofs.lemmas.Bool.Decides.{nat_tests}
-use Rattle.std.proofs.lemmas.List.{length-take, length-drop}
-use Rattle.std.proofs.lemmas.List.Sums.{prefix_len-le-length}
-use Rattle.mfotl_lex.specs.declared.fault.LexFaultKind.TheVariants.{NumberRange}
-use Rattle.mfotl_lex.specs.declared.kind.Kind.{Kind}
+use Rattle.std.proofs.Common.{◌≡◌, ℕ, ◌+◌, ◌≤◌, ◌<◌, Bool, true, false, cond, List, [], ◌∷◌, length, take, drop, Option}
+use Rattle.std.proofs.Common.{Some, None, arith, nat_lt}
+use Rattle.std.specs.{Prelude.◌==◌, Char.is_ascii_digit, List.prefix_len}
+use Rattle.std.proofs.{lemmas.Bool.cond_both, lemmas.Bool.eqb-true, lemmas.Bool.Decides.nat_tests}
+use Rattle.std.proofs.{lemmas.List.length-take, lemmas.List.length-drop, lemmas.List.Sums.prefix_len-le-length}
+use Rattle.mfotl_lex.specs.declared.{kind.Kind.Kind, kind.Mode.Mode, kind.Mode.TheVariants.Plain}
+use Rattle.mfotl_lex.specs.declared.{kind.Mode.TheVariants.Log, scan.Scan.Scan, scan.Scan.TheVariants.Takes}
 use Rattle.mfotl_lex.specs.declared.kind.Kind.TheVariants.{Integer, Less, LessEqual, Greater, GreaterEqual}
-use Rattle.mfotl_lex.specs.declared.kind.Mode.{Mode}
-use Rattle.mfotl_lex.specs.declared.kind.Mode.TheVariants.{Plain, Log}
-use Rattle.mfotl_lex.specs.declared.scan.Scan.{Scan}
-use Rattle.mfotl_lex.specs.declared.scan.Scan.TheVariants.{Takes, Fails}
-use Rattle.mfotl_lex.specs.Bytes.{quote, hash, minus, equals_sign, begins_plain_word, in_plain_word, in_log_word}
-use Rattle.mfotl_lex.specs.Bytes.{in_text}
-use Rattle.mfotl_lex.specs.Numbers.{integer_value, is_int64}
-use Rattle.mfotl_lex.specs.Scans.{word_scan, number_scan, minus_scan, closed_text, text_end, text_scan}
-use Rattle.mfotl_lex.specs.Scans.{order_scan, plain_mark, log_mark, mark_scan, plain_scan, log_scan, scan, IsWithin}
+use Rattle.mfotl_lex.specs.Bytes.{quote, hash, minus, begins_plain_word, in_plain_word, in_log_word, in_text}
+use Rattle.mfotl_lex.specs.Scans.{word_scan, number_scan, minus_scan, closed_text, text_end, text_scan, order_scan}
+use Rattle.mfotl_lex.specs.Scans.{plain_mark, log_mark, mark_scan, plain_scan, log_scan, scan, IsWithin}
 
 pub prefix_starts : (p : ℕ → Bool) (b : ℕ) (bytes : List ℕ) → p b ≡ true → 0 < prefix_len p (b ∷ bytes)
 prefix_starts p b bytes h = rw h (omega arith)
@@ -35,36 +24,23 @@ within_both bytes false x y left right = right
 
 word_within : (bytes : List ℕ) (ended : Bool) (limit count : ℕ) → 0 < count → count ≤ length bytes
     → IsWithin bytes (word_scan ended limit count (length bytes))
-word_within bytes ended limit count some le =
-    within_both bytes (nat_lt limit count) _ _ (omega arith)
-    (within_both bytes (ended || nat_lt count (length bytes)) _ _ (some, le, λ e. absurd cc) tt)
+word_within bytes ended limit count some le = grind (arith, within_both)
 
 number_within : (bytes : List ℕ) (ended : Bool) (count : ℕ) → 0 < count → count ≤ length bytes
     → IsWithin bytes (number_scan ended count bytes)
-number_within bytes ended count some le =
-    within_both bytes (ended || nat_lt count (length bytes)) _ _
-    (cond_both (is_int64 (integer_value (take count bytes))) (Takes Integer count) (Fails NumberRange 0)
-    (IsWithin bytes) (λ h. (some, le, λ _. h)) (λ _. omega arith)) tt
+number_within bytes ended count some le = grind (arith, within_both, cond_both)
 
 minus_within : (ended : Bool) (bytes : List ℕ) → IsWithin (minus ∷ bytes) (minus_scan ended bytes)
 unfolding minus_scan
 minus_within ended [] = within_both (minus ∷ []) ended _ _ (omega arith) tt
-minus_within ended (b ∷ bytes) =
-    let count = suc (prefix_len is_ascii_digit (b ∷ bytes)) in
-    let le : prefix_len is_ascii_digit (b ∷ bytes) ≤ length (b ∷ bytes) =
-    prefix_len-le-length is_ascii_digit (b ∷ bytes) in
-    within_both (minus ∷ b ∷ bytes) (is_ascii_digit b) _ _
-    (number_within (minus ∷ b ∷ bytes) ended count (omega arith) (omega arith)) (omega arith)
+minus_within ended (b ∷ bytes) = grind (arith, prefix_len-le-length, within_both, number_within)
 
 end_within : (first : ℕ) (bytes content behind : List ℕ) (ended : Bool)
     → length content + length behind ≡ length bytes
     → IsWithin (first ∷ bytes) (text_end ended content behind)
 unfolding text_end closed_text
 end_within first bytes content [] ended e = within_both (first ∷ bytes) ended _ _ (omega arith) tt
-end_within first bytes content (b ∷ behind) ended e =
-    within_both (first ∷ bytes) (b == quote) _ _
-    (within_both (first ∷ bytes) (is_utf8 content) _ _ (omega arith, omega arith, λ e. absurd cc) (omega arith))
-    (omega arith)
+end_within first bytes content (b ∷ behind) ended e = grind (arith, within_both)
 
 text_within : (first : ℕ) (bytes : List ℕ) (ended : Bool)
     → IsWithin (first ∷ bytes) (text_scan ended bytes)
@@ -93,12 +69,8 @@ mark_takes bytes kind n m some le = (some, le, λ e. absurd (rw e at m))
 order_within : (first : ℕ) (bytes : List ℕ) (ended : Bool) (alone with_equal : Kind) → IsMark (Some alone)
     → IsMark (Some with_equal) → IsWithin (first ∷ bytes) (order_scan ended alone with_equal bytes)
 unfolding order_scan
-order_within first [] ended alone with_equal p q =
-    within_both (first ∷ []) ended _ _ (mark_takes (first ∷ []) alone 1 p (omega arith) (omega arith)) tt
-order_within first (b ∷ bytes) ended alone with_equal p q =
-    within_both (first ∷ b ∷ bytes) (b == equals_sign) _ _
-    (mark_takes (first ∷ b ∷ bytes) with_equal 2 q (omega arith) (omega arith))
-    (mark_takes (first ∷ b ∷ bytes) alone 1 p (omega arith) (omega arith))
+order_within first [] ended alone with_equal p q = grind (arith, within_both, mark_takes)
+order_within first (b ∷ bytes) ended alone with_equal p q = grind (arith, within_both, mark_takes)
 
 mark_within : (first : ℕ) (bytes : List ℕ) (mark : Option Kind) → IsMark mark
     → IsWithin (first ∷ bytes) (mark_scan mark)

@@ -1,18 +1,15 @@
 -- The tokens one after another: any fuel that suffices gives the same.
-use Rattle.std.proofs.Common.{◌≡◌, ℕ, zero, suc, ◌≤◌, ◌<◌, [], ◌∷◌, length, ◌+◌, add_assoc, add-zero}
-use Rattle.std.proofs.Common.{Option, Some, None, Result, Ok, Err, refl, sym, ap, ◌∙◌, arith}
+use Rattle.std.proofs.Common.{◌≡◌, ℕ, zero, suc, ◌≤◌, ◌<◌, [], ◌∷◌, length, add_assoc, add-zero, Option, Some, None}
+use Rattle.std.proofs.Common.{Result, Ok, Err, refl, sym, ap, ◌∙◌, arith}
 use Rattle.std.proofs.lemmas.List.{length-drop, drop-drop}
-use Rattle.mfotl_lex.specs.declared.fault.LexFault.{LexFault}
-use Rattle.mfotl_lex.specs.declared.scan.Scan.{Scan}
+use Rattle.mfotl_lex.specs.declared.{fault.LexFault.LexFault, scan.Scan.Scan}
 use Rattle.mfotl_lex.specs.declared.scan.Scan.TheVariants.{Unshown, Takes, Fails}
-use Rattle.mfotl_lex.specs.Blanks.{blank_len}
-use Rattle.mfotl_lex.specs.Scans.{scan, IsWithin}
+use Rattle.mfotl_lex.specs.{Blanks.blank_len, Scans.scan, Scans.IsWithin}
 use Rattle.mfotl_lex.specs.Places.{Place, MovesOn, mode_behind}
-use Rattle.mfotl_lex.specs.Lexemes.{Lexeme, past_blanks, token_at, place_after, ModesStay, next_token, after}
-use Rattle.mfotl_lex.specs.Lexemes.{followed, tokens_within, tokens}
+use Rattle.mfotl_lex.specs.Lexemes.{Lexeme, past_blanks, token_at, place_after, ModesStay, next_token, after, followed}
+use Rattle.mfotl_lex.specs.Lexemes.{tokens_within, tokens}
 use Rattle.mfotl_lex.specs.Growing.{stop_or, stopped_within, stopped}
-use Rattle.mfotl_lex.proofs.BlankLoop.{blanks_within}
-use Rattle.mfotl_lex.proofs.ScanLemmas.{scan_within}
+use Rattle.mfotl_lex.proofs.{BlankLoop.blanks_within, ScanLemmas.scan_within}
 
 -- what is scanned at a place
 abbrev pub scan_at : Place → Scan
@@ -39,9 +36,7 @@ shorter p q other t w le e = absurd cc
 -- a token takes a byte at least
 pub after_shorter : (p : Place) (t : Lexeme) → next_token p ≡ Ok (Some t)
     → length (after p).rest < length p.rest
-after_shorter p t e =
-    let le : length (past_blanks p).rest ≤ length p.rest = omega (arith, length-drop (blank_len p.ended p.rest) p.rest)
-    in rw after_is (shorter p (past_blanks p) (scan_at p) t (at_within p) le (sym (next_is p) ∙ e))
+after_shorter p t e = grind (arith, length-drop, after_is, shorter, at_within, next_is)
 
 same_mode : (p : Place) (s : Scan) → (place_after p (past_blanks p) s).mode ≡ p.mode
 unfolding mode_behind
@@ -71,13 +66,7 @@ unshown q other e = absurd cc
 
 moves_by : (p : Place) (s : Scan) → IsWithin (past_blanks p).rest s → MovesOn p (place_after p (past_blanks p) s)
 moves_by p Unshown w = record { count = blank_len p.ended p.rest; within = blanks_within p.ended p.rest; place = refl }
-moves_by p (Takes kind n) w =
-    let m = blank_len p.ended p.rest in
-    record {
-      count = m + n;
-      within = omega (arith, w.1, length-drop m p.rest, blanks_within p.ended p.rest);
-      place = rw (drop-drop n m p.rest, add_assoc p.at m n) refl;
-    }
+moves_by p (Takes kind n) w = grind (arith, length-drop, blanks_within, drop-drop, add_assoc)
 moves_by p (Fails fault n) w = record { count = 0; within = omega arith; place = rw add-zero refl }
 
 -- a place moves on within its bytes
@@ -110,9 +99,7 @@ module _ {X : Type 0} (turn : Result (Option Lexeme) LexFault → Place → X �
 
   enough : (p : Place) → within (suc (length p.rest)) p
       ≡ turn (next_token p) (after p) (within (suc (length (after p).rest)) (after p))
-  enough p =
-      steps (length p.rest) p ∙ same_behind (next_token p) (after p) (within (length p.rest) (after p)) _
-      (λ t e. fuel (length p.rest) (suc (length (after p).rest)) (after p) (after_shorter p t e) (omega arith))
+  enough p = grind (arith, same_behind, fuel, after_shorter)
 
 -- the tokens are the next one, and those behind it
 pub tokens_step : (p : Place) → tokens p ≡ followed (next_token p) (tokens (after p))
@@ -146,5 +133,4 @@ pub stopped_at_none : (p : Place) → next_token p ≡ Ok None → stopped p ≡
 stopped_at_none p e = rw (stopped_step p, e) (nothing_after p e)
 
 pub stopped_at_fault : (p : Place) (f : LexFault) → next_token p ≡ Err f → stopped p ≡ p
-stopped_at_fault p f e =
-    rw (stopped_step p, e) (after_is p ∙ fault_stays p (past_blanks p) (scan_at p) f (sym (next_is p) ∙ e))
+stopped_at_fault p f e = grind (arith, stopped_step, after_is, fault_stays, next_is)

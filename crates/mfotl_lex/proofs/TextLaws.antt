@@ -1,15 +1,12 @@
 -- How a reader goes over bytes token by token, and that what is shown stays shown.
-use Rattle.std.proofs.Common.{◌≡◌, ℕ, ◌+◌, Bool, true, false, List, ◌++◌, length, Option, Some, None}
-use Rattle.std.proofs.Common.{Result, Ok, Err, refl, ap, subst, ◌∙◌}
-use Rattle.mfotl_lex.specs.declared.fault.LexFault.{LexFault}
-use Rattle.mfotl_lex.specs.declared.kind.Mode.{Mode}
+use Rattle.std.proofs.Common.{◌≡◌, ℕ, ◌+◌, Bool, true, false, List, ◌++◌, length, Option, Some, None, Result, Ok, Err}
+use Rattle.std.proofs.Common.{refl, ap, ◌∙◌, arith}
+use Rattle.mfotl_lex.specs.declared.{fault.LexFault.LexFault, kind.Mode.Mode}
 use Rattle.mfotl_lex.specs.FirstFault.{◌>>=◌, Tail, More, run, reading}
-use Rattle.mfotl_lex.specs.Growing.{grown, stopped, joined_at}
-use Rattle.mfotl_lex.specs.Lexemes.{Lexeme, Tokens, next_token, after, tokens}
-use Rattle.mfotl_lex.specs.Places.{Place, beginning}
+use Rattle.mfotl_lex.specs.{Growing.joined_at, Places.Place, Places.beginning}
+use Rattle.mfotl_lex.specs.Lexemes.{Lexeme, Tokens, next_token, after}
 use Rattle.mfotl_lex.specs.Texts.{tail_of, text_of, reading_on, StaysShown}
-use Rattle.mfotl_lex.proofs.FirstFaultLaws.{bind_assoc, fault_stays}
-use Rattle.mfotl_lex.proofs.GrowingLemmas.{more_bytes}
+use Rattle.mfotl_lex.proofs.{FirstFaultLaws.bind_assoc, FirstFaultLaws.fault_stays, GrowingLemmas.more_bytes}
 use Rattle.mfotl_lex.proofs.Sequence.{tokens_token, tokens_none, tokens_fault}
 
 module _ {S L E V : Type 0} (step : S → Lexeme → Result S E) (at_tail : Tail L → S → Result V E)
@@ -18,8 +15,7 @@ module _ {S L E V : Type 0} (step : S → Lexeme → Result S E) (at_tail : Tail
   pub on_token : (p : Place) (s : S) (t : Lexeme) → next_token p ≡ Ok (Some t)
       → reading_on step at_tail tail p s ≡ (step s t >>= λ q. reading_on step at_tail tail (after p) q)
   unfolding reading_on run
-  on_token p s t e = rw (tokens_token p t e) (bind_assoc (step s t) (λ q. run step (tokens (after p)).list q)
-      (λ q. at_tail (tail (tokens (after p)).fault) q))
+  on_token p s t e = grind (arith, tokens_token, bind_assoc)
 
   -- no token
   pub on_none : (p : Place) (s : S) → next_token p ≡ Ok None → reading_on step at_tail tail p s ≡ at_tail (tail None) s
@@ -53,8 +49,7 @@ module _ {S E V : Type 0} (step : S → Lexeme → Result S E) (start : S) (at_t
       → ((s : S) → at_tail More s ≡ Err fault → ⊥) → (r : Result S E) → run step ts start ≡ r
       → (r >>= λ s. at_tail More s) ≡ Err fault → (run step (ts ++ more) start >>= λ s. at_tail tail s) ≡ Err fault
   shown_before ts more tail fault none (Ok s) e f = absurd (none s f)
-  shown_before ts more tail fault none (Err other) e f =
-      ap (λ r. r >>= λ s. at_tail tail s) (fault_stays step ts more start fault (e ∙ cc f))
+  shown_before ts more tail fault none (Err other) e f = grind (arith, fault_stays)
 
   stays : (list : List Lexeme) (more : Tokens) (end end' : ℕ) (ended : Bool) (fault : E)
       → ((s : S) → at_tail More s ≡ Err fault → ⊥) → (lexical : Option LexFault)
@@ -62,14 +57,8 @@ module _ {S E V : Type 0} (step : S → Lexeme → Result S E) (start : S) (at_t
       → (run step (joined_at lexical list more).list start
       >>= λ s. at_tail (tail_of ended end' (joined_at lexical list more).fault) s) ≡ Err fault
   stays list more end end' ended fault none (Some lexical) e = e
-  stays list more end end' ended fault none None e =
-      shown_before list more.list (tail_of ended end' more.fault) fault none (run step list start) refl e
+  stays list more end end' ended fault none None e = grind (arith, shown_before)
 
   pub stays_shown : ((s : S) (fault : E) → at_tail More s ≡ Err fault → ⊥) → StaysShown step start at_tail
   unfolding reading
-  stays_shown none p more ended fault untold e =
-      let place = grown p more ended in
-      let told = subst (λ (b : Bool). (run step (tokens p).list start
-      >>= λ s. at_tail (tail_of b (p.at + length p.rest) (tokens p).fault) s) ≡ Err fault) untold e in
-      rw ((more_bytes p more ended untold).1) (stays (tokens p).list (tokens (grown (stopped p) more ended))
-      (p.at + length p.rest) (place.at + length place.rest) ended fault (λ s. none s fault) (tokens p).fault told)
+  stays_shown none p more ended fault untold e = grind (arith, more_bytes p more ended untold, stays)

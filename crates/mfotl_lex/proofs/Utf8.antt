@@ -1,8 +1,7 @@
 -- The test of UTF-8.
 use Rattle.std.proofs.Common.{◌≡◌, ℕ, true, false, List}
 use Rattle.std.specs.Str.{IsUtf8, is_utf8}
-use Rattle.std.proofs.lemmas.Bool.{false_from_ne_true}
-use Rattle.std.proofs.lemmas.Str.{is_utf8-from_IsUtf8, IsUtf8-from_is_utf8}
+use Rattle.std.proofs.{lemmas.Bool.false_from_ne_true, lemmas.Str.is_utf8-from_IsUtf8, lemmas.Str.IsUtf8-from_is_utf8}
 
 pub is_text : (bytes : List ℕ) → IsUtf8 bytes → is_utf8 bytes ≡ true
 is_text bytes h = is_utf8-from_IsUtf8 bytes h

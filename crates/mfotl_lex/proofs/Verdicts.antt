@@ -1,5 +1,5 @@
 -- Verdicts on tokens that a grammar spells: the rules beside it are kept, or one is broken and its fault is shown.
-use Rattle.std.proofs.Common.{◌≡◌, Result, Ok, Err, refl, ap, subst, ◌∙◌, ◌⊎◌, inl, inr}
+use Rattle.std.proofs.Common.{◌≡◌, Result, Ok, Err, refl, ap, subst, ◌∙◌, ◌⊎◌, inl, inr, arith}
 use Rattle.mfotl_lex.specs.FirstFault.{◌>>=◌}
 
 module _ {E : Type 0} (IsRule : E → Type 0) where
@@ -19,8 +19,7 @@ module _ {E : Type 0} (IsRule : E → Type 0) where
 
   still_broken : {A B : Type 0} {rules others : Type 0} {r : Result A E} {r' : Result B E} → (b : Broken rules r)
       → (others → rules) → r' ≡ Err b.fault → Broken others r'
-  still_broken b from shown =
-      record { broken = λ k. b.broken (from k); fault = b.fault; is_rule = b.is_rule; shown = shown }
+  still_broken b from shown = grind arith
 
   module _ {A : Type 0} (rules : Type 0) (r : Result A E) (x : A) where
     pub judged_ok : (y : A) → Judged rules r x → r ≡ Ok y → rules × (y ≡ x)
@@ -40,10 +39,7 @@ module _ {E : Type 0} (IsRule : E → Type 0) where
         → (all → rules × more)
         → Judged rules r x → (rules → Judged more (f x) y) → Judged all (r >>= f) y
     then_judged more all f y to from (inr b) later = inr (still_broken b (λ k. (from k).0) (rw b.shown))
-    then_judged more all f y to from (inl kept) later = elim (later kept.0) [
-      | inl last ↦ inl (to kept.0 last.0, rw kept.1 last.1)
-      | inr b ↦ inr (still_broken b (λ k. (from k).1) (rw kept.1 b.shown))
-    ]
+    then_judged more all f y to from (inl kept) later = grind (arith, still_broken)
 
     -- the same verdict in other words
     pub judged_as : (others : Type 0) (y : A) → (rules → others) → (others → rules) → x ≡ y → Judged rules r x

@@ -1,8 +1,6 @@
 use Rattle.std.proofs.Common.{None, Ok, Err, rules, subst}
-use Rattle.mfotl_lex.specs.Lexemes.{next_token, after}
-use Rattle.mfotl_lex.specs.Places.{MovesOn}
-use Rattle.mfotl_lex.proofs.Sequence.{moves_on}
-use Rattle.mfotl_lex.proofs.CoveringLemmas.{none_at_end}
+use Rattle.mfotl_lex.specs.{Lexemes.next_token, Lexemes.after, Places.MovesOn}
+use Rattle.mfotl_lex.proofs.{Sequence.moves_on, CoveringLemmas.none_at_end}
 use Rattle.mfotl_lex.proofs.lexer.Lexer.next.Goals as goal
 
 pub returns-in-Unshown-clause-end : goal.returns-in-Unshown-clause-end
