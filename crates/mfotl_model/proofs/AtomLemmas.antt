@@ -1,38 +1,22 @@
 -- The terms of an atom beside the values of an event.
-use Rattle.std.proofs.Common.{◌≡◌, ◌∙◌, ap, ap₂, sym, refl, arith, ℕ, ◌≢◌, Bool, true, false, ◌&&◌, ◌||◌, cond}
-use Rattle.std.proofs.Common.{nat_eq, List, [], ◌∷◌, length, map, Option, Some, None, is_some, inl, inr, pos}
-use Rattle.std.specs.Prelude.{unwrap_or}
-use Rattle.std.proofs.lemmas.Bool.{cases_eq, eq-eqb, ne_eqb, or_left, or_right}
-use Rattle.std.proofs.lemmas.List.{length-map}
-use Rattle.std.proofs.lemmas.List.Folds.{list_any-append}
-use Rattle.std.proofs.lemmas.Map.Views.{tells_apart}
-use Rattle.std.specs.Cmp.{unsigned_tied, tied_then}
+use Rattle.std.proofs.Common.{◌≡◌, ◌∙◌, ap, ap₂, sym, refl, arith, ℕ, ◌≢◌, Bool, true, false, ◌&&◌, ◌||◌, cond, nat_eq}
+use Rattle.std.proofs.Common.{List, [], ◌∷◌, length, map, Some, is_some}
+use Rattle.std.proofs.lemmas.Bool.{eq-eqb, ne_eqb, or_left, or_right}
+use Rattle.std.proofs.{lemmas.List.length-map, lemmas.List.Folds.list_any-append, lemmas.Map.Views.tells_apart}
+use Rattle.std.specs.{Cmp.tied_then, Ordering.eq_by_cmp}
 use Rattle.std.specs.List.{flat_map, list_all, zip}
-use Rattle.std.specs.Ordering.{eq_by_cmp, nat_cmp}
-use Rattle.mfotl_model.proofs.LogicLemmas.{same_number}
-use Rattle.mfotl_model.proofs.MatchingLemmas.{first_more}
-use Rattle.mfotl_model.proofs.RowLemmas.{row_exact}
-use Rattle.mfotl_model.specs.FreeVariables.{among, variable_in}
-use Rattle.mfotl_model.specs.Satisfaction.{term_value}
-use Rattle.mfotl_model.specs.Values.{row_cmp, value_cmp}
-use Rattle.mfotl_model.specs.declared.event.Event.{Event}
-use Rattle.mfotl_model.specs.declared.term.Atom.{Atom as OneAtom}
-use Rattle.mfotl_model.specs.declared.term.Term.{Term}
-use Rattle.mfotl_model.specs.declared.term.Term.TheVariants.{Var, Const}
-use Rattle.mfotl_model.specs.declared.value.Value.TheVariants.{Int}
-use Rattle.mfotl_model.specs.declared.value.Value.{Value}
-use Rattle.mfotl_model.specs.Matching.{first_value, is_match, read_off, reads}
-use Rattle.mfotl_model.specs.AtomSteps.{give_back, is_first, stands_for}
+use Rattle.mfotl_model.proofs.{MatchingLemmas.first_more, RowLemmas.row_exact}
+use Rattle.mfotl_model.specs.{FreeVariables.among, FreeVariables.variable_in, Satisfaction.term_value, Values.row_cmp}
+use Rattle.mfotl_model.specs.{Values.value_cmp, AtomSteps.give_back, AtomSteps.stands_for}
+use Rattle.mfotl_model.specs.declared.{event.Event.Event, term.Atom.Atom as OneAtom, term.Term.Term}
+use Rattle.mfotl_model.specs.declared.{term.Term.TheVariants.Var, term.Term.TheVariants.Const, value.Value.Value}
+use Rattle.mfotl_model.specs.Matching.{first_value, is_match, read_off}
 
 pub or_second : (a b : Bool) → a ≡ false → (a || b) ≡ true → b ≡ true
-or_second false b e h = h
-or_second true b e h = cc
+or_second a b e h = cc
 
 pub eqb_turned : (x y : ℕ) → nat_eq x y ≡ nat_eq y x
-eqb_turned x y = elim (cases_eq x y) [
-  | inl e ↦ eq-eqb x y e ∙ sym (eq-eqb y x (sym e))
-  | inr ne ↦ ne_eqb x y ne ∙ sym (ne_eqb y x (λ e. ne (sym e)))
-]
+eqb_turned x y = grind arith
 
 -- each variable of the terms has a first value, where there are as many values
 pub has_first : (terms : List Term) (values : List Value) (y : ℕ) → length terms ≡ length values
@@ -55,14 +39,7 @@ has_first (Const c ∷ terms) (a ∷ values) y same h =
 own : (terms : List Term) (values : List Value) (t : Term) (a : Value)
     → ((y : ℕ) → among y (variable_in t) ≡ true → is_some (first_value terms values y) ≡ true)
     → stands_for terms values t a ≡ eq_by_cmp value_cmp (term_value (read_off terms values) t) a
-own terms values (Var x) a has =
-    by (first_value terms values x) (has x (or_left (nat_eq x x) false (same_number x)))
-  where
-    by : (o : Option Value) → is_some o ≡ true
-        → is_first o a ≡ eq_by_cmp value_cmp (unwrap_or o (Int (pos 0))) a
-    by (Some b) some = refl
-    by None some = cc
-own terms values (Const c) a has = refl
+own terms values t a has = grind arith
 
 -- values are equal one by one
 compared : (terms : List Term) (values : List Value) (ts : List Term) (vs : List Value)
@@ -75,8 +52,7 @@ compared terms values [] (a ∷ vs) same has = absurd (omega arith)
 compared terms values (t ∷ ts) [] same has = absurd (omega arith)
 compared terms values (t ∷ ts) (a ∷ vs) same has =
     let split : (y : ℕ) → among y (flat_map variable_in (t ∷ ts))
-    ≡ (among y (variable_in t) || among y (flat_map variable_in ts)) =
-    λ y. list_any-append (nat_eq y) (variable_in t) (flat_map variable_in ts) in
+    ≡ (among y (variable_in t) || among y (flat_map variable_in ts)) = search (list_any-append) in
     ap₂ (λ b c. b && c)
     (own terms values t a (λ y h. has y
     (split y ∙ or_left (among y (variable_in t)) (among y (flat_map variable_in ts)) h)))
@@ -89,8 +65,7 @@ compared terms values (t ∷ ts) (a ∷ vs) same has =
 pub gives_back : (terms : List Term) (values : List Value) → length terms ≡ length values
     → give_back terms values ≡ list_all (λ p. stands_for terms values p.0 p.1) (zip terms values)
 unfolding give_back
-gives_back terms values same =
-    sym (compared terms values terms values same (λ y h. has_first terms values y same h))
+gives_back terms values same = simp (compared, has_first)
 
 pub gives_none_back : (terms : List Term) (values : List Value) → length terms ≢ length values
     → give_back terms values ≡ false
@@ -107,16 +82,11 @@ gives_none_back terms values apart = by (give_back terms values) refl
 match_parts : (atom : OneAtom) (event : Event)
     → is_match atom event ≡ (nat_eq atom.pred event.pred && give_back atom.args event.args)
 unfolding is_match give_back
-match_parts atom event =
-    let args = map (term_value (reads atom event)) atom.args in
-    sym (tied_then (nat_cmp atom.pred event.pred) (row_cmp args event.args))
-    ∙ ap (λ b. b && eq_by_cmp row_cmp args event.args) (unsigned_tied atom.pred event.pred)
+match_parts atom event = grind arith
 
 pub match_by_terms : (atom : OneAtom) (event : Event) → atom.pred ≡ event.pred
     → is_match atom event ≡ give_back atom.args event.args
-match_by_terms atom event same =
-    match_parts atom event ∙ ap (λ b. b && give_back atom.args event.args) (eq-eqb atom.pred event.pred same)
+match_by_terms atom event same = cc (match_parts atom event, eq-eqb atom.pred event.pred same)
 
 pub match_by_pred : (atom : OneAtom) (event : Event) → atom.pred ≢ event.pred → is_match atom event ≡ false
-match_by_pred atom event apart =
-    match_parts atom event ∙ ap (λ b. b && give_back atom.args event.args) (ne_eqb atom.pred event.pred apart)
+match_by_pred atom event apart = cc (match_parts atom event, ne_eqb atom.pred event.pred apart)

@@ -1,15 +1,12 @@
 -- Lists of columns that differ, and rows read through them.
 use Rattle.std.proofs.Common.{◌≡◌, ℕ, Bool, true, false, not, ◌||◌, cond, nat_eq, List, [], ◌∷◌, ◌++◌, length, map}
 use Rattle.std.proofs.Common.{refl, sym, ap, ap₂, ◌∙◌, arith}
-use Rattle.std.proofs.lemmas.Bool.{and_parts, and_from, or_left, or_right, not-true, cond-true, cond-false}
-use Rattle.std.proofs.lemmas.Bool.{eqb-true, ne_eqb}
-use Rattle.std.proofs.lemmas.List.Folds.{list_any-append}
-use Rattle.std.proofs.lemmas.Map.Views.{any-filter_same}
+use Rattle.std.proofs.lemmas.Bool.{and_parts, and_from, or_left, or_right, not-true, cond-true, cond-false, eqb-true}
+use Rattle.std.proofs.{lemmas.List.Folds.list_any-append, lemmas.Map.Views.any-filter_same}
 use Rattle.std.specs.List.{filter}
 use Rattle.mfotl_model.proofs.LogicLemmas.{same_number}
 use Rattle.mfotl_model.specs.FreeVariables.{among, distinct, joined}
-use Rattle.mfotl_model.specs.Satisfaction.{Valuation}
-use Rattle.mfotl_model.specs.Tables.{all_apart, valuation}
+use Rattle.mfotl_model.specs.{Satisfaction.Valuation, Tables.all_apart, Tables.valuation}
 use Rattle.mfotl_model.specs.declared.value.Value.{Value}
 
 -- ---- columns that differ
@@ -56,8 +53,7 @@ distinct_apart (x ∷ xs) = joined_apart (x ∷ []) (distinct xs) refl (distinct
 
 -- a variable that is among the columns is another than one that isn't
 other : (x y : ℕ) (columns : List ℕ) → among y columns ≡ true → among x columns ≡ false → nat_eq y x ≡ false
-other x y columns m out =
-    ne_eqb y x (λ e. absurd (let f : false ≡ true = sym out ∙ ap (λ z. among z columns) (sym e) ∙ m in cc))
+other x y columns m out = grind arith
 
 -- the values of the columns hang on the columns' variables alone
 pub same_columns : (v w : Valuation) (columns : List ℕ) → ((y : ℕ) → among y columns ≡ true → v y ≡ w y)
@@ -85,11 +81,4 @@ row_kept (x ∷ columns) (a ∷ row) apart same =
 pub read_own : (v : Valuation) (columns : List ℕ) (y : ℕ) → among y columns ≡ true
     → valuation columns (map v columns) y ≡ v y
 read_own v [] y m = cc
-read_own v (x ∷ columns) y m = by (nat_eq y x) refl (read_own v columns y)
-  where
-    by : (b : Bool) → nat_eq y x ≡ b → (among y columns ≡ true → valuation columns (map v columns) y ≡ v y)
-        → valuation (x ∷ columns) (map v (x ∷ columns)) y ≡ v y
-    by true e rest = cond-true (nat_eq y x) (v x) (valuation columns (map v columns) y) e ∙ ap v (sym (eqb-true y x e))
-    by false e rest =
-        cond-false (nat_eq y x) (v x) (valuation columns (map v columns) y) e
-        ∙ rest (sym (ap (λ b. b || among y columns) e) ∙ m)
+read_own v (x ∷ columns) y m = grind (arith, cond-true, eqb-true, cond-false, read_own v columns y)

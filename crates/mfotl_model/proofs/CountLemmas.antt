@@ -1,23 +1,16 @@
 -- How many positions are settled.
-use Rattle.std.proofs.Common.{◌≡◌, ℕ, zero, suc, ◌+◌, ◌<◌, ◌≤◌, Bool, true, false, cond, length, refl, ap, ◌∙◌, inl, []}
-use Rattle.std.proofs.Common.{inr, arith, ◌∷◌, sym, add-one}
-use Rattle.std.proofs.lemmas.Bool.{cases_lt}
+use Rattle.std.proofs.Common.{◌≡◌, ℕ, zero, suc, ◌+◌, ◌<◌, ◌≤◌, Bool, true, false, cond, length, refl, ap, ◌∙◌, []}
+use Rattle.std.proofs.Common.{arith, ◌∷◌, sym, add-one}
 use Rattle.std.proofs.lemmas.List.Sums.{take_while-cons}
 use Rattle.std.specs.List.{range_with_len, take_while}
-use Rattle.mfotl_model.specs.Counts.{passing, settled_count}
-use Rattle.mfotl_model.specs.Laws.{CountedSettled, NextUnsettled}
-use Rattle.mfotl_model.specs.Settled.{settled}
+use Rattle.mfotl_model.specs.{Counts.passing, Counts.settled_count, Laws.CountedSettled, Laws.NextUnsettled}
+use Rattle.mfotl_model.specs.{Settled.settled}
 
 passes_by : (p : ℕ → Bool) (i n : ℕ) (b : Bool) → p i ≡ b → (j : ℕ) → i ≤ j
     → j < i + cond b (passing p (i + 1) n + 1) 0
     → ((j : ℕ) → i + 1 ≤ j → j < i + 1 + passing p (i + 1) n → p j ≡ true)
     → p j ≡ true
-passes_by p i n false e j low high rest = absurd (omega arith)
-passes_by p i n true e j low high rest =
-    elim (cases_lt i j) [
-      | inl later ↦ rest j (omega arith) (omega arith)
-      | inr same ↦ let at : j ≡ i = omega arith in ap p at ∙ e
-    ]
+passes_by p i n b e j low high rest = grind arith
 
 -- the numbers that are counted pass
 pub counted_pass : (p : ℕ → Bool) (i n j : ℕ) → i ≤ j → j < i + passing p i n → p j ≡ true
@@ -27,10 +20,7 @@ counted_pass p i (suc n) j low high = passes_by p i n (p i) refl j low high (cou
 stops_by : (p : ℕ → Bool) (i n : ℕ) (b : Bool) → p i ≡ b → cond b (passing p (i + 1) n + 1) 0 < suc n
     → (passing p (i + 1) n < n → p (i + 1 + passing p (i + 1) n) ≡ false)
     → p (i + cond b (passing p (i + 1) n + 1) 0) ≡ false
-stops_by p i n false e less rest = let at : i + 0 ≡ i = omega arith in ap p at ∙ e
-stops_by p i n true e less rest =
-    let at : i + (passing p (i + 1) n + 1) ≡ i + 1 + passing p (i + 1) n = omega arith in
-    ap p at ∙ rest (omega arith)
+stops_by p i n b e less rest = grind arith
 
 -- the number behind them doesn't
 pub count_stops : (p : ℕ → Bool) (i n : ℕ) → passing p i n < n → p (i + passing p i n) ≡ false
@@ -43,10 +33,7 @@ counted_settled times f j low = counted_pass (settled times f) 0 (length times) 
 
 pub next_unsettled : NextUnsettled
 unfolding settled_count
-next_unsettled times f less =
-    let count : ℕ = passing (settled times f) 0 (length times) in
-    let at : count ≡ 0 + count = omega arith in
-    ap (settled times f) at ∙ count_stops (settled times f) 0 (length times) less
+next_unsettled times f less = grind (arith, count_stops)
 
 taken_by : (p : ℕ → Bool) (i n : ℕ) (b : Bool)
     → take_while p (range_with_len (i + 1) n) ≡ range_with_len (i + 1) (passing p (i + 1) n)
@@ -58,5 +45,4 @@ taken_by p i n false rest = refl
 -- the numbers before the first that fails the test
 pub passing_taken : (p : ℕ → Bool) (i n : ℕ) → take_while p (range_with_len i n) ≡ range_with_len i (passing p i n)
 passing_taken p i zero = refl
-passing_taken p i (suc n) =
-    take_while-cons p i (range_with_len (i + 1) n) ∙ taken_by p i n (p i) (passing_taken p (i + 1) n)
+passing_taken p i (suc n) = grind (arith, take_while-cons, taken_by, passing_taken p (i + 1) n)

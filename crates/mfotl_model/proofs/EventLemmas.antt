@@ -1,9 +1,8 @@
 -- Databases that keep their events by predicate.
 use Rattle.std.proofs.Common.{◌≡◌, ℕ, Bool, List, [], ◌∷◌, ◌++◌, sym}
 use Rattle.std.proofs.lemmas.List.Sorted.{IsPermutation-insert}
-use Rattle.std.specs.BTreeSet.{insert_key}
+use Rattle.std.specs.{BTreeSet.insert_key, List.Sorted.IsPermutation}
 use Rattle.std.specs.List.{filter, insert, list_any}
-use Rattle.std.specs.List.Sorted.{IsPermutation}
 use Rattle.mfotl_model.proofs.AscendingLemmas.{any_ascending, filter_ascending, insert_behind, moved_ascending}
 use Rattle.mfotl_model.proofs.RowLemmas.{event_exact}
 use Rattle.mfotl_model.specs.Ascending.{ascending}

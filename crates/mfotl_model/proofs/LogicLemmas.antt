@@ -1,11 +1,10 @@
 -- What the laws of the logic share: functions that agree, tests, ranges of positions, lists of variables.
 use Rattle.std.proofs.Common.{◌≡◌, ℕ, zero, suc, ◌+◌, ◌<◌, ◌≤◌, Bool, true, false, not, ◌&&◌, ◌||◌, nat_eq, List, cond}
-use Rattle.std.proofs.Common.{[], ◌∷◌, ◌++◌, map, refl, sym, ap, ap₂, ◌∙◌, inl, inr, arith, zero-add, add-zero}
-use Rattle.std.proofs.Common.{suc-add, map-id}
+use Rattle.std.proofs.Common.{[], ◌∷◌, ◌++◌, map, refl, sym, ap, ap₂, ◌∙◌, inl, inr, arith, zero-add, add-zero, suc-add}
+use Rattle.std.proofs.Common.{map-id}
 use Rattle.std.proofs.lemmas.Bool.{or_left, or_right, or_cases, and_parts, and_from, eq-eqb, eqb-true, cases_eq}
-use Rattle.std.proofs.lemmas.List.Folds.{list_any-append}
-use Rattle.std.proofs.lemmas.List.FromFn.{get_or-map-range_with_len, map-range_with_len_more}
-use Rattle.std.proofs.lemmas.Map.Views.{any-filter_same}
+use Rattle.std.proofs.{lemmas.List.Folds.list_any-append, lemmas.List.FromFn.get_or-map-range_with_len}
+use Rattle.std.proofs.{lemmas.List.FromFn.map-range_with_len_more, lemmas.Map.Views.any-filter_same}
 use Rattle.std.specs.List.{list_any, list_all, filter, flat_map, range_with_len}
 use Rattle.mfotl_model.specs.FreeVariables.{among, without, joined, distinct}
 use Rattle.mfotl_model.specs.Satisfaction.{truth_at, truths}
@@ -13,11 +12,6 @@ use Rattle.mfotl_model.specs.Satisfaction.{truth_at, truths}
 -- functions with the same values are the same
 pub funext : {A B : Type 0} (f g : A → B) → ((x : A) → f x ≡ g x) → f ≡ g
 funext f g h = λ i. λ x. h x i
-
--- both operands of an operation may be replaced
-pub on_both : {A B C : Type 0} (op : A → B → C) (a b : A) (x y : B) → a ≡ b → x ≡ y
-    → op a x ≡ op b y
-on_both op a b x y e h = ap (λ c. op c x) e ∙ ap (op b) h
 
 -- tests that agree find alike
 pub any_alike : {X : Type 0} (p q : X → Bool) (xs : List X) → ((x : X) → p x ≡ q x)
@@ -34,20 +28,14 @@ same_number x = eq-eqb x x refl
 
 -- one of three tests moved to the front
 pub or_moved : (a b c : Bool) → (a || (b || c)) ≡ (b || (a || c))
-or_moved true true c = refl
-or_moved true false c = refl
-or_moved false true c = refl
-or_moved false false c = refl
+or_moved a b c = grind arith
 
 pub and_moved : (a b c : Bool) → (a && (b && c)) ≡ (b && (a && c))
-and_moved true b c = refl
-and_moved false true c = refl
-and_moved false false c = refl
+and_moved a b c = grind arith
 
 -- a test that holds adds nothing
 pub with_true : (a b : Bool) → b ≡ true → (a && b) ≡ a
-with_true true b e = e
-with_true false b e = refl
+with_true a b e = grind arith
 
 joined_by : (y : ℕ) (xs ys : List ℕ) (b : Bool) → among y xs ≡ b
     → among y (joined xs ys) ≡ (b || among y ys)
@@ -65,21 +53,15 @@ among_joined y xs ys = joined_by y xs ys (among y xs) refl
 -- the variables without x
 pub among_without : (y x : ℕ) (xs : List ℕ)
     → among y (without x xs) ≡ (not (nat_eq y x) && among y xs)
-among_without y x xs =
-    any-filter_same (nat_eq y) (λ z. not (nat_eq z x)) (not (nat_eq y x))
-    (λ z e. ap (λ w. not (nat_eq w x)) (sym (eqb-true y z e))) xs
+among_without y x xs = grind (arith, any-filter_same, eqb-true)
 
 or_nothing : (a b : Bool) → ((a || false) || b) ≡ (a || b)
-or_nothing true b = refl
-or_nothing false b = refl
+or_nothing a b = grind arith
 
 -- each variable once
 pub among_distinct : (y : ℕ) (xs : List ℕ) → among y (distinct xs) ≡ among y xs
 among_distinct y [] = refl
-among_distinct y (x ∷ xs) =
-    among_joined y (x ∷ []) (distinct xs)
-    ∙ or_nothing (nat_eq y x) (among y (distinct xs))
-    ∙ ap (λ b. nat_eq y x || b) (among_distinct y xs)
+among_distinct y (x ∷ xs) = simp (among_joined, or_nothing, among_distinct y xs)
 
 -- a test that holds at each number of a range holds at one of them
 pub all_in : (p : ℕ → Bool) (a n k : ℕ) → list_all p (range_with_len a n) ≡ true → a ≤ k → k < a + n
@@ -151,9 +133,7 @@ range_suc a n =
 pub range_front : (a m n : ℕ)
     → range_with_len a (m + n) ≡ range_with_len a m ++ range_with_len (a + m) n
 range_front a zero n = rw (zero-add n) (rw (add-zero a) refl)
-range_front a (suc m) n =
-    rw (suc-add m n) (ap (λ xs. a ∷ xs)
-    (range_front (a + 1) m n ∙ ap (λ b. range_with_len (a + 1) m ++ range_with_len b n) (omega arith)))
+range_front a (suc m) n = grind (arith, suc-add m n, range_front (a + 1) m n)
 
 -- the numbers of a range are among it
 pub among_range : (a n y : ℕ) → a ≤ y → y < a + n → among y (range_with_len a n) ≡ true
@@ -184,19 +164,13 @@ any_map p f (x ∷ xs) = ap (λ b. p (f x) || b) (any_map p f xs)
 pub any_flat_map : {X Y : Type 0} (p : Y → Bool) (f : X → List Y) (xs : List X)
     → list_any p (flat_map f xs) ≡ list_any (λ x. list_any p (f x)) xs
 any_flat_map p f [] = refl
-any_flat_map p f (x ∷ xs) =
-    list_any-append p (f x) (flat_map f xs) ∙ ap (λ b. list_any p (f x) || b) (any_flat_map p f xs)
+any_flat_map p f (x ∷ xs) = cc (list_any-append p (f x) (flat_map f xs), any_flat_map p f xs)
 
 -- what is found among what a filter keeps
 pub any_filter : {X : Type 0} (test p : X → Bool) (xs : List X)
     → list_any test (filter p xs) ≡ list_any (λ x. p x && test x) xs
 any_filter test p [] = refl
-any_filter test p (x ∷ xs) = step (p x) ∙ ap (λ t. (p x && test x) || t) (any_filter test p xs)
-  where
-    step : (b : Bool) → list_any test (cond b (x ∷ filter p xs) (filter p xs))
-        ≡ ((b && test x) || list_any test (filter p xs))
-    step true = refl
-    step false = refl
+any_filter test p (x ∷ xs) = grind (arith, any_filter test p xs)
 
 -- what is found in what a filter keeps is found in the whole
 pub filtered_found : {X : Type 0} (p q : X → Bool) (xs : List X) → list_any q (filter p xs) ≡ true
@@ -216,14 +190,8 @@ filtered_found p q (x ∷ xs) h = at (p x) h (filtered_found p q xs)
 -- a test holds of all where its negation finds nothing
 pub all_any : {X : Type 0} (p : X → Bool) (xs : List X) → list_all p xs ≡ not (list_any (λ x. not (p x)) xs)
 all_any p [] = refl
-all_any p (x ∷ xs) = ap (λ b. p x && b) (all_any p xs) ∙ at (p x) (list_any (λ x. not (p x)) xs)
-  where
-    at : (b c : Bool) → (b && not c) ≡ not (not b || c)
-    at true c = refl
-    at false c = refl
+all_any p (x ∷ xs) = grind (arith, all_any p xs)
 
 -- a test that implies the other
 pub absorbed : (b c : Bool) → (c ≡ true → b ≡ true) → (b && c) ≡ c
-absorbed true c h = refl
-absorbed false true h = h refl
-absorbed false false h = refl
+absorbed b c h = grind arith

@@ -37,7 +37,5 @@ every_there n ks apart below size k low = by (list_any (nat_eq k) ks) refl
     by : (b : Bool) → list_any (nat_eq k) ks ≡ b → b ≡ true
     by true e = refl
     by false e =
-        let most : length (k ∷ ks) ≤ n =
-        length-le_from_distinct_below (k ∷ ks) n (not_among k ks e, distinct ks apart) (is_below n (k ∷ ks)
-        (low, below)) in
+        let most : length (k ∷ ks) ≤ n = search (length-le_from_distinct_below, not_among, distinct, is_below) in
         absurd (omega arith)

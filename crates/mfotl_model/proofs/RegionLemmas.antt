@@ -1,26 +1,20 @@
 -- Regions of workers, and what their slices see.
-use Rattle.std.proofs.Common.{◌≡◌, ◌∙◌, ap, sym, refl, arith, ℕ, ◌+◌, ◌<◌, ◌≤◌, ◌/◌, ◌%◌, Bool, true, false, not}
-use Rattle.std.proofs.Common.{◌||◌, nat_eq, List, [], ◌∷◌, ◌++◌, length}
+use Rattle.std.proofs.Common.{◌≡◌, ◌∙◌, ap, sym, refl, arith, ℕ, ◌+◌, ◌<◌, ◌≤◌, ◌/◌, ◌%◌, Bool, true, false, not, ◌||◌}
+use Rattle.std.proofs.Common.{nat_eq, List, [], ◌∷◌, ◌++◌, length}
 use Rattle.std.proofs.lemmas.Bool.{and_parts, and_from, or_left, or_right}
-use Rattle.std.proofs.lemmas.Cmp.{tied_itself}
-use Rattle.std.proofs.lemmas.List.Folds.{list_any-append}
-use Rattle.std.proofs.lemmas.Map.Views.{any-filter_same, tells_apart}
-use Rattle.std.specs.List.{flat_map, list_any}
-use Rattle.std.specs.Ordering.{eq_by_cmp, is_eq}
-use Rattle.mfotl_model.proofs.LogicLemmas.{among_distinct}
-use Rattle.mfotl_model.proofs.MatchingLemmas.{reads_own, same_event_of}
-use Rattle.mfotl_model.proofs.RowLemmas.{event_exact}
-use Rattle.mfotl_model.specs.Events.{event_cmp, event_total}
+use Rattle.std.proofs.{lemmas.Cmp.tied_itself, lemmas.List.Folds.list_any-append, lemmas.Map.Views.any-filter_same}
+use Rattle.std.proofs.{lemmas.Map.Views.tells_apart}
+use Rattle.std.specs.{List.flat_map, List.list_any, Ordering.eq_by_cmp, Ordering.is_eq}
+use Rattle.mfotl_model.proofs.{LogicLemmas.among_distinct, MatchingLemmas.reads_own, MatchingLemmas.same_event_of}
+use Rattle.mfotl_model.proofs.{RowLemmas.event_exact}
+use Rattle.mfotl_model.specs.{Events.event_cmp, Events.event_total, Matching.is_match, Matching.reads, Slices.sees}
+use Rattle.mfotl_model.specs.{Slices.slice}
 use Rattle.mfotl_model.specs.FreeVariables.{among, variable_in, variables_in}
 use Rattle.mfotl_model.specs.Laws.{BothPass, EverywherePasses, SliceSees, StrategyPasses}
-use Rattle.mfotl_model.specs.Matching.{is_match, reads}
 use Rattle.mfotl_model.specs.Regions.{Passes, Region, near_from}
 use Rattle.mfotl_model.specs.Satisfaction.{Valuation, event_of, has_event}
-use Rattle.mfotl_model.specs.Slices.{sees, slice}
 use Rattle.mfotl_model.specs.Strategies.{Strategy, strategy_part, workers_of}
-use Rattle.mfotl_model.specs.declared.value.Value.{Value}
-use Rattle.mfotl_model.specs.declared.event.Event.{Event}
-use Rattle.mfotl_model.specs.declared.term.Atom.{Atom as OneAtom}
+use Rattle.mfotl_model.specs.declared.{value.Value.Value, event.Event.Event, term.Atom.Atom as OneAtom}
 
 -- a part is kept where the row binds no more variables, and those alike
 has_part : (bound binds a b : Bool) → (binds ≡ true → (bound ≡ true) × (a ≡ b))

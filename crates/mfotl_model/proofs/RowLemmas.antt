@@ -8,7 +8,7 @@ use Rattle.std.proofs.lemmas.Cmp.{tied_itself}
 use Rattle.std.specs.List.{list_any, list_all}
 use Rattle.std.specs.Ordering.{eq_by_cmp, is_eq, ordering_then, nat_cmp}
 use Rattle.std.specs.declared.cmp.Ordering.{Ordering}
-use Rattle.std.specs.declared.cmp.Ordering.TheVariants.{Less, Equal, Greater}
+use Rattle.std.specs.declared.cmp.Ordering.TheVariants.{Equal}
 use Rattle.std.specs.Cmp.{tied_then}
 use Rattle.mfotl_model.specs.Domains.{in_domain}
 use Rattle.mfotl_model.specs.Events.{event_cmp}
@@ -18,18 +18,15 @@ use Rattle.mfotl_model.specs.Violations.{all_rows}
 use Rattle.mfotl_model.specs.declared.event.Event.{Event}
 use Rattle.mfotl_model.specs.declared.value.Value.{Value}
 use Rattle.mfotl_model.proofs.LogicLemmas.{any_alike, any_map, any_flat_map, and_moved}
+use Rattle.std.proofs.Common.{arith}
 
 -- the first of two orders, where both together find no difference
 first_equal : (a b : Ordering) → ordering_then a b ≡ Equal → a ≡ Equal
-first_equal Less b h = h
-first_equal Equal b h = refl
-first_equal Greater b h = h
+first_equal a b h = grind arith
 
 -- the second
 second_equal : (a b : Ordering) → ordering_then a b ≡ Equal → b ≡ Equal
-second_equal Less b h = cc
-second_equal Equal b h = h
-second_equal Greater b h = cc
+second_equal a b h = grind arith
 
 same_event : (a b : Event) → a.pred ≡ b.pred → a.args ≡ b.args → a ≡ b
 same_event a b pred args = λ i. record { pred = pred i; args = args i }
@@ -56,22 +53,14 @@ any_and false p xs = any_none xs
 -- a test beside one that is the same for all
 pub any_and_last : {X : Type 0} (b : Bool) (p : X → Bool) (xs : List X)
     → list_any (λ x. p x && b) xs ≡ (list_any p xs && b)
-any_and_last b p xs =
-    any_alike (λ x. p x && b) (λ x. b && p x) xs (λ x. and_comm (p x) b)
-    ∙ any_and b p xs
-    ∙ and_comm b (list_any p xs)
+any_and_last b p xs = simp (any_alike, and_comm, any_and)
 
 -- a row is among the rows of n values of a domain exactly if it has n values, each in the domain
 pub member_all_rows : (n : ℕ) (dom : List Value) (q : List Value)
     → list_any (eq_by_cmp row_cmp q) (all_rows n dom) ≡ (nat_eq (length q) n && list_all (in_domain dom) q)
 member_all_rows zero dom [] = refl
 member_all_rows zero dom (b ∷ s) = sym (ap (λ t. t && list_all (in_domain dom) (b ∷ s)) (eqb-suc-zero (length s)))
-member_all_rows (suc n) dom [] =
-    any_flat_map (eq_by_cmp row_cmp []) (λ a. map (λ row. a ∷ row) (all_rows n dom)) dom
-    ∙ any_alike (λ a. list_any (eq_by_cmp row_cmp []) (map (λ row. a ∷ row) (all_rows n dom))) (λ a. false) dom
-    (λ a. any_map (eq_by_cmp row_cmp []) (λ row. a ∷ row) (all_rows n dom) ∙ any_none (all_rows n dom))
-    ∙ any_none dom
-    ∙ sym (ap (λ t. t && true) (eqb-zero-suc n))
+member_all_rows (suc n) dom [] = simp (any_flat_map, any_alike, any_map, any_none, eqb-zero-suc)
 member_all_rows (suc n) dom (b ∷ s) =
     any_flat_map (eq_by_cmp row_cmp (b ∷ s)) (λ a. map (λ row. a ∷ row) (all_rows n dom)) dom
     ∙ any_alike (λ a. list_any (eq_by_cmp row_cmp (b ∷ s)) (map (λ row. a ∷ row) (all_rows n dom)))

@@ -1,11 +1,10 @@
 -- Texts compare as the numbers that eight bytes of each spell, and then as the bytes behind.
 use Rattle.std.proofs.Common.{◌≡◌, ℕ, zero, suc, ◌+◌, ◌*◌, ◌<◌, ◌≤◌, List, [], ◌∷◌, length, take, drop, get_or, sym, ap}
-use Rattle.std.proofs.Common.{◌∙◌, refl, subst, get_or-drop, arith, Fits, w8, w64, cond, ◌==◌, lt-ltb, nat_cmp}
-use Rattle.std.proofs.Common.{Ordering, Less, Equal, Greater}
+use Rattle.std.proofs.Common.{◌∙◌, refl, get_or-drop, arith, Fits, w8, w64, cond, ◌==◌, lt-ltb, nat_cmp, Ordering, Less}
+use Rattle.std.proofs.Common.{Equal, Greater}
 use Rattle.std.specs.Cmp.{ranks, nat_cmp_total, tied_itself}
-use Rattle.std.specs.Int.{from_be_bytes}
+use Rattle.std.specs.{Int.from_be_bytes, Slice.Scan.big_endian}
 use Rattle.std.specs.Ordering.{MatchOrdering, ordering_reverse, ordering_then}
-use Rattle.std.specs.Slice.Scan.{big_endian}
 use Rattle.mfotl_model.specs.Values.{text_cmp}
 
 abbrev pub Bytes : List ℕ → Type 0
@@ -33,11 +32,7 @@ module _ (a b x y : ℕ) (rest : Ordering) where
 
   by : (r s : Ordering) → MatchOrdering r (a < b) (a ≡ b) (b < a) → MatchOrdering s (x < y) (x ≡ y) (y < x)
       → x < 256 → y < 256 → After (ordering_then r (ordering_then s rest))
-  by Less s l m p q = let front : a < b = l in low (omega arith)
-  by Greater s l m p q = let front : b < a = l in high (omega arith)
-  by Equal Less l m p q = let (front, last) : (a ≡ b) × (x < y) = (l, m) in low (omega arith)
-  by Equal Greater l m p q = let (front, last) : (a ≡ b) × (y < x) = (l, m) in high (omega arith)
-  by Equal Equal l m p q = let (front, last) : (a ≡ b) × (x ≡ y) = (l, m) in level (omega arith)
+  by r s l m p q = grind arith
 
   digit : x < 256 → y < 256 → After (ordering_then (nat_cmp a b) (ordering_then (nat_cmp x y) rest))
   digit = by (nat_cmp a b) (nat_cmp x y) (ranks a b) (ranks x y)
@@ -54,18 +49,7 @@ by_number (suc n) a b (x ∷ xs) (y ∷ ys) p q g h =
 
 -- eight bytes spell the number that is read from them
 spelt : (xs : List ℕ) → 8 ≤ length xs → from_be_bytes w64 (take 8 xs) ≡ big_endian 0 (take 8 xs)
-spelt (a ∷ b ∷ c ∷ d ∷ e ∷ f ∷ g ∷ h ∷ xs) le =
-    let sum : a * 72057594037927936 + b * 281474976710656 + c * 1099511627776 + d * 4294967296 + e * 16777216
-    + f * 65536 + g * 256 + h ≡ big_endian 0 (a ∷ b ∷ c ∷ d ∷ e ∷ f ∷ g ∷ h ∷ []) = omega arith in
-    sum
-spelt [] le = absurd (omega arith)
-spelt (a ∷ []) le = absurd (omega arith)
-spelt (a ∷ b ∷ []) le = absurd (omega arith)
-spelt (a ∷ b ∷ c ∷ []) le = absurd (omega arith)
-spelt (a ∷ b ∷ c ∷ d ∷ []) le = absurd (omega arith)
-spelt (a ∷ b ∷ c ∷ d ∷ e ∷ []) le = absurd (omega arith)
-spelt (a ∷ b ∷ c ∷ d ∷ e ∷ f ∷ []) le = absurd (omega arith)
-spelt (a ∷ b ∷ c ∷ d ∷ e ∷ f ∷ g ∷ []) le = absurd (omega arith)
+spelt xs le = grind arith
 
 -- the eight bytes in front of xs, and those behind
 abbrev pub Cut : List ℕ → List ℕ → List ℕ → Type 0
@@ -84,11 +68,8 @@ first_eight xs ys front rest other more a b g h r e =
     ∙ sym (ap (λ s. ordering_then s (text_cmp rest more)) e)
 
 pub bytes_behind : (xs front rest : List ℕ) → Cut xs front rest → Bytes xs → Bytes rest
-bytes_behind xs front rest a g k =
-    subst (λ zs. Fits w8 (get_or zs k 0)) (sym a.1) (subst (Fits w8) (sym (get_or-drop 8 xs k 0)) (g (8 + k)))
+bytes_behind xs front rest a g k = grind (arith, w8, get_or-drop 8 xs k 0)
 
 -- an order that isn't equality stands, whatever follows
 pub stands : (r s : Ordering) → (r ≡ Equal → ⊥) → ordering_then r s ≡ r
-stands Less s n = refl
-stands Equal s n = absurd (n refl)
-stands Greater s n = refl
+stands r s n = grind arith

@@ -1,5 +1,5 @@
-use Rattle.std.proofs.Common.{nat_lt, rules}
-use Rattle.std.proofs.lemmas.List.Sorted.{IsPartitionPoint-from_clause, IsPartitionedBy-ltb}
+use Rattle.std.proofs.{Common.nat_lt, Common.rules, lemmas.List.Sorted.IsPartitionPoint-from_clause}
+use Rattle.std.proofs.{lemmas.List.Sorted.IsPartitionedBy-ltb}
 use Rattle.mfotl_model.specs.declared.event.Event.{Event}
 use Rattle.mfotl_model.proofs.event.count_below.Goals as goal
 

@@ -1,5 +1,5 @@
-use Rattle.std.proofs.Common.{nat_le, rules}
-use Rattle.std.proofs.lemmas.List.Sorted.{IsPartitionPoint-from_clause, IsPartitionedBy-leb}
+use Rattle.std.proofs.{Common.nat_le, Common.rules, lemmas.List.Sorted.IsPartitionPoint-from_clause}
+use Rattle.std.proofs.{lemmas.List.Sorted.IsPartitionedBy-leb}
 use Rattle.mfotl_model.proofs.RunLemmas.{all_up_to}
 use Rattle.mfotl_model.specs.declared.event.Event.{Event}
 use Rattle.mfotl_model.proofs.event.count_up_to.Goals as goal

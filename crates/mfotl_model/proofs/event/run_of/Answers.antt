@@ -14,7 +14,4 @@ slice_bounds-result-count c =
     c.count_below-start.ensures.parted c.count_up_to-end.ensures.parted
 
 pub returns : goal.returns
-returns c =
-    run_is c.args.pred c.args.events.now c.count_below-start.result c.count_up_to-end.result
-    c.count_below-start.ensures.within c.count_up_to-end.ensures.within
-    c.count_below-start.ensures.parted c.count_up_to-end.ensures.parted
+returns c = search (run_is)

@@ -1,5 +1,4 @@
-use Rattle.std.proofs.Common.{nat_le, rules}
-use Rattle.std.proofs.lemmas.Fn.{always_returns_same}
+use Rattle.std.proofs.{Common.nat_le, Common.rules, lemmas.Fn.always_returns_same}
 use Rattle.mfotl_model.proofs.RunLemmas.{tested_by_pred}
 use Rattle.mfotl_model.specs.declared.event.Event.{Event}
 use Rattle.mfotl_model.proofs.event.stand_by_pred.Goals as goal

@@ -1,7 +1,6 @@
 use Rattle.std.proofs.Common.{refl}
 use Rattle.std.specs.Fmt.{digits}
-use Rattle.mfotl_model.specs.ActiveDomain.{constants}
-use Rattle.mfotl_model.specs.FreeVariables.{fv}
+use Rattle.mfotl_model.specs.{ActiveDomain.constants, FreeVariables.fv}
 use Rattle.mfotl_model.specs.Satisfaction.{next, previous, sat, since, until}
 use Rattle.mfotl_model.specs.Settled.{next_settled, previous_settled, settled, since_settled, until_settled}
 use Rattle.mfotl_model.proofs.examples.worked_texts.Goals as goal

@@ -1,6 +1,5 @@
 use Rattle.std.proofs.Common.{refl}
-use Rattle.mfotl_model.specs.ActiveDomain.{constants}
-use Rattle.mfotl_model.specs.FreeVariables.{fv}
+use Rattle.mfotl_model.specs.{ActiveDomain.constants, FreeVariables.fv}
 use Rattle.mfotl_model.proofs.examples.worked_variables.Goals as goal
 
 pub returns-clause-free_variables : goal.returns-clause-free_variables

@@ -1,5 +1,4 @@
-use Rattle.std.proofs.Common.{rules}
-use Rattle.std.proofs.lemmas.Fn.{always_returns_same}
+use Rattle.std.proofs.{Common.rules, lemmas.Fn.always_returns_same}
 use Rattle.std.specs.Ordering.{is_lt}
 use Rattle.mfotl_model.proofs.SortedLemmas.{rows_below_next}
 use Rattle.mfotl_model.specs.Values.{row_cmp}

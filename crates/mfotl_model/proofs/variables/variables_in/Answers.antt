@@ -1,12 +1,9 @@
-use Rattle.std.proofs.Common.{ap, ◌∙◌}
-use Rattle.mfotl_model.specs.FreeVariables.{joined, variables_in}
+use Rattle.mfotl_model.specs.FreeVariables.{variables_in}
 use Rattle.mfotl_model.proofs.variables.variables_in.Goals as goal
 use Rattle.mfotl_model.proofs.VariableLemmas.{variables_step, joined_none}
 
 pub loop-term-init : goal.loop-term-init
-loop-term-init c =
-    ap (λ v. joined v (variables_in c.args.terms.now)) c.new-vars.ensures.items
-    ∙ joined_none (variables_in c.args.terms.now)
+loop-term-init c = cc (joined_none (variables_in c.args.terms.now))
 
 pub loop-term-preserved : goal.loop-term-preserved
 loop-term-preserved c =

@@ -1,6 +1,5 @@
-use Rattle.std.proofs.Common.{◌≡◌, ◌+◌, ◌-◌, ◌++◌, drop, ap, arith, rules, to_z-of_z}
-use Rattle.std.proofs.lemmas.Fmt.{length-decimal-le}
-use Rattle.std.proofs.lemmas.List.{drop-set}
+use Rattle.std.proofs.Common.{◌≡◌, ◌+◌, ◌-◌, arith, rules, to_z-of_z}
+use Rattle.std.proofs.{lemmas.Fmt.length-decimal-le, lemmas.List.drop-set, lemmas.Grind.common_steps}
 use Rattle.itoa.proofs.Decimal.{minus_first}
 use Rattle.mfotl_model.proofs.verdict_text.put_integer.Goals as goal
 
@@ -32,6 +31,4 @@ returns-clause-written c =
     let long = length-decimal-le 19 c.unsigned_abs.result (omega arith) (omega arith) (omega arith) in
     let e : w.result - 1 + 1 ≡ w.result = omega arith in
     let back = to_z-of_z c.ranges.number in
-    rw (drop-set w.new.buf (w.result - 1) 45 (omega arith), e, w.ensures.written, c.unsigned_abs.ensures.value, back)
-    (ap (λ digits. digits ++ drop c.args.end c.args.room.now)
-    (minus_first c.args.number (rw back at c.if-number-ge0.false)))
+    grind (arith, common_steps, drop-set, minus_first)

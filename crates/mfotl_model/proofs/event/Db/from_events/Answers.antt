@@ -1,5 +1,4 @@
-use Rattle.mfotl_model.proofs.EventLemmas.{events_moved}
-use Rattle.mfotl_model.proofs.RunLemmas.{sorted_by_pred}
+use Rattle.mfotl_model.proofs.{EventLemmas.events_moved, RunLemmas.sorted_by_pred}
 use Rattle.mfotl_model.proofs.event.Db.from_events.Goals as goal
 
 pub invariant_of-result-2 : goal.invariant_of-result-2

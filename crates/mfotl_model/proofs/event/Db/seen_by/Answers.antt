@@ -1,10 +1,7 @@
-use Rattle.std.proofs.Common.{◌∙◌, ap, sym, subst, filter, rules, tests}
-use Rattle.std.proofs.lemmas.Fn.{filter_same}
-use Rattle.std.proofs.lemmas.List.Kept.{IsNonDecreasingBy-filter}
+use Rattle.std.proofs.Common.{sym, subst, rules, tests}
+use Rattle.std.proofs.{lemmas.Fn.filter_same, lemmas.List.Kept.IsNonDecreasingBy-filter}
 use Rattle.mfotl_model.proofs.EventLemmas.{events_filtered}
-use Rattle.mfotl_model.specs.Ascending.{ascending}
-use Rattle.mfotl_model.specs.Events.{StandByPred, event_cmp}
-use Rattle.mfotl_model.specs.Matching.{is_seen}
+use Rattle.mfotl_model.specs.{Events.StandByPred, Matching.is_seen}
 use Rattle.mfotl_model.proofs.event.Db.seen_by.Goals as goal
 
 pub invariant_of-result : goal.invariant_of-result
@@ -17,6 +14,4 @@ pub returns : goal.returns
 returns c =
     let seen = is_seen c.args.atoms.now in
     let kept = filter_same _ seen _ (λ x b f h. search (rules, tests)) _ _ c.retain.ensures.filtered in
-    ap (ascending event_cmp) kept
-    ∙ events_filtered seen c.self.inside.events.items
-    ∙ ap (filter seen) c.self.view_is
+    cc (events_filtered seen c.self.inside.events.items)
