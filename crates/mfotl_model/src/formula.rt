@@ -1,5 +1,8 @@
 //! Formulas, each operator as it was written.
-ghost use Rattle.std.specs.Prelude.{◌≡◌, IfOk};
+ghost use Rattle.std.specs.Prelude.{◌<◌, ◌≡◌, IfOk, IfSome};
+ghost use Rattle.mfotl_model.specs.declared.formula.Formula.{size-Formula};
+ghost use Rattle.mfotl_model.specs.Formulas.{form};
+ghost use Rattle.mfotl_model.specs.Operators.{IsTemporal};
 
 use crate::interval::Interval;
 use crate::term::{Atom, Comparison};
@@ -56,23 +59,39 @@ impl Drop for Formula {
                 Formula::True | Formula::False => return,
                 Formula::Atom(_atom) => return,
                 Formula::Compare(_comparison) => return,
-                Formula::Not(inner)
-                | Formula::Previous(_, inner)
-                | Formula::Next(_, inner)
-                | Formula::Once(_, inner)
-                | Formula::Historically(_, inner)
-                | Formula::Eventually(_, inner)
-                | Formula::Always(_, inner) => self = Box::into_inner(inner),
+                Formula::Not(inner) => self = Box::into_inner(inner),
                 Formula::Exists(_bound, inner) | Formula::Forall(_bound, inner) => {
                     self = Box::into_inner(inner)
                 }
                 Formula::And(left, _right)
                 | Formula::Or(left, _right)
                 | Formula::Implies(left, _right)
-                | Formula::Equiv(left, _right)
-                | Formula::Since(_, left, _right)
-                | Formula::Until(_, left, _right) => self = Box::into_inner(left),
+                | Formula::Equiv(left, _right) => self = Box::into_inner(left),
+                _ => {
+                    let (first, _second) = self.into_temporal_operands();
+                    self = Box::into_inner(first);
+                }
             }
+        }
+    }
+}
+
+impl Formula {
+    // The operands of an operator with an interval.
+    fn into_temporal_operands(self) -> (Box<Formula>, Option<Box<Formula>>)
+        requires { IsTemporal (form self) }
+        ensures first_smaller { size-Formula result.0.value < size-Formula self }
+        ensures second_smaller { IfSome result.1 (λ second. size-Formula second.value < size-Formula self) }
+    {
+        match self {
+            Formula::Previous(_, inner)
+            | Formula::Next(_, inner)
+            | Formula::Once(_, inner)
+            | Formula::Historically(_, inner)
+            | Formula::Eventually(_, inner)
+            | Formula::Always(_, inner) => (inner, None),
+            Formula::Since(_, left, right) | Formula::Until(_, left, right) => (left, Some(right)),
+            _ => unreachable!(),
         }
     }
 }
