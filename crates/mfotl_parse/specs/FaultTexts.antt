@@ -20,3 +20,8 @@ fault_text (TooManyVariables at) = codes "TooManyVariables at " ++ decimal at
 fault_text (TooDeep at) = codes "TooDeep at " ++ decimal at
 fault_text (TooManyNodes at) = codes "TooManyNodes at " ++ decimal at
 fault_text Memory = codes "Memory"
+
+-- the text of a fault without an offset of its own
+abbrev pub unplaced_text : PolicyFault → List ℕ
+unplaced_text (Lex fault) = codes "Lex " ++ lex.fault_text fault
+unplaced_text _ = codes "Memory"

@@ -8,7 +8,7 @@ use std::fmt;
 use thiserror::Error;
 
 /// The first fault of a policy. Each offset counts bytes from the start of the text.
-#[derive(Clone, Copy, Debug, Error)]
+#[derive(Clone, Copy, Error)]
 pub enum PolicyFault {
     /// The bytes form no token.
     Lex(LexFault),
@@ -34,6 +34,33 @@ pub enum PolicyFault {
     Memory,
 }
 
+impl PolicyFault {
+    ghost use Rattle.std.specs.Prelude.{◌++◌, IfSome, IsNone, codes};
+    ghost use Rattle.std.specs.Fmt.{decimal};
+    ghost use Rattle.mfotl_parse.specs.FaultTexts.{fault_text, unplaced_text};
+
+    // The name and the offset of a fault that is printed with both.
+    fn parts(&self) -> Option<(&'static str, u64)>
+        ensures some { IfSome result (λ parts.
+            fault_text self.now ≡ parts.0.now ++ codes " at " ++ decimal parts.1) }
+        ensures none { IsNone result → fault_text self.now ≡ unplaced_text self.now }
+    {
+        let parts = match self {
+            PolicyFault::Syntax(at) => ("Syntax", *at),
+            PolicyFault::EmptyInterval(at) => ("EmptyInterval", *at),
+            PolicyFault::BoundRange(at) => ("BoundRange", *at),
+            PolicyFault::UnknownPredicate(at) => ("UnknownPredicate", *at),
+            PolicyFault::WrongArity(at) => ("WrongArity", *at),
+            PolicyFault::SortClash(at) => ("SortClash", *at),
+            PolicyFault::TooManyVariables(at) => ("TooManyVariables", *at),
+            PolicyFault::TooDeep(at) => ("TooDeep", *at),
+            PolicyFault::TooManyNodes(at) => ("TooManyNodes", *at),
+            PolicyFault::Lex(_) | PolicyFault::Memory => return None,
+        };
+        Some(parts)
+    }
+}
+
 // By hand, since a derived `Display` says nothing of its bytes to a contract.
 impl fmt::Display for PolicyFault {
     ghost use Rattle.std.specs.Prelude.{Some};
@@ -42,19 +69,20 @@ impl fmt::Display for PolicyFault {
     ghost output = { λ fault. Some (fault_text fault) };
 
     fn fmt<W: fmt::Write>(&self, f: &mut fmt::Formatter<W>) -> fmt::Result {
-        match self {
-            PolicyFault::Lex(fault) => write!(f, "Lex {fault}"),
-            PolicyFault::Syntax(at) => write!(f, "Syntax at {at}"),
-            PolicyFault::EmptyInterval(at) => write!(f, "EmptyInterval at {at}"),
-            PolicyFault::BoundRange(at) => write!(f, "BoundRange at {at}"),
-            PolicyFault::UnknownPredicate(at) => write!(f, "UnknownPredicate at {at}"),
-            PolicyFault::WrongArity(at) => write!(f, "WrongArity at {at}"),
-            PolicyFault::SortClash(at) => write!(f, "SortClash at {at}"),
-            PolicyFault::TooManyVariables(at) => write!(f, "TooManyVariables at {at}"),
-            PolicyFault::TooDeep(at) => write!(f, "TooDeep at {at}"),
-            PolicyFault::TooManyNodes(at) => write!(f, "TooManyNodes at {at}"),
-            PolicyFault::Memory => f.write_str("Memory"),
+        match self.parts() {
+            Some((name, at)) => write!(f, "{name} at {at}"),
+            None => match self {
+                PolicyFault::Lex(fault) => write!(f, "Lex {fault}"),
+                _ => f.write_str("Memory"),
+            },
         }
+    }
+}
+
+// As it is printed, since a derived `Debug` of so many cases is dear to prove.
+impl fmt::Debug for PolicyFault {
+    fn fmt<W: fmt::Write>(&self, f: &mut fmt::Formatter<W>) -> fmt::Result {
+        fmt::Display::fmt(self, f)
     }
 }
 
