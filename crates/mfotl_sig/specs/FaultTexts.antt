@@ -15,3 +15,8 @@ fault_text (UnknownSort at) = codes "UnknownSort at " ++ decimal at
 fault_text (Arity at) = codes "Arity at " ++ decimal at
 fault_text (TooMany at) = codes "TooMany at " ++ decimal at
 fault_text Memory = codes "Memory"
+
+-- the text of a fault without an offset of its own
+abbrev pub unplaced_text : SigFault → List ℕ
+unplaced_text (Lex fault) = codes "Lex " ++ lex.fault_text fault
+unplaced_text _ = codes "Memory"

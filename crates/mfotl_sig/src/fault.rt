@@ -9,7 +9,7 @@ use std::fmt;
 use thiserror::Error;
 
 /// The first fault of a signature. Each offset counts bytes from the start of the text.
-#[derive(Clone, Copy, Debug, Error)]
+#[derive(Clone, Copy, Error)]
 pub enum SigFault {
     /// The bytes form no token.
     Lex(LexFault),
@@ -27,6 +27,29 @@ pub enum SigFault {
     Memory,
 }
 
+impl SigFault {
+    ghost use Rattle.std.specs.Prelude.{◌++◌, IfSome, IsNone, codes};
+    ghost use Rattle.std.specs.Fmt.{decimal};
+    ghost use Rattle.mfotl_sig.specs.FaultTexts.{fault_text, unplaced_text};
+
+    // The name and the offset of a fault that is printed with both.
+    fn parts(&self) -> Option<(&'static str, u64)>
+        ensures some { IfSome result (λ parts.
+            fault_text self.now ≡ parts.0.now ++ codes " at " ++ decimal parts.1) }
+        ensures none { IsNone result → fault_text self.now ≡ unplaced_text self.now }
+    {
+        let parts = match self {
+            SigFault::Syntax(at) => ("Syntax", *at),
+            SigFault::RepeatedName(at) => ("RepeatedName", *at),
+            SigFault::UnknownSort(at) => ("UnknownSort", *at),
+            SigFault::Arity(at) => ("Arity", *at),
+            SigFault::TooMany(at) => ("TooMany", *at),
+            SigFault::Lex(_) | SigFault::Memory => return None,
+        };
+        Some(parts)
+    }
+}
+
 // By hand, since a derived `Display` says nothing of its bytes to a contract.
 impl fmt::Display for SigFault {
     ghost use Rattle.std.specs.Prelude.{Some};
@@ -35,15 +58,20 @@ impl fmt::Display for SigFault {
     ghost output = { λ fault. Some (fault_text fault) };
 
     fn fmt<W: fmt::Write>(&self, f: &mut fmt::Formatter<W>) -> fmt::Result {
-        match self {
-            SigFault::Lex(fault) => write!(f, "Lex {fault}"),
-            SigFault::Syntax(at) => write!(f, "Syntax at {at}"),
-            SigFault::RepeatedName(at) => write!(f, "RepeatedName at {at}"),
-            SigFault::UnknownSort(at) => write!(f, "UnknownSort at {at}"),
-            SigFault::Arity(at) => write!(f, "Arity at {at}"),
-            SigFault::TooMany(at) => write!(f, "TooMany at {at}"),
-            SigFault::Memory => f.write_str("Memory"),
+        match self.parts() {
+            Some((name, at)) => write!(f, "{name} at {at}"),
+            None => match self {
+                SigFault::Lex(fault) => write!(f, "Lex {fault}"),
+                _ => f.write_str("Memory"),
+            },
         }
+    }
+}
+
+// As it is printed, since a derived `Debug` of so many cases is dear to prove.
+impl fmt::Debug for SigFault {
+    fn fmt<W: fmt::Write>(&self, f: &mut fmt::Formatter<W>) -> fmt::Result {
+        fmt::Display::fmt(self, f)
     }
 }
 
