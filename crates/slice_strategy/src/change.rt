@@ -18,7 +18,7 @@ pub struct Change {
 }
 
 /// The first fault of a change script. Each offset counts bytes from the start of the script.
-#[derive(Clone, Copy, Debug, Error)]
+#[derive(Clone, Copy, Error)]
 pub enum ChangeFault {
     /// A fault of a strategy, or `Syntax` where the script's own grammar can't go on. Its `Memory` is want of
     /// memory.
@@ -38,10 +38,17 @@ impl fmt::Display for ChangeFault {
 
     fn fmt<W: fmt::Write>(&self, f: &mut fmt::Formatter<W>) -> fmt::Result {
         match self {
-            ChangeFault::Strategy(fault) => write!(f, "{fault}"),
+            ChangeFault::Strategy(fault) => fmt::Display::fmt(fault, f),
             ChangeFault::FallingChange(at) => write!(f, "FallingChange at {at}"),
             ChangeFault::TooManyChanges(at) => write!(f, "TooManyChanges at {at}"),
         }
+    }
+}
+
+// As it is printed.
+impl fmt::Debug for ChangeFault {
+    fn fmt<W: fmt::Write>(&self, f: &mut fmt::Formatter<W>) -> fmt::Result {
+        fmt::Display::fmt(self, f)
     }
 }
 

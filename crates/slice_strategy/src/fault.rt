@@ -8,7 +8,7 @@ use std::fmt;
 use thiserror::Error;
 
 /// The first fault of a strategy. Each offset counts bytes from the start of the text.
-#[derive(Clone, Copy, Debug, Error)]
+#[derive(Clone, Copy, Error)]
 pub enum StrategyFault {
     /// The grammar can't go on with this token, the text ends too early, or its bytes form no token.
     Syntax(u64),
@@ -65,6 +65,13 @@ impl fmt::Display for StrategyFault {
             Some((name, at)) => write!(f, "{name} at {at}"),
             None => f.write_str("Memory"),
         }
+    }
+}
+
+// As it is printed, since a derived `Debug` of so many cases is dear to prove.
+impl fmt::Debug for StrategyFault {
+    fn fmt<W: fmt::Write>(&self, f: &mut fmt::Formatter<W>) -> fmt::Result {
+        fmt::Display::fmt(self, f)
     }
 }
 
