@@ -1,27 +1,20 @@
 -- Behind tokens that show no fault, the reader shows a fault exactly where the token or the tail is its cause.
-use Rattle.std.proofs.Common.{◌≡◌, ℕ, List, [], ◌∷◌, ◌++◌, length, Option, Some, None, Result, Ok, Err, refl, ap, sym}
-use Rattle.std.proofs.Common.{subst, ◌∙◌, inl, inr, arith}
-use Rattle.std.proofs.lemmas.Bool.{le-leb}
-use Rattle.std.proofs.lemmas.List.{append_assoc}
-use Rattle.std.specs.Prelude.{nat_le}
-use Rattle.mfotl_lex.specs.declared.kind.Kind.TheVariants.{Word}
-use Rattle.mfotl_lex.specs.declared.fault.LexFault.{LexFault}
-use Rattle.mfotl_lex.specs.FirstFault.{◌>>=◌, Tail, Broken, End, More, run, FollowsGrammar}
+use Rattle.std.proofs.Common.{◌≡◌, ℕ, List, [], ◌∷◌, ◌++◌, length, Option, Some, Result, Ok, Err, refl, ap, sym, subst}
+use Rattle.std.proofs.Common.{◌∙◌, inl, inr, arith}
+use Rattle.std.proofs.{lemmas.Bool.le-leb, lemmas.List.append_assoc}
+use Rattle.mfotl_lex.specs.declared.{kind.Kind.TheVariants.Word, fault.LexFault.LexFault}
+use Rattle.mfotl_lex.specs.FirstFault.{◌>>=◌, Tail, End, run, FollowsGrammar}
 use Rattle.mfotl_lex.specs.Lexemes.{Lexeme}
 use Rattle.mfotl_lex.proofs.ByPlaces.{KnowsPlaces, reached, token_caused, ends_shown}
-use Rattle.mfotl_lex.proofs.Verdicts.{judged_rule}
-use Rattle.mfotl_lex.proofs.FirstFaultLaws.{run_fault, run_behind}
+use Rattle.mfotl_lex.proofs.{Verdicts.judged_rule, FirstFaultLaws.run_fault, FirstFaultLaws.run_behind}
 use Rattle.mfotl_model.specs.declared.policy.Sort.{Sort}
-use Rattle.mfotl_sig.specs.declared.arguments.Stage.TheVariants.{AfterLabel, AfterComma}
-use Rattle.mfotl_sig.specs.declared.fault.SigFault.{SigFault}
+use Rattle.mfotl_sig.specs.declared.{arguments.Stage.TheVariants.AfterComma, fault.SigFault.SigFault}
 use Rattle.mfotl_sig.specs.declared.fault.SigFault.TheVariants.{Lex, Syntax, RepeatedName, UnknownSort, Arity, TooMany}
 use Rattle.mfotl_sig.specs.declared.fault.SigFault.TheVariants.{Memory}
 use Rattle.mfotl_sig.specs.Causes.{IsRepeated, IsOneTooMany, IsNinth, IsUnknownLabelled, IsUnknownOnly, IsCause, IsLast}
 use Rattle.mfotl_sig.specs.Grammar.{WrittenPredicate, Listed, IsAccepted, IsViable}
-use Rattle.mfotl_sig.specs.Limits.{max_predicates, max_arguments}
-use Rattle.mfotl_sig.specs.Preds.{PredOf}
+use Rattle.mfotl_sig.specs.{Limits.max_predicates, Limits.max_arguments, Preds.PredOf, Rules.numbered, Rules.KeepsRules}
 use Rattle.mfotl_sig.specs.Reading.{DraftOf, Partial, word_stage, step, at_end, at_tail, nothing_read}
-use Rattle.mfotl_sig.specs.Rules.{numbered, KeepsRules}
 use Rattle.mfotl_sig.proofs.NamedLemmas.{look_up, absent, present, length-numbered}
 use Rattle.mfotl_sig.proofs.Runs.{between, within, stage_in, judge, cond_bind, cond_ok}
 use Rattle.mfotl_sig.proofs.Standing.{Stands, StandsSo, further, stands_viable, at_once, spelled_run, spelled_read}
@@ -36,25 +29,17 @@ word_read : (done : List PredOf) (name : List ℕ) (sorts : List Sort) (ls : Lis
     → w.kind ≡ Word → run step (w ∷ us) (within done name sorts (stage_in ls)) ≡ Ok p
     → run step us (within done name sorts (word_stage w)) ≡ Ok p
 unfolding run step
-word_read done name sorts [] w us p kind e = rw kind at e
-word_read done name sorts (l ∷ ls) w us p kind e =
-    cond_ok (nat_le max_arguments (length sorts)) _ _ p (simp (kind, cond_bind) at e)
+word_read done name sorts ls w us p kind e = grind (arith, cond_ok, cond_bind)
 
 behind_comma : (ls : List Listed) → length ls ≡ max_arguments → stage_in ls ≡ AfterComma
-behind_comma [] many = absurd (omega arith)
-behind_comma (l ∷ ls) many = refl
+behind_comma ls many = grind arith
 
 -- ---- the cause of a fault shows it
 
 module _ (front : List Lexeme) (p : Partial) (t : Lexeme) (ran : run step front nothing_read ≡ Ok p) where
   repeats : (at : ℕ) → IsRepeated front t at → step p t ≡ Err (RepeatedName at)
   unfolding step
-  repeats at c =
-      let is = (spelled_read front c.preds p c.spelled ran).1 in
-      elim (look_up t.text (numbered 0 c.preds)) [
-        | inl f ↦ rw (is, c.kind, f.found, c.place)
-        | inr l ↦ absurd (absent t.text c.preds l c.among)
-      ]
+  repeats at c = grind (arith, spelled_read front c.preds p c.spelled ran, look_up t.text (numbered 0 c.preds), absent)
 
   too_many : (at : ℕ) → IsOneTooMany front t at → step p t ≡ Err (TooMany at)
   unfolding step
@@ -62,10 +47,7 @@ module _ (front : List Lexeme) (p : Partial) (t : Lexeme) (ran : run step front 
       let is = (spelled_read front c.preds p c.spelled ran).1 in
       let full =
       le-leb max_predicates (length (numbered 0 c.preds)) (omega (arith, length-numbered c.preds 0, c.many)) in
-      elim (look_up t.text (numbered 0 c.preds)) [
-        | inl f ↦ absurd (c.new (present t.text c.preds f))
-        | inr l ↦ rw (is, c.kind, l.none, full, c.place)
-      ]
+      grind (arith, look_up, present)
 
   ninth : (at : ℕ) → IsNinth front t at → step p t ≡ Err (Arity at)
   unfolding step
@@ -77,12 +59,7 @@ module _ (front : List Lexeme) (p : Partial) (t : Lexeme) (ran : run step front 
 
   labelled : (at : ℕ) → IsUnknownLabelled front t at → step p t ≡ Err (UnknownSort at)
   unfolding run step
-  labelled at c =
-      let q = part_read front _ c.begun p ran in
-      let name = c.begun.name.text in
-      let word = word_read q.done name q.sorts c.begun.listed c.label (c.colon ∷ []) p c.labels q.ran in
-      let is = at_once (within q.done name q.sorts AfterLabel) p (simp c.divides at word) in
-      rw (is, c.kind, c.unknown, c.place)
+  labelled at c = grind (arith, part_read front _ c.begun p ran, word_read, at_once, within)
 
   only : (at : ℕ) → IsUnknownOnly front t at → step p t ≡ Err (UnknownSort at)
   unfolding step
@@ -111,12 +88,7 @@ module _ (front : List Lexeme) (p : Partial) (t : Lexeme) (ran : run step front 
       judged_never at v.1.0 (judge [] v.1.0) refl (sym (spelled_run ((front ++ t ∷ []) ++ v.0) v.1.0 v.1.1) ∙ stops)
 
 knows : KnowsPlaces step nothing_read (λ t. t.at) Syntax IsViable IsCause StandsSo
-knows = record {
-  begins = ([], record { fits = tt; spelled = refl });
-  further = further;
-  unviable = λ front p t at ran e v. unviable front p t ran at e v;
-  caused = λ front t at v. v;
-}
+knows = grind (arith, further, unviable)
 
 pub stands : (ts : List Lexeme) (p : Partial) → run step ts nothing_read ≡ Ok p → Stands ts p.draft
 stands ts p ran = reached step nothing_read (λ t. t.at) Syntax IsViable IsCause StandsSo knows ts p ran
@@ -138,32 +110,22 @@ module _ (front : List Lexeme) (p : Partial) (t : Lexeme) (ran : run step front 
 module _ (ts : List Lexeme) (p : Partial) (ran : run step ts nothing_read ≡ Ok p) where
   open_end : (at : ℕ) (draft : Option DraftOf) → Stands ts draft → (IsAccepted ts → ⊥)
       → at_end at p.done draft ≡ Err (Syntax at)
-  open_end at None accepted not = absurd (not accepted)
-  open_end at (Some d) place not = refl
+  open_end at draft accepted not = grind arith
 
   shows_last : (tail : Tail LexFault) (fault : SigFault) → IsLast ts tail fault → at_tail tail p ≡ Err fault
-  shows_last tail (Lex fault) e = ap (λ x. at_tail x p) e
-  shows_last tail (Syntax at) v = ap (λ x. at_tail x p) v.stands ∙ open_end at p.draft (stands ts p ran) v.unaccepted
-  shows_last tail _ c = absurd c
+  shows_last tail fault e = grind (arith, open_end, stands)
 
   -- accepted tokens leave no draft
   no_draft : (d : DraftOf) → p.draft ≡ Some d → IsAccepted ts → ⊥
-  no_draft d is accepted =
-      let none = ap (λ (x : Partial). x.draft) (spelled_read ts accepted.0 p accepted.1 ran).1 in cc (none, is)
+  no_draft d is accepted = grind (arith, spelled_read ts accepted.0 p accepted.1 ran)
 
   end_shown : (end : ℕ) (fault : SigFault) (draft : Option DraftOf) → p.draft ≡ draft
       → at_end end p.done draft ≡ Err fault
       → IsLast ts (End end) fault
-  end_shown end fault None is e = absurd cc
-  end_shown end fault (Some d) is e =
-      let same : Syntax end ≡ fault = cc in
-      subst (IsLast ts (End end)) same (record { unaccepted = no_draft d is; stands = refl })
+  end_shown end fault draft is e = grind (arith, no_draft, stands)
 
   last_shown : (tail : Tail LexFault) (fault : SigFault) → at_tail tail p ≡ Err fault → IsLast ts tail fault
-  last_shown (Broken lexical) fault e =
-      let same : Lex lexical ≡ fault = cc in subst (IsLast ts (Broken lexical)) same refl
-  last_shown (End end) fault e = end_shown end fault p.draft refl e
-  last_shown More fault e = absurd cc
+  last_shown tail fault e = grind (arith, end_shown)
 
 pub follows : FollowsGrammar step nothing_read at_tail IsViable IsCause IsLast
 follows = record {

@@ -1,18 +1,13 @@
 -- What a look-up by name finds.
 use Rattle.std.proofs.Common.{◌≡◌, ◌≢◌, ◌↔◌, ℕ, Bool, true, false, List, [], ◌∷◌, map, length, suc, Option, Some, None}
-use Rattle.std.proofs.Common.{option_map, Bor, All, Contains, refl, ap, sym, subst, ◌∙◌, ◌⊎◌, inl, inr, arith}
-use Rattle.std.proofs.lemmas.Cmp.{nat_list_eq_equiv}
+use Rattle.std.proofs.Common.{option_map, Bor, All, Contains, refl, ap, sym, ◌∙◌, ◌⊎◌, inl, inr, arith}
+use Rattle.std.proofs.{lemmas.Cmp.nat_list_eq_equiv, lemmas.List.get_or-map, lemmas.List.length-map}
 use Rattle.std.proofs.lemmas.List.Elements.{All-nil, All-cons, All-map, All-contains, Contains-get_or}
 use Rattle.std.proofs.lemmas.List.Elements.{Contains-append_right}
-use Rattle.std.proofs.lemmas.List.{get_or-map, length-map}
-use Rattle.std.specs.Cmp.Lexicographic.{same_text}
-use Rattle.std.specs.Option.{option_copied}
-use Rattle.std.specs.Prelude.{IsNone, IfSome}
-use Rattle.std.specs.Str.{bytes_eq}
+use Rattle.std.specs.{Cmp.Lexicographic.same_text, Option.option_copied, Prelude.IsNone, Prelude.IfSome, Str.bytes_eq}
 use Rattle.mfotl_sig.specs.declared.pred.Pred.{Pred}
 use Rattle.mfotl_sig.specs.Preds.{PredOf, pred_of, named}
-use Rattle.mfotl_sig.specs.Grammar.{WrittenPredicate}
-use Rattle.mfotl_sig.specs.Rules.{names_of, numbered}
+use Rattle.mfotl_sig.specs.{Grammar.WrittenPredicate, Rules.names_of, Rules.numbered}
 
 -- the names of predicates
 abbrev pub names : List PredOf → List (List ℕ)
@@ -58,12 +53,7 @@ length-numbered [] n = refl
 length-numbered (w ∷ ws) n = ap suc (length-numbered ws (suc n))
 
 pub present : (name : List ℕ) (ws : List WrittenPredicate) → Finds name (numbered 0 ws) → Contains (names_of ws) name
-present name ws f =
-    let preds = numbered 0 ws in
-    let at = f.member in
-    let is = get_or-map (λ (p : PredOf). p.name) preds at.0 f.pred f.pred.name at.1 ∙ ap (λ (p : PredOf). p.name) at.2 in
-    let among : Contains (names preds) f.pred.name = (at.0, rw length-map at.1, is) in
-    subst (Contains (names_of ws)) f.same (rw (names_numbered ws 0) at among)
+present name ws f = grind (arith, get_or-map, length-map, names_numbered)
 
 pub absent : (name : List ℕ) (ws : List WrittenPredicate) → Lacks name (numbered 0 ws) → Contains (names_of ws) name → ⊥
 absent name ws l among =
@@ -83,16 +73,7 @@ pub record IsLent (lent : Option (Bor Pred)) (name : List ℕ) (preds : List Pre
 lent_by : (lent : Option (Bor Pred)) (name : List ℕ) (preds : List PredOf) → Lends lent name preds
     → Finds name preds ⊎ Lacks name preds
     → IsLent lent name preds
-lent_by None name preds e (inl f) = absurd (cc (e, f.found))
-lent_by None name preds e (inr l) = record { none = (λ none. l.differ, λ all. refl); name_is = tt; member = tt }
-lent_by (Some p) name preds e (inl f) =
-    let is : pred_of p.now ≡ f.pred = cc (e, f.found) in
-    record {
-      none = (λ none. absurd cc, λ all. absurd (All-contains (λ q. q.name ≢ name) preds f.pred all f.member f.same));
-      name_is = ap (λ (q : PredOf). q.name) is ∙ f.same;
-      member = subst (Contains preds) (sym is) f.member;
-    }
-lent_by (Some p) name preds e (inr l) = absurd (cc (e, l.none))
+lent_by lent name preds e h = grind arith
 
 pub is_lent : (lent : Option (Bor Pred)) (name : List ℕ) (preds : List PredOf) → Lends lent name preds
     → IsLent lent name preds

@@ -1,10 +1,6 @@
 -- The map that keeps the predicates, and the list that clauses see.
-use Rattle.std.proofs.Common.{◌≡◌, ℕ, List, [], ◌∷◌, ◌++◌, map, Option, Some, None, option_map, cond, Bool, true, false}
-use Rattle.std.proofs.Common.{refl, ap, subst, ◌∙◌, sym}
-use Rattle.std.specs.List.{AllByRecursion, find}
-use Rattle.std.specs.Str.{bytes_eq}
-use Rattle.std.specs.Global.{Vec}
-use Rattle.std.specs.Map.{lookup}
+use Rattle.std.proofs.Common.{◌≡◌, ℕ, List, [], ◌∷◌, ◌++◌, map, Option, Some, None, option_map, cond, Bool, refl, arith}
+use Rattle.std.specs.{List.AllByRecursion, List.find, Str.bytes_eq, Global.Vec, Map.lookup}
 use Rattle.indexmap.specs.IndexMap.{insert_entry}
 use Rattle.mfotl_sig.specs.declared.pred.Pred.{Pred}
 use Rattle.mfotl_sig.specs.Preds.{PredOf, pred_of, named, KeyedByName}
@@ -15,15 +11,13 @@ preds_of entries = map (λ e. pred_of e.1) entries
 
 either_way : (b : Bool) (p : Pred) (found : Option Pred) (next : Option PredOf) → option_map pred_of found ≡ next
     → option_map pred_of (cond b (Some p) found) ≡ cond b (Some (pred_of p)) next
-either_way true p found next same = refl
-either_way false p found next same = same
+either_way b p found next same = grind arith
 
 -- a look-up by name finds the predicate of that name
 pub lookup_named : (entries : List (Vec ℕ × Pred)) (name : List ℕ) → AllByRecursion KeyedByName entries
     → option_map pred_of (lookup (λ k. bytes_eq name k.items) entries) ≡ named name (preds_of entries)
 lookup_named [] name keyed = refl
-lookup_named (e ∷ entries) name keyed =
-    rw keyed.0 (either_way (bytes_eq name e.1.name) e.1 _ _ (lookup_named entries name keyed.1))
+lookup_named (e ∷ entries) name keyed = grind (arith, either_way, lookup_named entries name keyed.1)
 
 -- the first predicate of the name among the values is that one too
 pub first_named : (entries : List (Vec ℕ × Pred)) (name : List ℕ)
@@ -45,10 +39,7 @@ behind : (b : Bool) (e : Vec ℕ × Pred) (entries others : List (Vec ℕ × Pre
     → cond b (Some (pred_of e.1)) (named pred.name (preds_of entries)) ≡ None
     → (named pred.name (preds_of entries) ≡ None → GoesLast entries others pred)
     → GoesLast (e ∷ entries) (cond b ((e.0, pred) ∷ entries) (e ∷ others)) pred
-behind true e entries others pred keyed absent go = absurd cc
-behind false e entries others pred keyed absent go =
-    let last = go absent in
-    record { preds = ap (λ ps. pred_of e.1 ∷ ps) last.preds; keyed = (keyed, last.keyed) }
+behind b e entries others pred keyed absent go = grind arith
 
 -- a predicate with a new name goes last
 pub insert_new : (entries : List (Vec ℕ × Pred)) (key : Vec ℕ) (pred : Pred) → AllByRecursion KeyedByName entries
@@ -56,5 +47,4 @@ pub insert_new : (entries : List (Vec ℕ × Pred)) (key : Vec ℕ) (pred : Pred
     → named pred.name (preds_of entries) ≡ None → GoesLast entries (insert_entry same_key entries key pred) pred
 insert_new [] key pred keyed named_so absent = record { preds = refl; keyed = (named_so, tt) }
 insert_new (e ∷ entries) key pred keyed named_so absent =
-    let same : bytes_eq key.items e.0.items ≡ bytes_eq pred.name e.1.name = rw (named_so, keyed.0) in
-    rw same (behind _ e entries _ pred keyed.0 absent (insert_new entries key pred keyed.1 named_so))
+    grind (arith, behind, insert_new entries key pred keyed.1 named_so)

@@ -1,25 +1,19 @@
 -- What the reader makes of tokens that the grammar spells: a verdict on each part, from left to right.
-use Rattle.std.proofs.Common.{◌≡◌, ℕ, Bool, true, false, cond, List, [], ◌∷◌, length, Option, Some, None, is_some}
-use Rattle.std.proofs.Common.{Result, Ok, Err, refl, ap, ◌∙◌}
-use Rattle.std.specs.Prelude.{nat_le}
-use Rattle.std.specs.List.{AllByRecursion}
+use Rattle.std.proofs.Common.{◌≡◌, ℕ, Bool, cond, List, [], ◌∷◌, length, Option, Some, None, is_some, Result, Ok, Err}
+use Rattle.std.proofs.Common.{refl, ◌∙◌, arith}
+use Rattle.std.specs.{Prelude.nat_le, List.AllByRecursion}
 use Rattle.mfotl_lex.specs.declared.kind.Kind.TheVariants.{Word, OpenParen, CloseParen, Comma}
-use Rattle.mfotl_lex.specs.FirstFault.{◌>>=◌, run}
-use Rattle.mfotl_lex.specs.Lexemes.{Lexeme}
+use Rattle.mfotl_lex.specs.{FirstFault.◌>>=◌, FirstFault.run, Lexemes.Lexeme}
 use Rattle.mfotl_lex.proofs.FirstFaultLaws.{bind_assoc, bind_same}
 use Rattle.mfotl_model.specs.declared.policy.Sort.{Sort}
-use Rattle.mfotl_sig.specs.declared.arguments.Stage.{Stage}
-use Rattle.mfotl_sig.specs.declared.arguments.Stage.TheVariants.{AfterOpen, AfterComma}
-use Rattle.mfotl_sig.specs.declared.fault.SigFault.{SigFault}
+use Rattle.mfotl_sig.specs.declared.{arguments.Stage.Stage, arguments.Stage.TheVariants.AfterOpen}
+use Rattle.mfotl_sig.specs.declared.{arguments.Stage.TheVariants.AfterComma, fault.SigFault.SigFault}
 use Rattle.mfotl_sig.specs.declared.fault.SigFault.TheVariants.{RepeatedName, Arity, TooMany}
-use Rattle.mfotl_sig.specs.Causes.{Begun}
+use Rattle.mfotl_sig.specs.{Causes.Begun, Limits.max_predicates, Limits.max_arguments, Rules.sort_of, Rules.sort_word}
 use Rattle.mfotl_sig.specs.Grammar.{Argument, Only, Labelled, Listed, WrittenPredicate, FitsArgument, FitsListed}
-use Rattle.mfotl_sig.specs.Grammar.{FitsLast, Fits}
-use Rattle.mfotl_sig.specs.Grammar.{spell_argument, spell_listed, spell_last, spell_pred, spell_preds}
-use Rattle.mfotl_sig.specs.Limits.{max_predicates, max_arguments}
+use Rattle.mfotl_sig.specs.Grammar.{FitsLast, Fits, spell_argument, spell_listed, spell_last, spell_pred, spell_preds}
 use Rattle.mfotl_sig.specs.Preds.{PredOf, named, with_pred}
 use Rattle.mfotl_sig.specs.Reading.{Partial, with_argument_sort, step, nothing_read}
-use Rattle.mfotl_sig.specs.Rules.{sort_of, sort_word}
 
 -- ---- verdicts
 
@@ -70,14 +64,12 @@ stage_in (l ∷ ls) = AfterComma
 -- a test in front of a verdict
 pub cond_bind : {A B : Type 0} (b : Bool) (fault : SigFault) (r : Result A SigFault) (f : A → Result B SigFault)
     → (cond b (Err fault) r >>= f) ≡ cond b (Err fault) (r >>= f)
-cond_bind true fault r f = refl
-cond_bind false fault r f = refl
+cond_bind b fault r f = grind arith
 
 -- and one that showed no fault
 pub cond_ok : {A : Type 0} (b : Bool) (fault : SigFault) (r : Result A SigFault) (x : A)
     → cond b (Err fault) r ≡ Ok x → r ≡ Ok x
-cond_ok true fault r x e = absurd cc
-cond_ok false fault r x e = e
+cond_ok b fault r x e = grind arith
 
 module _ (done : List PredOf) (name : List ℕ) where
   -- an argument and its comma, where an argument may begin
@@ -101,8 +93,7 @@ module _ (done : List PredOf) (name : List ℕ) where
       → run step (spell_argument a ts) (within done name [] AfterOpen)
       ≡ run step (spell_argument a ts) (within done name [] AfterComma)
   unfolding run step
-  first_run (Only w) ts fits = rw fits refl
-  first_run (Labelled l c w) ts fits = rw fits.0 refl
+  first_run a ts fits = grind arith
 
   -- arguments, and what is behind them
   more_run : (sorts : List Sort) (ls : List Listed) (last : Option Argument) (us : List Lexeme)
@@ -132,9 +123,7 @@ module _ (done : List PredOf) (name : List ℕ) where
   closed_run [] None t ts fits end kind = rw kind refl
   closed_run [] (Some a) t ts fits end kind = first_run a _ end ∙ end_run [] a t ts end kind
   closed_run (l ∷ ls) None t ts fits end kind = absurd cc
-  closed_run (l ∷ ls) (Some a) t ts fits end kind =
-      first_run l.argument _ fits.0.0
-      ∙ more_run [] (l ∷ ls) (Some a) _ _ fits (λ more. end_run more a t ts end kind)
+  closed_run (l ∷ ls) (Some a) t ts fits end kind = grind (arith, first_run, more_run, end_run)
 
 -- ---- predicates
 
@@ -148,13 +137,7 @@ begun_run done name opening ts named opens = rw (named, opens) (simp cond_bind)
 
 pred_run : (done : List PredOf) (w : WrittenPredicate) (ts : List Lexeme) → Fits w
     → run step (spell_pred w ts) (between done) ≡ (judge_one done w >>= λ more. run step ts (between more))
-pred_run done w ts fits =
-    begun_run done w.name w.opening _ fits.named fits.opens
-    ∙ simp (
-      bind_assoc,
-      λ (fresh : List PredOf).
-          closed_run fresh w.name.text w.listed w.last w.closing ts fits.listed fits.last fits.closes,
-    )
+pred_run done w ts fits = search (begun_run, bind_assoc, closed_run)
 
 -- whole predicates, and what is behind them
 pub preds_run : (done : List PredOf) (ws : List WrittenPredicate) (ts : List Lexeme) → AllByRecursion Fits ws
@@ -168,8 +151,4 @@ preds_run done (w ∷ ws) ts fits =
 pub part_run : (front rest : List Lexeme) (b : Begun front rest) → run step front nothing_read
     ≡ (judge [] b.whole >>= λ done. admit_name done b.name >>= λ fresh. admit_all [] b.listed None
     >>= λ sorts. run step rest (within fresh b.name.text sorts (stage_in b.listed)))
-part_run front rest b =
-    ap (λ ts. run step ts nothing_read) b.parts
-    ∙ preds_run [] b.whole _ b.fits
-    ∙ bind_same (judge [] b.whole) _ _ (λ done. begun_run done b.name b.opening _ b.named b.opens
-    ∙ bind_same (admit_name done b.name) _ _ (λ fresh. listed_run fresh b.name.text b.listed rest b.arguments))
+part_run front rest b = grind (arith, preds_run, bind_same, begun_run, listed_run)

@@ -1,26 +1,23 @@
 -- What is spelled in front of a rest, and tokens behind it.
-use Rattle.std.proofs.Common.{◌≡◌, List, [], ◌∷◌, ◌++◌, Option, Some, None, refl, ap, ◌∙◌}
+use Rattle.std.proofs.Common.{◌≡◌, List, [], ◌∷◌, ◌++◌, Option, refl, ap, ◌∙◌, arith}
 use Rattle.std.proofs.SliceLists.{all_by_recursion_push}
 use Rattle.std.specs.List.{AllByRecursion}
 use Rattle.mfotl_lex.specs.declared.kind.Kind.TheVariants.{CloseParen, Comma}
 use Rattle.mfotl_lex.specs.Lexemes.{Lexeme}
 use Rattle.mfotl_sig.specs.Causes.{Begun}
-use Rattle.mfotl_sig.specs.Grammar.{Argument, Only, Labelled, Listed, WrittenPredicate, FitsArgument, FitsListed}
-use Rattle.mfotl_sig.specs.Grammar.{FitsLast, Fits}
+use Rattle.mfotl_sig.specs.Grammar.{Argument, Listed, WrittenPredicate, FitsArgument, FitsListed, FitsLast, Fits}
 use Rattle.mfotl_sig.specs.Grammar.{spell_argument, spell_listed, spell_last, spell_begun, spell_pred, spell_preds}
 use Rattle.mfotl_sig.specs.Grammar.{IsAccepted}
 
 argument_behind : (a : Argument) (ts us : List Lexeme) → spell_argument a ts ++ us ≡ spell_argument a (ts ++ us)
-argument_behind (Only word) ts us = refl
-argument_behind (Labelled label colon word) ts us = refl
+argument_behind a ts us = grind arith
 
 listed_behind : (ls : List Listed) (ts us : List Lexeme) → spell_listed ls ts ++ us ≡ spell_listed ls (ts ++ us)
 listed_behind [] ts us = refl
 listed_behind (l ∷ ls) ts us = simp (argument_behind, listed_behind ls ts us)
 
 last_behind : (last : Option Argument) (ts us : List Lexeme) → spell_last last ts ++ us ≡ spell_last last (ts ++ us)
-last_behind None ts us = refl
-last_behind (Some a) ts us = argument_behind a ts us
+last_behind last ts us = grind (arith, argument_behind)
 
 pub preds_behind : (ws : List WrittenPredicate) (ts us : List Lexeme)
     → spell_preds ws ts ++ us ≡ spell_preds ws (ts ++ us)
@@ -42,18 +39,7 @@ module _ (front rest : List Lexeme) (t : Lexeme) (b : Begun front rest) where
   -- the same predicate, gone on
   gone_on : (after more : List Lexeme) (ls : List Listed) → AllByRecursion FitsListed ls
       → after ≡ spell_preds b.whole (spell_begun b.name b.opening ls more) → Begun after more
-  gone_on after more ls arguments parts =
-      record {
-        whole = b.whole;
-        name = b.name;
-        opening = b.opening;
-        listed = ls;
-        parts = parts;
-        fits = b.fits;
-        named = b.named;
-        opens = b.opens;
-        arguments = arguments;
-      }
+  gone_on after more ls arguments parts = grind arith
 
   behind : front ++ t ∷ [] ≡ spell_preds b.whole (spell_begun b.name b.opening b.listed (rest ++ t ∷ []))
   behind = ap (λ x. x ++ t ∷ []) b.parts ∙ simp (preds_behind, listed_behind)
@@ -76,7 +62,6 @@ module _ (front rest : List Lexeme) (t : Lexeme) (b : Begun front rest) where
   begun_closed last is fits kind =
       let w : WrittenPredicate =
       record { name = b.name; opening = b.opening; listed = b.listed; last = last; closing = t } in
-      let so : Fits w =
-      record { named = b.named; opens = b.opens; listed = b.arguments; last = fits; closes = kind } in
+      let so : Fits w = assumption in
       let spelled = behind ∙ simp (is, last_behind, preds_more) in
       (b.whole ++ w ∷ [], record { fits = all_by_recursion_push Fits b.whole w b.fits so; spelled = spelled })

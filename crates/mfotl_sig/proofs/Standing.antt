@@ -1,34 +1,27 @@
 -- What the tokens so far are in the grammar, wherever the reader stands, and what the next one is the cause of.
 use Rattle.std.proofs.Common.{◌≡◌, ℕ, ◌≤◌, Bool, true, false, cond, List, [], ◌∷◌, ◌++◌, length, Option, Some, None}
 use Rattle.std.proofs.Common.{Result, Ok, Err, refl, ap, sym, subst, ◌∙◌, ◌⊎◌, inl, inr, arith}
-use Rattle.std.proofs.lemmas.Bool.{leb-true}
-use Rattle.std.proofs.lemmas.List.{append-nil, append_assoc}
+use Rattle.std.proofs.{lemmas.Bool.leb-true, lemmas.List.append-nil, lemmas.List.append_assoc}
 use Rattle.std.specs.Prelude.{nat_le}
 use Rattle.mfotl_lex.specs.declared.kind.Kind.{Kind}
 use Rattle.mfotl_lex.specs.declared.kind.Kind.TheVariants.{Word, OpenParen, CloseParen, Comma, Colon}
-use Rattle.mfotl_lex.specs.FirstFault.{◌>>=◌, run}
-use Rattle.mfotl_lex.specs.Lexemes.{Lexeme}
+use Rattle.mfotl_lex.specs.{FirstFault.◌>>=◌, FirstFault.run, Lexemes.Lexeme}
 use Rattle.mfotl_lex.proofs.ByPlaces as layer
-use Rattle.mfotl_lex.proofs.FirstFaultLaws.{bind_ok, run_none}
+use Rattle.mfotl_lex.proofs.{FirstFaultLaws.bind_ok, FirstFaultLaws.run_none, Verdicts.judged_ok}
 use Rattle.mfotl_model.specs.declared.policy.Sort.{Sort}
-use Rattle.mfotl_sig.specs.declared.arguments.Stage.{Stage}
+use Rattle.mfotl_sig.specs.declared.{arguments.Stage.Stage, fault.SigFault.SigFault}
 use Rattle.mfotl_sig.specs.declared.arguments.Stage.TheVariants.{AfterName, AfterOpen, AfterWord, AfterLabel, AfterSort}
 use Rattle.mfotl_sig.specs.declared.arguments.Stage.TheVariants.{AfterComma}
-use Rattle.mfotl_sig.specs.declared.fault.SigFault.{SigFault}
 use Rattle.mfotl_sig.specs.declared.fault.SigFault.TheVariants.{Syntax, UnknownSort, Arity}
-use Rattle.mfotl_sig.specs.Causes.{Begun, IsCause}
+use Rattle.mfotl_sig.specs.{Causes.Begun, Causes.IsCause, Limits.max_predicates, Limits.max_arguments, Preds.PredOf}
 use Rattle.mfotl_sig.specs.Grammar.{Argument, Only, Labelled, WrittenPredicate, FitsArgument, spell_argument, FitsLast}
 use Rattle.mfotl_sig.specs.Grammar.{spell_last, Spells, IsAccepted, IsViable}
-use Rattle.mfotl_sig.specs.Limits.{max_predicates, max_arguments}
-use Rattle.mfotl_sig.specs.Preds.{PredOf}
 use Rattle.mfotl_sig.specs.Reading.{ProgressOf, Open, Closed, DraftOf, Partial, with_argument_sort, word_stage}
-use Rattle.mfotl_sig.specs.Reading.{arguments_open}
-use Rattle.mfotl_sig.specs.Reading.{stage_step, begins, with_progress, step_from, step, nothing_read}
+use Rattle.mfotl_sig.specs.Reading.{arguments_open, stage_step, begins, with_progress, step_from, step, nothing_read}
 use Rattle.mfotl_sig.specs.Rules.{sort_of, numbered, KeepsRules}
 use Rattle.mfotl_sig.proofs.NamedLemmas.{Finds, Lacks, look_up, absent, present, length-numbered}
 use Rattle.mfotl_sig.proofs.Runs.{between, within, stage_in, judge, admit_name, admit_all, preds_run, part_run}
 use Rattle.mfotl_sig.proofs.Spelling.{preds_behind, begun_more, begun_listed, begun_closed}
-use Rattle.mfotl_lex.proofs.Verdicts.{judged_ok}
 use Rattle.mfotl_sig.proofs.Verdicts.{IsRule, judged, listed_count}
 
 -- ---- what was read of tokens that are spelled
@@ -135,8 +128,7 @@ completes front AfterComma b =
     let t = of_kind Word in viable_front front t (closed _ _ (begun_more front [] t b) (Some (Only t)) refl refl)
 
 pub stands_viable : (front : List Lexeme) (draft : Option DraftOf) → Stands front draft → IsViable front
-stands_viable front None accepted = ([], subst IsAccepted (sym (append-nil front)) accepted)
-stands_viable front (Some d) at = completes front d.arguments.stage at
+stands_viable front draft accepted = grind (arith, append-nil, completes)
 
 -- ---- one token further
 
@@ -166,30 +158,17 @@ module _ (front : List Lexeme) (t : Lexeme) (done : List PredOf) (name : List �
   with_sort_moves : (sorts : List Sort) (sort : Option Sort) (at : ℕ) (next : List Sort → ProgressOf)
       → ((more : List Sort) → Reaches (next more)) → (sort ≡ None → IsCause front t (UnknownSort at))
       → Moves (with_argument_sort sorts sort at >>= λ more. Ok (next more))
-  with_sort_moves sorts None at next place cause =
-      record { viable = reaches_viable (next sorts) (place sorts); place = tt; cause = cause refl }
-  with_sort_moves sorts (Some sort) at next place cause =
-      moves (next (sorts ++ sort ∷ [])) (place (sorts ++ sort ∷ []))
+  with_sort_moves sorts None at next place cause = grind (arith, reaches_viable (next sorts) (place sorts))
+  with_sort_moves sorts (Some sort) at next place cause = search (moves)
 
   unknown_only : (sort : Option Sort) (at : ℕ) → (t.kind ≡ Comma) ⊎ (t.kind ≡ CloseParen)
       → StandsAt front (AfterWord sort at)
       → sort ≡ None → IsCause front t (UnknownSort at)
-  unknown_only sort at ends w none =
-      inr (record { word = w.0; begun = w.1; kind = w.2; unknown = w.3 ∙ none; ends = ends; place = w.4 })
+  unknown_only sort at ends w none = grind arith
 
   unknown_labelled : t.kind ≡ Word → StandsAt front AfterLabel → sort_of t.text ≡ None
       → IsCause front t (UnknownSort t.at)
-  unknown_labelled kind (l, c, begun, labels, divides) unknown =
-      inl (record {
-        label = l;
-        colon = c;
-        begun = begun;
-        labels = labels;
-        divides = divides;
-        kind = kind;
-        unknown = unknown;
-        place = refl;
-      })
+  unknown_labelled kind (l, c, begun, labels, divides) unknown = grind arith
 
   next_moves : (sorts : List Sort) (full : Bool) (b : Begun front []) → t.kind ≡ Word
       → (length sorts ≡ length b.listed) × (length b.listed ≤ max_arguments)
@@ -236,13 +215,7 @@ module _ (front : List Lexeme) (t : Lexeme) (ws : List WrittenPredicate) (s : Sp
   name_moves : t.kind ≡ Word → Finds t.text (numbered 0 ws) ⊎ Lacks t.text (numbered 0 ws) → (full : Bool)
       → nat_le max_predicates (length (numbered 0 ws)) ≡ full
       → StandsAt (front ++ t ∷ []) AfterName → Goes front t (begins (numbered 0 ws) t Word)
-  name_moves kind (inl f) full e at =
-      let among = present t.text ws f in
-      rw f.found (record {
-        viable = completes (front ++ t ∷ []) AfterName at;
-        place = tt;
-        cause = record { preds = ws; spelled = s; kind = kind; among = among; place = refl };
-      })
+  name_moves kind (inl f) full e at = grind (arith, present t.text ws f, completes (front ++ t ∷ []) AfterName)
   name_moves kind (inr l) true e at =
       let over = leb-true max_predicates (length (numbered 0 ws)) e in
       let many : max_predicates ≤ length ws = omega (arith, length-numbered ws 0) in
@@ -252,14 +225,10 @@ module _ (front : List Lexeme) (t : Lexeme) (ws : List WrittenPredicate) (s : Sp
         place = tt;
         cause = record { preds = ws; spelled = s; kind = kind; new = new; many = many; place = refl };
       })
-  name_moves kind (inr l) false e at =
-      rw (l.none, e) (record { viable = completes (front ++ t ∷ []) AfterName at; place = at; cause = tt })
+  name_moves kind (inr l) false e at = grind (arith, completes (front ++ t ∷ []) AfterName)
 
   begins_further : (k : Kind) → t.kind ≡ k → Further front t (begins (numbered 0 ws) t k)
-  begins_further Word kind =
-      inr (name_moves kind (look_up t.text (numbered 0 ws)) (nat_le max_predicates (length (numbered 0 ws))) refl
-      (front, t, refl, (ws, s), kind))
-  begins_further _ kind = inl refl
+  begins_further k kind = grind (arith, name_moves, look_up)
 
 further_from : (front : List Lexeme) (p : Partial) (t : Lexeme) → run step front nothing_read ≡ Ok p
     → (draft : Option DraftOf) → p.draft ≡ draft → Stands front draft

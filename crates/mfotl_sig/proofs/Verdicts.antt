@@ -1,16 +1,12 @@
 -- A verdict passes exactly what keeps the rules, and else shows the fault of one.
 use Rattle.std.proofs.Common.{◌≡◌, ℕ, suc, ◌+◌, ◌<◌, ◌≤◌, Bool, true, false, cond, List, [], ◌∷◌, ◌++◌, length, Option}
-use Rattle.std.proofs.Common.{Some, None, is_some, Result, Ok, Err, refl, ap, ◌∙◌, inl, inr, arith}
-use Rattle.std.proofs.lemmas.Bool.{leb-false, leb-true}
-use Rattle.std.proofs.lemmas.Cmp.{nat_list_eq_equiv}
+use Rattle.std.proofs.Common.{Some, None, is_some, Result, Ok, refl, ap, inl, arith}
+use Rattle.std.proofs.{lemmas.Bool.leb-false, lemmas.Bool.leb-true, lemmas.Cmp.nat_list_eq_equiv}
+use Rattle.std.proofs.{lemmas.List.Elements.filter_map-append, lemmas.List.Folds.find-append}
 use Rattle.std.proofs.lemmas.List.{append-nil, append_assoc, length-append}
-use Rattle.std.proofs.lemmas.List.Elements.{filter_map-append}
-use Rattle.std.proofs.lemmas.List.Folds.{find-append}
 use Rattle.std.proofs.lemmas.Map.Keys.{IsDistinct-head, IsDistinct-tail, IsDistinct-cons}
 use Rattle.std.specs.List.{AllByRecursion, IsDistinct, filter_map, cons_option}
-use Rattle.std.specs.Prelude.{nat_le, IsSome, ◌↔◌}
-use Rattle.std.specs.Option.{option_or}
-use Rattle.std.specs.Str.{bytes_eq}
+use Rattle.std.specs.{Prelude.IsSome, Prelude.◌↔◌, Option.option_or, Str.bytes_eq}
 use Rattle.mfotl_lex.specs.Lexemes.{Lexeme}
 use Rattle.mfotl_lex.proofs.Verdicts as layer
 use Rattle.mfotl_lex.proofs.Verdicts.{breaks}
@@ -18,9 +14,7 @@ use Rattle.mfotl_model.specs.declared.policy.Sort.{Sort}
 use Rattle.mfotl_sig.specs.declared.fault.SigFault.{SigFault}
 use Rattle.mfotl_sig.specs.declared.fault.SigFault.TheVariants.{RepeatedName, UnknownSort, Arity, TooMany}
 use Rattle.mfotl_sig.specs.Grammar.{Argument, Listed, WrittenPredicate}
-use Rattle.mfotl_sig.specs.Limits.{max_predicates, max_arguments}
-use Rattle.mfotl_sig.specs.Preds.{PredOf, named}
-use Rattle.mfotl_sig.specs.Reading.{with_argument_sort}
+use Rattle.mfotl_sig.specs.{Limits.max_predicates, Limits.max_arguments, Preds.PredOf, Preds.named}
 use Rattle.mfotl_sig.specs.Rules.{sort_of, sort_word, words_of, sort_words, names_of, AllKnown, KeepsRules, numbered}
 use Rattle.mfotl_sig.proofs.Runs.{first_token, admit, admit_all, admit_name, judge_one, judge}
 
@@ -42,13 +36,11 @@ sorts_of words = filter_map sort_of words
 
 one_more : (sort : Option Sort) (more : List Sort) → IsSome sort
     → length (cons_option sort more) ≡ suc (length more)
-one_more None more some = absurd cc
-one_more (Some sort) more some = refl
+one_more sort more some = grind arith
 
 length-sorts_of : (words : List (List ℕ)) → AllKnown words → length (sorts_of words) ≡ length words
 length-sorts_of [] known = refl
-length-sorts_of (word ∷ words) known =
-    one_more (sort_of word) (sorts_of words) known.0 ∙ ap suc (length-sorts_of words known.1)
+length-sorts_of (word ∷ words) known = search (one_more, length-sorts_of words known.1)
 
 abbrev word_of : Argument → List ℕ
 word_of a = (sort_word a).text
@@ -58,24 +50,13 @@ with_one sorts a = sorts ++ sorts_of (word_of a ∷ [])
 
 longer : (sorts : List Sort) (a : Argument) → IsSome (sort_of (word_of a))
     → length (with_one sorts a) ≡ length sorts + 1
-longer sorts a some =
-    length-append sorts (sorts_of (word_of a ∷ []))
-    ∙ ap (λ n. length sorts + n) (length-sorts_of (word_of a ∷ []) (some, tt))
+longer sorts a some = cc (length-append sorts (sorts_of (word_of a ∷ [])), length-sorts_of (word_of a ∷ []) (some, tt))
 
 abbrev OneKept : List Sort → Argument → Type 0
 OneKept sorts a = (length sorts < max_arguments) × IsSome (sort_of (word_of a))
 
 one_judged : (sorts : List Sort) (a : Argument) → Judged (OneKept sorts a) (admit sorts a) (with_one sorts a)
-one_judged sorts a = by (nat_le max_arguments (length sorts)) (sort_of (word_of a)) refl
-  where
-    by : (full : Bool) (sort : Option Sort) → nat_le max_arguments (length sorts) ≡ full
-        → Judged ((length sorts < max_arguments) × IsSome sort)
-        (cond full (Err (Arity (first_token a).at)) (with_argument_sort sorts sort (sort_word a).at))
-        (sorts ++ cons_option sort [])
-    by true sort e =
-        let over = leb-true max_arguments (length sorts) e in inr (breaks IsRule _ _ tt (λ k. omega (arith, k.0)))
-    by false None e = inr (breaks IsRule _ _ tt (λ k. cc (k.1)))
-    by false (Some sort) e = inl ((leb-false max_arguments (length sorts) e, refl), refl)
+one_judged sorts a = grind (arith, first_token, leb-true, breaks, leb-false)
 
 abbrev AllKept : List Sort → List (List ℕ) → Type 0
 AllKept sorts words = (length sorts + length words ≤ max_arguments) × AllKnown words
@@ -83,9 +64,7 @@ AllKept sorts words = (length sorts + length words ≤ max_arguments) × AllKnow
 pub all_judged : (sorts : List Sort) (ls : List Listed) (last : Option Argument) → length sorts ≤ max_arguments
     → Judged (AllKept sorts (words_of ls last)) (admit_all sorts ls last) (sorts ++ sorts_of (words_of ls last))
 all_judged sorts [] None few = inl ((omega arith, tt), rw append-nil)
-all_judged sorts [] (Some a) few =
-    layer.judged_as IsRule _ _ _ _ _ (λ k. (omega (arith, k.0), (k.1, tt))) (λ k. (omega (arith, k.0), k.1.0)) refl
-    (one_judged sorts a)
+all_judged sorts [] (Some a) few = grind (arith, one_judged)
 all_judged sorts (l ∷ ls) last few =
     let a = l.argument in
     let more = with_one sorts a in
@@ -104,10 +83,7 @@ length-words_of (l ∷ ls) = ap suc (length-words_of ls)
 -- so many were admitted, and no more than there may be
 pub listed_count : (sorts : List Sort) (ls : List Listed) → admit_all [] ls None ≡ Ok sorts
     → (length sorts ≡ length ls) × (length ls ≤ max_arguments)
-listed_count sorts ls ok =
-    let all = layer.judged_ok IsRule _ _ _ sorts (all_judged [] ls None (omega arith)) ok in
-    let size = length-words_of ls in
-    (ap length all.1 ∙ length-sorts_of (words_of ls None) all.0.1 ∙ size, omega (arith, all.0.0))
+listed_count sorts ls ok = grind (arith, all_judged, length-words_of, length-sorts_of)
 
 -- ---- predicates
 
@@ -116,15 +92,7 @@ abbrev IsAdmitted : List PredOf → List ℕ → Type 0
 IsAdmitted done name = (named name done ≡ None) × (length done < max_predicates)
 
 name_judged : (done : List PredOf) (t : Lexeme) → Judged (IsAdmitted done t.text) (admit_name done t) done
-name_judged done t = by (named t.text done) (nat_le max_predicates (length done)) refl
-  where
-    by : (found : Option PredOf) (full : Bool) → nat_le max_predicates (length done) ≡ full
-        → Judged ((found ≡ None) × (length done < max_predicates))
-        (cond (is_some found) (Err (RepeatedName t.at)) (cond full (Err (TooMany t.at)) (Ok done))) done
-    by (Some p) full e = inr (breaks IsRule _ _ tt (λ k. cc (k.0)))
-    by None true e =
-        let over = leb-true max_predicates (length done) e in inr (breaks IsRule _ _ tt (λ k. omega (arith, k.1)))
-    by None false e = inl ((refl, leb-false max_predicates (length done) e), refl)
+name_judged done t = grind (arith, is_some, breaks, leb-true, leb-false)
 
 -- the predicate that is written behind others
 abbrev pred_behind : List PredOf → WrittenPredicate → PredOf
@@ -138,10 +106,7 @@ PredKept done w = IsAdmitted done w.name.text × AllKept [] (sort_words w)
 
 pred_judged : (done : List PredOf) (w : WrittenPredicate)
     → Judged (PredKept done w) (judge_one done w) (and_pred done w)
-pred_judged done w =
-    layer.then_judged IsRule _ (admit_name done w.name) _ _ _ _ _ (λ a b. (a, b)) (λ k. k) (name_judged done w.name)
-    (λ new. layer.then_judged IsRule _ (admit_all [] w.listed w.last) _ (Unit {0}) _ _ _
-    (λ a b. a) (λ k. (k, tt)) (all_judged [] w.listed w.last (omega arith)) (λ k. inl (tt, refl)))
+pred_judged done w = grind (arith, admit_name, name_judged, admit_all, all_judged)
 
 -- none of the names stands among the predicates
 abbrev Apart : List PredOf → List WrittenPredicate → Type 0
@@ -161,12 +126,7 @@ absent_behind done name p =
 apart_behind : (done : List PredOf) (p : PredOf) (ws : List WrittenPredicate)
     → Apart (done ++ p ∷ []) ws ↔ (Apart done ws × AllByRecursion (λ y. bytes_eq p.name y ≡ false) (names_of ws))
 apart_behind done p [] = (λ a. (tt, tt), λ k. tt)
-apart_behind done p (w ∷ ws) =
-    let first = absent_behind done w.name.text p in
-    let rest = apart_behind done p ws in (
-      λ a. (((first.0 a.0).0, (rest.0 a.1).0), ((first.0 a.0).1, (rest.0 a.1).1)),
-      λ k. (first.1 (k.0.0, k.1.0), rest.1 (k.0.1, k.1.1)),
-    )
+apart_behind done p (w ∷ ws) = grind (arith, absent_behind, apart_behind done p ws)
 
 apart_from_none : (ws : List WrittenPredicate) → Apart [] ws
 apart_from_none [] = tt
@@ -208,16 +168,12 @@ module _ (done : List PredOf) (w : WrittenPredicate) (ws : List WrittenPredicate
       )
 
   numbered_on : and_pred done w ++ numbered (length (and_pred done w)) ws ≡ done ++ numbered (length done) (w ∷ ws)
-  numbered_on =
-      let next : length (and_pred done w) ≡ suc (length done) = omega (arith, size) in
-      append_assoc done (pred_behind done w ∷ []) _ ∙ ap (λ n. done ++ pred_behind done w ∷ numbered n ws) next
+  numbered_on = grind (arith, size, append_assoc)
 
 preds_judged : (done : List PredOf) (ws : List WrittenPredicate) → length done ≤ max_predicates
     → Judged (KeptBehind done ws) (judge done ws) (done ++ numbered (length done) ws)
 unfolding IsDistinct
-preds_judged done [] room =
-    let rules : KeepsRules [] = record { distinct = tt; few = omega arith; short = tt; known = tt } in
-    inl ((tt, rules, omega arith), rw append-nil)
+preds_judged done [] room = grind (arith, append-nil)
 preds_judged done (w ∷ ws) room =
     rw (← numbered_on done w ws)
     (layer.then_judged IsRule (PredKept done w) (judge_one done w) (and_pred done w) (KeptBehind (and_pred done w) ws)
@@ -226,6 +182,4 @@ preds_judged done (w ∷ ws) room =
 
 -- predicates pass exactly where they keep the rules, and are numbered in order
 pub judged : (ws : List WrittenPredicate) → Judged (KeepsRules ws) (judge [] ws) (numbered 0 ws)
-judged ws =
-    layer.judged_as IsRule (KeptBehind [] ws) _ _ _ _ (λ k. k.1) (λ k. (apart_from_none ws, k, omega (arith, k.few)))
-    refl (preds_judged [] ws (omega arith))
+judged ws = grind (arith, apart_from_none ws, preds_judged)

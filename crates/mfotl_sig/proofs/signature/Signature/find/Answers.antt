@@ -1,7 +1,6 @@
 use Rattle.std.proofs.Common.{◌∙◌, ap, option_map}
 use Rattle.mfotl_sig.specs.Preds.{pred_of, named}
-use Rattle.mfotl_sig.proofs.NamedLemmas.{is_lent}
-use Rattle.mfotl_sig.proofs.PredLemmas.{lookup_named, first_named}
+use Rattle.mfotl_sig.proofs.{NamedLemmas.is_lent, PredLemmas.lookup_named, PredLemmas.first_named}
 use Rattle.mfotl_sig.proofs.signature.Signature.find.Goals as goal
 
 pub returns-then-len-gt-FEW : goal.returns-then-len-gt-FEW
