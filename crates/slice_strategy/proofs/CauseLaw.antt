@@ -1,10 +1,9 @@
 -- Behind tokens that show no fault, the reader shows a fault exactly where the token or the tail is its cause.
 use Rattle.std.proofs.Common.{◌≡◌, ◌≢◌, ◌<◌, ◌∙◌, ◌⊎◌, inl, inr, ℕ, false, List, [], ◌∷◌, ◌++◌, Result, Ok, Err, ap}
-use Rattle.std.proofs.Common.{refl, sym, subst}
-use Rattle.std.proofs.lemmas.Bool.{lt-leb, cases_Bool}
-use Rattle.std.proofs.lemmas.List.{append_assoc}
-use Rattle.mfotl_lex.specs.declared.fault.LexFault.{LexFault}
-use Rattle.mfotl_lex.specs.declared.kind.Kind.TheVariants.{Word, Comma}
+use Rattle.std.proofs.Common.{refl, sym, subst, arith}
+use Rattle.std.proofs.{lemmas.Bool.lt-leb, lemmas.Bool.cases_Bool, lemmas.List.append_assoc}
+use Rattle.std.proofs.{lemmas.Bool.Decides.leb_tells}
+use Rattle.mfotl_lex.specs.declared.{fault.LexFault.LexFault, kind.Kind.TheVariants.Word, kind.Kind.TheVariants.Comma}
 use Rattle.mfotl_lex.specs.FirstFault.{◌>>=◌, Tail, Broken, End, More, run, FollowsGrammar}
 use Rattle.mfotl_lex.specs.Lexemes.{Lexeme}
 use Rattle.mfotl_lex.proofs.FirstFaultLaws.{holds_behind, run_none, run_behind, run_fault, run_token}
@@ -21,17 +20,13 @@ use Rattle.slice_strategy.specs.Causes.{IsEndOfOver, IsCause, IsTold, IsLast}
 use Rattle.slice_strategy.specs.Grammar.{Integers, Next, Opening, Entries, NoEntry, Then, Part, Whole, ToName, ToEqual}
 use Rattle.slice_strategy.specs.Grammar.{ToMethod, First, ToColon, ToComma, FitsPart, Fits, spell_part, IsPart}
 use Rattle.slice_strategy.specs.Grammar.{IsAccepted, IsViable}
-use Rattle.slice_strategy.specs.Limits.{max_workers}
-use Rattle.slice_strategy.specs.Reading.{Between, Behind, Partial, StageOf, complete, ended, step, nothing_read}
-use Rattle.slice_strategy.specs.Reading.{at_tail}
-use Rattle.slice_strategy.specs.Rules.{strategy_of}
-use Rattle.slice_strategy.specs.ChangeReading.{may_begin}
+use Rattle.slice_strategy.specs.{Limits.max_workers, Rules.strategy_of, ChangeReading.may_begin}
+use Rattle.slice_strategy.specs.Reading.{Between, Partial, StageOf, complete, ended, step, nothing_read, at_tail}
 use Rattle.slice_strategy.proofs.EntryLaws.{had_or_free, named_low, last_number}
 use Rattle.slice_strategy.proofs.Moves.{IsRule, AreFew, head_of, so_far, behind, step_by, stepped, settled_other}
 use Rattle.slice_strategy.proofs.Moves.{ended_judged, begins_whole, chosen_by, itself, over_of, whole_begins}
 use Rattle.slice_strategy.proofs.PartReads.{KeepsPart, known_whole, stands_behind, shows_rule}
 use Rattle.slice_strategy.proofs.PartMoves.{Leads, Moves, moves, part_viable, next_fits}
-use Rattle.std.proofs.lemmas.Bool.Decides.{leb_tells}
 
 module _ (vars : List Var) where
   abbrev Ran : List Lexeme → Partial → Type 0
@@ -51,14 +46,11 @@ module _ (vars : List Var) where
     pub here : s ≡ behind vars part
 
   stood : (ts : List Lexeme) (s : Partial) (p : Part) → Ran ts s → IsPart ts p → Stands ts s
-  stood ts s p ran is =
-      let at = part_stands ts s p ran is in
-      record { ran = ran; part = p; is_part = is; kept = at.0; here = at.1 }
+  stood ts s p ran is = grind (arith, part_stands ts s p ran is)
 
   longer : (front : List Lexeme) (t : Lexeme) (p q : Part) → IsPart front p → FitsPart q
       → spell_part q ≡ spell_part p ++ t ∷ [] → IsPart (front ++ t ∷ []) q
-  longer front t p q is fits spelled =
-      record { fits = fits; spelled = ap (λ ts. ts ++ t ∷ []) is.spelled ∙ sym spelled }
+  longer front t p q is fits spelled = grind arith
 
   further : (front : List Lexeme) (s q : Partial) (t : Lexeme) → Stands front s → step vars s t ≡ Ok q
       → Stands (front ++ t ∷ []) q
@@ -97,10 +89,7 @@ module _ (vars : List Var) where
   -- a token that is no comma: nothing is due but the end of the last entry
   pub few_closed : (es : Entries) → Fits es → AreFew vars es → Closed (behind vars (Whole es)) ≡ Ok
       (so_far vars es Between)
-  few_closed es fits few =
-      let t : Lexeme = record { kind = Word; at = 0; text = [] } in
-      kept_ok _ (AreFew vars es) (Closed (behind vars (Whole es))) (so_far vars es Between)
-      (ended_judged vars es fits t (λ comma. cc)) few
+  few_closed es fits few = grind (arith, kept_ok, behind, so_far, ended_judged)
 
   pub closed_few : (es : Entries) → Fits es → (q : Partial) → Closed (behind vars (Whole es)) ≡ Ok q
       → AreFew vars es × (q ≡ so_far vars es Between)
@@ -173,9 +162,7 @@ module _ (vars : List Var) where
         let at = (part_stands front s p ran is).1 in rw at (stepped vars (behind vars p) t t.kind refl)
 
     unknown : (at : ℕ) → IsUnknown vars front t at → step vars s t ≡ Err (UnknownVariable at)
-    unknown at c =
-        let few = few_closed c.entries c.spelled.fits c.few in
-        rw (step_at (Whole c.entries) c.spelled, c.kind, few, c.unknown, c.place)
+    unknown at c = cc (few_closed c.entries c.spelled.fits c.few, step_at (Whole c.entries) c.spelled)
 
     repeated : (at : ℕ) → IsRepeated vars front t at → step vars s t ≡ Err (RepeatedVariable at)
     repeated at c =
@@ -196,9 +183,7 @@ module _ (vars : List Var) where
         rw (step_at (ToEqual c.entries c.name c.equal) c.spelled, c.kind, chosen, c.cut, c.string, c.place)
 
     not_above : (at : ℕ) → IsNotAbove front t at → step vars s t ≡ Err (CutOrder at)
-    not_above at c =
-        let last = last_number c.integers in
-        rw (step_at (ToComma c.entries c.opening c.integers c.comma) c.spelled, c.kind, last, c.low, c.place)
+    not_above at c = cc (last_number c.integers, step_at (ToComma c.entries c.opening c.integers c.comma) c.spelled)
 
     ends_by : (at : ℕ) → IsSyntax vars front t at → (r : Result Partial StrategyFault)
         → step vars s t ≡ r → Moves vars here.part t r → r ≡ Err (Syntax at)
@@ -226,14 +211,11 @@ module _ (vars : List Var) where
   -- an entry is begun, and can't be at its end
   inside_closed : (entries : Strategy) (stage : StageOf) → may_begin stage ≡ false
       → ended entries stage ≡ Ok (record { entries = entries; stage = stage })
-  inside_closed entries Between inside = absurd cc
-  inside_closed entries (Behind head e) inside = absurd cc
-  inside_closed entries _ inside = refl
+  inside_closed entries stage inside = grind arith
 
   inside_ends : (end : ℕ) (entries : Strategy) (stage : StageOf) → may_begin stage ≡ false
       → complete end entries stage ≡ Err (Syntax end)
-  inside_ends end entries Between inside = absurd cc
-  inside_ends end entries _ inside = refl
+  inside_ends end entries stage inside = grind arith
 
   module _ (ts : List Lexeme) (s : Partial) (ran : Ran ts s) where
     clear : (q : Partial) → Closed s ≡ Ok q → IsClear vars ts
@@ -248,21 +230,13 @@ module _ (vars : List Var) where
         ⊎ ((IsAccepted ts → ⊥) × ((end : ℕ) → complete end q.entries q.stage ≡ Err (Syntax end)))
 
     whole_closes : (es : Entries) → IsPart ts (Whole es) → Closes (Closed (behind vars (Whole es)))
-    whole_closes NoEntry is = inl ((NoEntry, is), refl)
-    whole_closes (Then es o is) part =
-        elim (leb_tells (workers_of (strategy_of vars (Then es o is))) max_workers) [
-          | inl few ↦ rw few.0 (inl ((Then es o is, part), refl))
-          | inr many ↦ rw many.0 (over_of vars ts es o is part many.1)
-        ]
+    whole_closes es is = grind (arith, leb_tells, over_of)
 
     closes : Closes (Closed s)
     closes =
         let here = stands ts s ran in
         elim (cases_Bool (may_begin (behind vars here.part).stage)) [
-          | inl begins ↦
-              let whole = begins_whole vars here.part begins in
-              let same = ap Closed (here.here ∙ ap (behind vars) whole.1) in
-              rw same (whole_closes whole.0 (rw whole.1 at here.is_part))
+          | inl begins ↦ grind (arith, begins_whole, behind, whole_closes)
           | inr begun ↦
               let inside = ap (λ (p : Partial). may_begin p.stage) here.here ∙ begun in
               let stage = λ (a : IsAccepted ts).
@@ -274,11 +248,7 @@ module _ (vars : List Var) where
     -- tokens behind which a strategy is given are accepted
     pub ends_accepted : (end : ℕ) (q : Partial) (strategy : Strategy) → Closed s ≡ Ok q
         → complete end q.entries q.stage ≡ Ok strategy → IsAccepted ts
-    ends_accepted end q strategy is done =
-        elim (subst Closes is closes) [
-          | inl whole ↦ whole.0
-          | inr inside ↦ absurd (cc (done, inside.1 end))
-        ]
+    ends_accepted end q strategy is done = grind (arith, closes)
 
     -- ---- what the tail shows
 
@@ -297,8 +267,7 @@ module _ (vars : List Var) where
     shown_by (Broken x) (Ok q) is c = (refl, clear q is)
     shown_by (Broken x) (Err (TooManyWorkers at)) is over = (over, tt)
     shown_by (End end) (Ok q) is (inl whole) = rw whole.1 tt
-    shown_by (End end) (Ok q) is (inr inside) =
-        rw (inside.1 end) (record { unaccepted = inside.0; stands = refl }, clear q is)
+    shown_by (End end) (Ok q) is (inr inside) = grind (arith, stands, clear)
     shown_by (End end) (Err (TooManyWorkers at)) is over = (over, tt)
     shown_by tail (Err fault) is never = absurd never
 
@@ -311,12 +280,7 @@ module _ (vars : List Var) where
 
     stops_by : (tail : Tail LexFault) (at : ℕ) → IsLast vars ts tail (Syntax at) → (r : Result Partial StrategyFault)
         → Closed s ≡ r → Closes r → at_tail tail s ≡ Err (Syntax at)
-    stops_by tail at c (Err (TooManyWorkers n)) is over = absurd (c.1 n over)
-    stops_by tail at c (Err fault) is never = absurd never
-    stops_by (Broken x) at c (Ok q) is so = rw (is, c.0)
-    stops_by (End end) at c (Ok q) is (inl whole) = absurd (c.0.unaccepted whole.0)
-    stops_by (End end) at c (Ok q) is (inr inside) = rw (is, inside.1 end) (cc c.0.stands)
-    stops_by More at c (Ok q) is so = absurd c.0
+    stops_by tail at c r is over = grind arith
 
     over_tail : (tail : Tail LexFault) (at : ℕ) → IsOver vars ts at → IsTold tail
         → at_tail tail s ≡ Err (TooManyWorkers at)

@@ -1,39 +1,33 @@
 -- Behind tokens that show no fault, the reader of scripts shows a fault exactly where the token or the tail is
 -- its cause.
 use Rattle.std.proofs.Common.{◌≡◌, ◌≢◌, ◌∙◌, ◌⊎◌, inl, inr, ℕ, Bool, true, false, ◌&&◌, List, [], ◌∷◌, ◌++◌, length}
-use Rattle.std.proofs.Common.{Option, Some, None, Result, Ok, Err, ap, refl, sym, subst}
+use Rattle.std.proofs.Common.{Option, Some, None, Result, Ok, Err, ap, refl, sym, subst, arith}
 use Rattle.std.proofs.lemmas.Bool.{le-leb, lt-ltb, le-ltb, cases_Bool}
-use Rattle.std.proofs.lemmas.List.{append_assoc}
-use Rattle.std.proofs.Math.Bool.{and-false}
-use Rattle.mfotl_lex.specs.declared.fault.LexFault.{LexFault}
-use Rattle.mfotl_lex.specs.declared.kind.Kind.{Kind}
+use Rattle.std.proofs.{lemmas.List.append_assoc, Math.Bool.and-false}
+use Rattle.mfotl_lex.specs.declared.{fault.LexFault.LexFault, kind.Kind.Kind}
 use Rattle.mfotl_lex.specs.declared.kind.Kind.TheVariants.{Word, Integer, Comma}
 use Rattle.mfotl_lex.specs.FirstFault.{Tail, Broken, End, More, run, FollowsGrammar}
 use Rattle.mfotl_lex.specs.Lexemes.{Lexeme}
 use Rattle.mfotl_lex.proofs.FirstFaultLaws.{holds_behind, run_none, run_behind, run_fault, run_token}
 use Rattle.mfotl_model.specs.Strategies.{Strategy as StrategyOf}
 use Rattle.mfotl_model.specs.declared.policy.Var.{Var}
-use Rattle.slice_strategy.specs.declared.change.Change.{Change as ChangeOf}
-use Rattle.slice_strategy.specs.declared.change.ChangeFault.{ChangeFault}
+use Rattle.slice_strategy.specs.declared.{change.Change.Change as ChangeOf, change.ChangeFault.ChangeFault}
+use Rattle.slice_strategy.specs.declared.{fault.StrategyFault.StrategyFault, script.Current.Current}
 use Rattle.slice_strategy.specs.declared.change.ChangeFault.TheVariants.{Strategy, FallingChange, TooManyChanges}
-use Rattle.slice_strategy.specs.declared.fault.StrategyFault.{StrategyFault}
 use Rattle.slice_strategy.specs.declared.fault.StrategyFault.TheVariants.{Syntax, UnknownVariable, RepeatedVariable}
 use Rattle.slice_strategy.specs.declared.fault.StrategyFault.TheVariants.{BadCount, CutSort, CutOrder, TooManyWorkers}
 use Rattle.slice_strategy.specs.declared.fault.StrategyFault.TheVariants.{Memory}
-use Rattle.slice_strategy.specs.declared.script.Current.{Current}
 use Rattle.slice_strategy.specs.Causes as strategy_causes
-use Rattle.slice_strategy.specs.Causes.{IsTold}
+use Rattle.slice_strategy.specs.{Causes.IsTold, Limits.max_changes, Reading.Between}
 use Rattle.slice_strategy.specs.ChangeCauses.{InChange, IsInterrupted, IsOverIn, IsClear, IsCauseWithin, IsByEqual}
 use Rattle.slice_strategy.specs.ChangeCauses.{IsFalling, IsOneTooMany, IsSyntax, IsCause, IsLast, StopsAt}
 use Rattle.slice_strategy.specs.ChangeGrammar.{Script, NoChange, Change, is_before, IsNumber, IsScript, SpellsScript}
 use Rattle.slice_strategy.specs.ChangeGrammar.{IsViableScript}
 use Rattle.slice_strategy.specs.ChangeReading.{ScriptOf, may_begin, falls, last_change, step, nothing_read, at_tail}
 use Rattle.slice_strategy.specs.ChangeRules.{point_number, changes_of, IsNotBelow}
-use Rattle.slice_strategy.specs.Grammar.{Then, Part, Whole, ToEqual, ToColon, ToComma, FitsPart, spell, spell_part}
-use Rattle.slice_strategy.specs.Grammar.{IsPart, IsAccepted}
-use Rattle.slice_strategy.specs.Limits.{max_changes}
+use Rattle.slice_strategy.specs.Grammar.{Then, Part, Whole, ToEqual, ToColon, FitsPart, spell, spell_part, IsPart}
+use Rattle.slice_strategy.specs.Grammar.{IsAccepted}
 use Rattle.slice_strategy.specs.Reading as strategy
-use Rattle.slice_strategy.specs.Reading.{Between}
 use Rattle.slice_strategy.proofs.CauseLaw as law
 use Rattle.slice_strategy.proofs.CauseLaw.{few_closed, over_here, goes_on_or_over}
 use Rattle.slice_strategy.proofs.Moves as strategies
@@ -69,14 +63,11 @@ module _ (vars : List Var) where
     pub here : s ≡ at_place vars place
 
   stood : (ts : List Lexeme) (s : ScriptOf) (p : Place) → Ran ts s → IsPlace ts p → Stands ts s
-  stood ts s p ran is =
-      let at = place_stands ts s p ran is in
-      record { ran = ran; place = p; is_place = is; kept = at.0; here = at.1 }
+  stood ts s p ran is = grind (arith, place_stands ts s p ran is)
 
   longer : (front : List Lexeme) (t : Lexeme) (p q : Place) → IsPlace front p → FitsPlace q
       → spell_place q ≡ spell_place p ++ t ∷ [] → IsPlace (front ++ t ∷ []) q
-  longer front t p q is fits spelled =
-      record { fits = fits; spelled = ap (λ ts. ts ++ t ∷ []) is.spelled ∙ sym spelled }
+  longer front t p q is fits spelled = grind arith
 
   further : (front : List Lexeme) (s q : ScriptOf) (t : Lexeme) → Stands front s → step vars s t ≡ Ok q
       → Stands (front ++ t ∷ []) q
@@ -100,10 +91,7 @@ module _ (vars : List Var) where
   -- in a change
   in_change : (front inner : List Lexeme) (c : InChange front inner) (p : Part) → IsPart inner p → IsNoBefore p
       → IsPlace front (Inside c.whole c.word c.count p)
-  in_change front inner c p is own = record {
-    fits = (c.fits, c.before, c.numbered, is.fits, own);
-    spelled = c.parts ∙ ap (λ ts. spell_number c.whole c.word c.count ++ ts) is.spelled;
-  }
+  in_change front inner c p is own = search (spell_number)
 
   module _ (front : List Lexeme) (s : ScriptOf) (t : Lexeme) (ran : Ran front s) where
     placed : (p : Place) → IsPlace front p → s ≡ at_place vars p
@@ -164,14 +152,9 @@ module _ (vars : List Var) where
     within_shows (BadCount at) c rule =
         own_shows c.inner c.place (ToColon c.cause.entries c.cause.opening) c.cause.spelled tt (BadCount at) c.cause
         (of_kind Integer _ c.cause.kind (λ e. cc))
-    within_shows (CutSort at) c rule =
-        own_shows c.inner c.place (ToEqual c.cause.entries c.cause.name c.cause.equal) c.cause.spelled tt (CutSort at)
-        c.cause (and-false (is_before t.kind t.text))
-    within_shows (CutOrder at) c rule =
-        own_shows c.inner c.place (ToComma c.cause.entries c.cause.opening c.cause.integers c.cause.comma)
-        c.cause.spelled tt (CutOrder at) c.cause (and-false (is_before t.kind t.text))
-    within_shows (TooManyWorkers at) c rule =
-        over_shows at (record { inner = c.inner; place = c.place; over = c.cause.over }) c.cause.behind
+    within_shows (CutSort at) c rule = search (own_shows, and-false)
+    within_shows (CutOrder at) c rule = search (own_shows, and-false)
+    within_shows (TooManyWorkers at) c rule = search (over_shows)
     within_shows Memory c rule = absurd c.cause
 
     interrupted_place : (script : Script) (word : Lexeme) → IsInterrupted front script word
@@ -212,8 +195,7 @@ module _ (vars : List Var) where
         )
 
     no_fall : (script : Script) → IsNotBelow script t → falls (current_of vars script) (point_number t) ≡ false
-    no_fall NoChange above = refl
-    no_fall (Change r v n es) above = le-ltb (point_number t) (point_number n) above
+    no_fall script above = grind (arith, le-ltb)
 
     one_too_many : (at : ℕ) → IsOneTooMany vars front t at → step vars s t ≡ Err (TooManyChanges at)
     one_too_many at c =
@@ -268,16 +250,12 @@ module _ (vars : List Var) where
         is_viable (front ++ t ∷ []) (Inside c.script c.first c.count (ToEqual es c.word t))
         (record {
           fits = (f.0, f.1, f.2, (f.3, before_word c.word.kind c.word.text c.spelled.before, c.equal), tt);
-          spelled =
-              ap (λ ts. ts ++ t ∷ []) (c.spelled.parts ∙ append_assoc base (spell [] es) (c.word ∷ []))
-              ∙ append_assoc base (spell [] es ++ c.word ∷ []) (t ∷ []);
+          spelled = grind (arith, append_assoc);
         })
 
     number_goes : (script : Script) (word : Lexeme) → IsInterrupted front script word
         → IsNumber t → IsViableScript (front ++ t ∷ [])
-    number_goes script word c numbered =
-        subst IsViableScript (sym (ap (λ ts. ts ++ t ∷ []) c.parts))
-        (number_viable script word t c.fits c.before numbered)
+    number_goes script word c numbered = grind (arith, number_viable)
 
     never : (at : ℕ) → IsSyntax vars front t at → (fault : ChangeFault) → IsRule fault
         → IsCause vars front t fault → ⊥
@@ -390,11 +368,8 @@ module _ (vars : List Var) where
           stands = early.stands;
         }
         stops More none = absurd none
-    inner_shown r w n p is tail told (Err (TooManyWorkers at)) e so =
-        let c = law.last_shown vars (spell_part p) (behind vars p) (inner_ran r w n p is) tail (TooManyWorkers at) e in
-        (record { inner = spell_part p; place = place_in ts r w n p is.fits is.spelled; over = c.0 }, c.1)
-    inner_shown r w n p is tail told (Err fault) e so =
-        absurd (law.last_shown vars (spell_part p) (behind vars p) (inner_ran r w n p is) tail fault e)
+    inner_shown r w n p is tail told (Err (TooManyWorkers at)) e so = grind (arith, behind, inner_ran, place_in)
+    inner_shown r w n p is tail told (Err fault) e so = grind (arith, behind, inner_ran)
 
     shown_by : (p : Place) → IsPlace ts p → (tail : Tail LexFault) → at_tail tail s ≡ at_tail tail (at_place vars p)
         → Shown tail (at_tail tail (at_place vars p))
@@ -403,19 +378,13 @@ module _ (vars : List Var) where
     shown_by Outside is (End end) so = tt
     shown_by (ToBefore r w) is (Broken x) so = (refl, clear_by (Broken x) x.at tt so)
     shown_by (ToBefore r w) is (End end) so =
-        let here = ap (λ (x : ScriptOf). x.before) (here_of (ToBefore r w) is) in
-        (record { unaccepted = λ a. cc (accepted_before a, here); stands = refl }, clear_by (End end) end tt so)
-    shown_by (Inside r w n p) is (Broken x) so =
-        inner_shown r w n p is (Broken x) tt (strategy.at_tail (Broken x) (behind vars p)) refl so
-    shown_by (Inside r w n p) is (End end) so =
-        inner_shown r w n p is (End end) tt (strategy.at_tail (End end) (behind vars p)) refl so
+        grind (arith, here, here_of (ToBefore r w) is, accepted_before, stands, clear_by (End end) end tt so)
+    shown_by (Inside r w n p) is (Broken x) so = search (inner_shown, behind)
+    shown_by (Inside r w n p) is (End end) so = search (inner_shown, behind)
 
     pub last_shown : (tail : Tail LexFault) (fault : ChangeFault) → at_tail tail s ≡ Err fault
         → IsLast vars ts tail fault
-    last_shown tail fault e =
-        let here = stands ts s ran in
-        let so = ap (tail_at tail) here.here in
-        rw (sym so ∙ e) at (shown_by here.place here.is_place tail so)
+    last_shown tail fault e = grind (arith, here, stands ts s ran, shown_by)
 
     -- ---- and what it is the cause of
 
@@ -447,8 +416,7 @@ module _ (vars : List Var) where
     stops_by : (p : Place) → IsPlace ts p → (tail : Tail LexFault) (at : ℕ) → StopsAt ts tail at → IsClear vars ts
         → at_tail tail (at_place vars p) ≡ Err (Strategy (Syntax at))
     stops_by Outside is (Broken x) at stops clear = rw stops
-    stops_by Outside is (End end) at stops clear =
-        absurd (stops.unaccepted (NoChange, record { fits = tt; spelled = is.spelled }))
+    stops_by Outside is (End end) at stops clear = grind arith
     stops_by (ToBefore r w) is (Broken x) at stops clear = rw stops
     stops_by (ToBefore r w) is (End end) at stops clear = cc stops.stands
     stops_by (Inside r w n p) is (Broken x) at stops clear =

@@ -1,51 +1,41 @@
 -- Behind each part of a change script: where a token leads, or of which fault it is the cause.
 use Rattle.std.proofs.Common.{◌≡◌, ◌∙◌, ◌⊎◌, inl, inr, ℕ, true, false, ◌&&◌, List, [], ◌∷◌, ◌++◌, Result, Ok, Err, ap}
-use Rattle.std.proofs.Common.{refl, sym, subst}
-use Rattle.std.proofs.lemmas.Bool.{and_parts, cases_Bool}
-use Rattle.std.proofs.lemmas.List.{append-nil, append_assoc}
+use Rattle.std.proofs.Common.{refl, sym, subst, arith}
+use Rattle.std.proofs.{lemmas.Bool.and_parts, lemmas.Bool.cases_Bool, lemmas.List.append-nil, lemmas.List.append_assoc}
+use Rattle.std.proofs.{Math.Bool.and-true, lemmas.Bool.Decides.leb_tells}
 use Rattle.std.specs.Prelude.{pos, int_lt}
 use Rattle.mfotl_lex.specs.declared.kind.Kind.{Kind}
 use Rattle.mfotl_lex.specs.declared.kind.Kind.TheVariants.{Word, Integer, Equal}
-use Rattle.mfotl_lex.specs.FirstFault.{◌>>=◌}
-use Rattle.mfotl_lex.specs.Lexemes.{Lexeme}
-use Rattle.mfotl_lex.specs.Numbers.{integer_value, digits_value}
+use Rattle.mfotl_lex.specs.{FirstFault.◌>>=◌, Lexemes.Lexeme, Numbers.integer_value, Numbers.digits_value}
 use Rattle.mfotl_lex.proofs.Verdicts as layer
 use Rattle.mfotl_model.specs.Strategies.{workers_of}
 use Rattle.mfotl_model.specs.declared.policy.Var.{Var}
-use Rattle.slice_strategy.specs.declared.change.Change.{Change as ChangeOf}
-use Rattle.slice_strategy.specs.declared.change.ChangeFault.{ChangeFault}
-use Rattle.slice_strategy.specs.declared.change.ChangeFault.TheVariants.{Strategy, FallingChange, TooManyChanges}
-use Rattle.slice_strategy.specs.declared.fault.StrategyFault.{StrategyFault}
-use Rattle.slice_strategy.specs.declared.fault.StrategyFault.TheVariants.{Syntax, UnknownVariable, RepeatedVariable}
-use Rattle.slice_strategy.specs.declared.fault.StrategyFault.TheVariants.{Memory}
+use Rattle.slice_strategy.specs.declared.{change.Change.Change as ChangeOf, change.ChangeFault.ChangeFault}
+use Rattle.slice_strategy.specs.declared.{change.ChangeFault.TheVariants.Strategy, fault.StrategyFault.StrategyFault}
+use Rattle.slice_strategy.specs.declared.{fault.StrategyFault.TheVariants.Syntax}
 use Rattle.slice_strategy.specs.Causes as strategy_causes
 use Rattle.slice_strategy.specs.ChangeCauses.{InChange, IsOwn, IsCauseWithin, IsByEqual, IsCause}
 use Rattle.slice_strategy.specs.ChangeGrammar.{Script, NoChange, Change, is_before, IsBefore, IsNumber, FitsScript}
 use Rattle.slice_strategy.specs.ChangeGrammar.{spell_script, IsScript, IsViableScript}
 use Rattle.slice_strategy.specs.ChangeReading.{ScriptOf, lifted, may_begin, change_goes_on, interrupted, decided, step}
 use Rattle.slice_strategy.specs.ChangeReading.{nothing_read}
-use Rattle.slice_strategy.specs.ChangeRules.{point_number, changes_of}
+use Rattle.slice_strategy.specs.{ChangeRules.point_number, ChangeRules.changes_of, Limits.max_workers, Rules.number}
+use Rattle.slice_strategy.specs.{Rules.strategy_of}
 use Rattle.slice_strategy.specs.Grammar.{Entries, NoEntry, Then, Part, Whole, ToName, ToEqual, FitsPart, spell}
 use Rattle.slice_strategy.specs.Grammar.{spell_part, IsPart, IsViable}
-use Rattle.slice_strategy.specs.Limits.{max_workers}
 use Rattle.slice_strategy.specs.Reading as strategy
 use Rattle.slice_strategy.specs.Reading.{Partial, Between, ended}
-use Rattle.slice_strategy.specs.Rules.{number, strategy_of}
-use Rattle.slice_strategy.specs.Causes.{IsEndOfOver}
-use Rattle.slice_strategy.proofs.CauseLaw.{part_stands, few_closed}
+use Rattle.slice_strategy.proofs.{CauseLaw.part_stands, CauseLaw.few_closed, PartMoves.part_viable, PartMoves.IsNamedBy}
 use Rattle.slice_strategy.proofs.Moves as strategies
 use Rattle.slice_strategy.proofs.Moves.{so_far, behind, name_judged, stepped, begins_whole, itself, over_of}
 use Rattle.slice_strategy.proofs.Moves.{whole_begins}
 use Rattle.slice_strategy.proofs.PartMoves as parts
-use Rattle.slice_strategy.proofs.PartMoves.{part_viable, IsNamedBy}
 use Rattle.slice_strategy.proofs.PartReads.{KeepsPart, few_of, kept_whole, known_whole, kept_reads}
 use Rattle.slice_strategy.proofs.ChangeParts.{Place, Outside, ToBefore, Inside, FitsPlace, spell_place, spell_number}
 use Rattle.slice_strategy.proofs.ChangeParts.{stopped, inside_of, at_place, KeepsPlace, IsCaused, number_judged}
 use Rattle.slice_strategy.proofs.ChangeParts.{MayCome}
 use Rattle.slice_strategy.proofs.ChangeRuns.{IsNoBefore, before_word, within_of, else_step, before_step, equal_step}
 use Rattle.slice_strategy.proofs.ChangeRuns.{name_again}
-use Rattle.std.proofs.Math.Bool.{and-true}
-use Rattle.std.proofs.lemmas.Bool.Decides.{leb_tells}
 
 -- ---- the grammar goes on
 
@@ -53,9 +43,7 @@ number_token : Lexeme
 number_token = record { kind = Integer; at = 0; text = [] }
 
 script_viable : (s : Script) → FitsScript s → IsViableScript (spell_script s)
-script_viable s fits =
-    let ts = spell_script s in
-    ([], subst IsScript (sym (append-nil ts)) (s, record { fits = fits; spelled = refl }))
+script_viable s fits = grind (arith, append-nil)
 
 -- what goes on in a strategy goes on in a change
 pub inner_viable : (s : Script) (w n : Lexeme) (inner : List Lexeme) → FitsScript s → IsBefore w → IsNumber n
@@ -88,21 +76,12 @@ place_viable Outside fits = script_viable NoChange tt
 place_viable (ToBefore s w) fits =
     viable_front (spell_script s ++ w ∷ []) number_token
     (number_viable s w number_token fits.0 fits.1 (refl, refl))
-place_viable (Inside s w n p) fits =
-    inner_viable s w n (spell_part p) fits.0 fits.1 fits.2 (part_viable p fits.3)
+place_viable (Inside s w n p) fits = search (inner_viable, part_viable)
 
 -- the tokens of a strategy in a change
 pub place_in : (ts : List Lexeme) (s : Script) (w n : Lexeme) (p : Part) → FitsPlace (Inside s w n p)
     → ts ≡ spell_place (Inside s w n p) → InChange ts (spell_part p)
-place_in ts s w n p fits spelled = record {
-  whole = s;
-  word = w;
-  count = n;
-  fits = fits.0;
-  before = fits.1;
-  numbered = fits.2;
-  parts = spelled;
-}
+place_in ts s w n p fits spelled = grind arith
 
 -- ---- one token more
 
@@ -127,24 +106,17 @@ module _ (vars : List Var) where
   leads_to p q t fits spelled = record { place = q; fits = fits; spelled = spelled; stands = refl }
 
   shows : (p : Place) (t : Lexeme) (fault : ChangeFault) → IsCaused vars (spell_place p) t fault → Shows p t fault
-  shows p t (Strategy (Syntax at)) c = absurd c.0
-  shows p t (Strategy fault) c = c.1
-  shows p t (FallingChange at) c = c.1
-  shows p t (TooManyChanges at) c = c.1
+  shows p t fault c = grind arith
 
   judged_moves : (p q : Place) (t : Lexeme) (rules : Type 0) (r : Result ScriptOf ChangeFault) → FitsPlace q
       → spell_place q ≡ spell_place p ++ t ∷ []
       → layer.Judged (IsCaused vars (spell_place p) t) rules r (at_place vars q) → Moves p t r
-  judged_moves p q t rules r fits spelled (inl kept) = rw kept.1 (leads_to p q t fits spelled)
-  judged_moves p q t rules r fits spelled (inr b) = rw b.shown (shows p t b.fault b.is_rule)
+  judged_moves p q t rules r fits spelled h = grind (arith, leads_to, shows)
 
   -- a fault of a strategy's rules, in the script
   strategy_shows : (p : Place) (t : Lexeme) (fault : StrategyFault) → strategies.IsRule fault
       → IsCauseWithin vars (spell_place p) t fault ⊎ IsByEqual vars (spell_place p) t fault → Shows p t (Strategy fault)
-  strategy_shows p t (Syntax at) rule c = absurd rule
-  strategy_shows p t Memory rule (inl c) = absurd c.cause
-  strategy_shows p t Memory rule (inr c) = absurd c.cause
-  strategy_shows p t fault rule c = c
+  strategy_shows p t fault rule c = grind arith
 
   same_at : (n : ℕ) → n ≡ n
   same_at n = refl
@@ -246,21 +218,14 @@ module _ (vars : List Var) where
           | inl few ↦
               rw few.0 (leads_to (Here (Whole (Then es o is))) (ToBefore (Change s w n (Then es o is)) t) t
               ((fits.0, fits.1, fits.2, fits.3), before) refl)
-          | inr many ↦
-              let over : IsEndOfOver vars ts t o.name.at = record {
-                over = over_of vars ts es o is here many.1;
-                behind = λ comma. cc (before_word t.kind t.text before, comma);
-              } in
-              let place = place_in (spell_place (Here (Whole (Then es o is)))) s w n (Whole (Then es o is)) fits refl in
-              rw many.0 (inl (record { inner = ts; place = place; cause = over; own = tt }))
+          | inr many ↦ grind (arith, over_of, behind, before_word, place_in, spell_place)
         ]
 
     before_moves : (p : Part) (t : Lexeme) → FitsPlace (Here p) → IsBefore t → may_begin (behind vars p).stage ≡ true
         → Moves (Here p) t
         (lifted (ended (behind vars p).entries (behind vars p).stage) >>= λ q. Ok
         (interrupted done (point_number n) t q))
-    before_moves p t fits is begins =
-        let whole = begins_whole vars p begins in rw whole.1 (stop_moves whole.0 t (rw whole.1 at fits) is)
+    before_moves p t fits is begins = grind (arith, begins_whole, stop_moves)
 
     -- the fault of a name is its own
     own_by : (p : Part) (t : Lexeme) (es : Entries) → FitsPart p → KeepsPart vars p → IsPart (spell_part p) (Whole es)
@@ -273,15 +238,11 @@ module _ (vars : List Var) where
     own_of : (p : Part) (t : Lexeme) (fault : StrategyFault) → FitsPart p → KeepsPart vars p
         → (is_before t.kind t.text && may_begin (behind vars p).stage) ≡ false
         → strategy_causes.IsCause vars (spell_part p) t fault → IsOwn t fault
-    own_of p t (UnknownVariable at) fits kept other c = own_by p t c.entries fits kept c.spelled other
-    own_of p t (RepeatedVariable at) fits kept other c = own_by p t c.entries fits kept c.spelled other
-    own_of p t _ fits kept other c = tt
+    own_of p t fault fits kept other c = grind (arith, own_by)
 
     named_own : (p q : Part) (t : Lexeme) → IsNamedBy vars p t q
         → (is_before t.kind t.text && may_begin (behind vars p).stage) ≡ false → IsNoBefore q
-    named_own p (ToName es m) t name other =
-        rw name.1 (sym (and-true (is_before t.kind t.text)) ∙ rw (name.0, whole_begins vars es) at other)
-    named_own p _ t name other = tt
+    named_own p q t name other = grind (arith, and-true, whole_begins)
 
     other_moves : (p : Part) (t : Lexeme) → FitsPlace (Here p) → KeepsPlace vars (Here p)
         → (is_before t.kind t.text && may_begin (behind vars p).stage) ≡ false
@@ -290,9 +251,7 @@ module _ (vars : List Var) where
     other_moves p t fits kept other (Ok q) leads = record {
       place = Here leads.part;
       fits = (fits.0, fits.1, fits.2, leads.fits, named_own p leads.part t leads.name other);
-      spelled =
-          ap (λ ts. spell_number s w n ++ ts) leads.spelled
-          ∙ sym (append_assoc (spell_number s w n) (spell_part p) (t ∷ []));
+      spelled = grind (arith, spell_number, append_assoc);
       stands = ap (change_goes_on done (point_number n)) leads.stands;
     }
     other_moves p t fits kept other (Err (Syntax at)) place = place
@@ -320,6 +279,4 @@ module _ (vars : List Var) where
 
   -- at every place
   pub moves : (p : Place) (t : Lexeme) → FitsPlace p → KeepsPlace vars p → Moves p t (step vars (at_place vars p) t)
-  moves Outside t fits kept = outside_moves t
-  moves (ToBefore s w) t fits kept = stopped_moves s w t t.kind refl fits kept
-  moves (Inside s w n p) t fits kept = inside_moves s w n p t fits kept
+  moves p t fits kept = grind (arith, outside_moves, stopped_moves, inside_moves)

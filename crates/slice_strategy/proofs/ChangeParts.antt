@@ -1,28 +1,23 @@
 -- Where the reader stands behind each part of a change script, and what its tokens show.
-use Rattle.std.proofs.Common.{◌≡◌, inl, inr, ◌<◌, nat_le, Bool, false, if◌then◌else◌, List, [], ◌∷◌, ◌++◌, length, Some}
-use Rattle.std.proofs.Common.{None, Option, Result, Ok, Err, refl, arith, suc}
+use Rattle.std.proofs.Common.{◌≡◌, inl, ◌<◌, nat_le, Bool, if◌then◌else◌, List, [], ◌∷◌, ◌++◌, length, Some, None}
+use Rattle.std.proofs.Common.{Option, Result, Ok, Err, arith}
 use Rattle.mfotl_lex.specs.declared.kind.Kind.TheVariants.{Word}
-use Rattle.mfotl_lex.specs.FirstFault.{◌>>=◌, run}
-use Rattle.mfotl_lex.specs.Lexemes.{Lexeme}
+use Rattle.mfotl_lex.specs.{FirstFault.◌>>=◌, FirstFault.run, Lexemes.Lexeme}
 use Rattle.mfotl_lex.proofs.FirstFaultLaws.{run-append, run_none}
 use Rattle.mfotl_lex.proofs.Verdicts as layer
 use Rattle.mfotl_lex.proofs.Verdicts.{breaks, then_judged, judged_ok, judged_rule}
 use Rattle.mfotl_model.specs.declared.policy.Var.{Var}
-use Rattle.slice_strategy.specs.declared.change.Change.{Change as ChangeOf}
-use Rattle.slice_strategy.specs.declared.change.ChangeFault.{ChangeFault}
+use Rattle.slice_strategy.specs.declared.{change.Change.Change as ChangeOf, change.ChangeFault.ChangeFault}
+use Rattle.slice_strategy.specs.declared.{fault.StrategyFault.StrategyFault, script.Current.Current}
 use Rattle.slice_strategy.specs.declared.change.ChangeFault.TheVariants.{Strategy, FallingChange, TooManyChanges}
-use Rattle.slice_strategy.specs.declared.fault.StrategyFault.{StrategyFault}
-use Rattle.slice_strategy.specs.declared.script.Current.{Current}
 use Rattle.slice_strategy.specs.Causes as strategy_causes
-use Rattle.slice_strategy.specs.ChangeCauses.{IsCause, IsFalling, IsOneTooMany}
+use Rattle.slice_strategy.specs.{ChangeCauses.IsCause, Limits.max_changes, Reading.Between, Reading.ended}
 use Rattle.slice_strategy.specs.ChangeGrammar.{Script, NoChange, Change, IsBefore, IsNumber, FitsScript, spell_script}
 use Rattle.slice_strategy.specs.ChangeReading.{ScriptOf, lifted, change_goes_on, interrupted, with_current, falls, step}
 use Rattle.slice_strategy.specs.ChangeReading.{nothing_read}
 use Rattle.slice_strategy.specs.ChangeRules.{point_number, changes_of, IsNotBelow, KeepsScript}
 use Rattle.slice_strategy.specs.Grammar.{NoEntry, Part, Whole, FitsPart, spell_part}
-use Rattle.slice_strategy.specs.Limits.{max_changes}
 use Rattle.slice_strategy.specs.Reading as strategy
-use Rattle.slice_strategy.specs.Reading.{Between, ended}
 use Rattle.slice_strategy.proofs.Moves as strategies
 use Rattle.slice_strategy.proofs.Moves.{AreFew, so_far, behind, ended_judged, whole_begins}
 use Rattle.slice_strategy.proofs.PartReads.{KeepsPart, few_kept, kept_whole, few_of, part_read}
@@ -88,8 +83,7 @@ module _ (vars : List Var) where
   KeepsPlace (Inside s w n p) = KeepsScript vars s × MayCome s n × KeepsPart vars p
 
   pub with_last : (s : Script) → with_current (done_of s) (current_of s) ≡ changes_of vars s
-  with_last NoChange = refl
-  with_last (Change s w n es) = refl
+  with_last s = grind arith
 
   abbrev Told : List Lexeme → Result ScriptOf ChangeFault
   Told ts = run (step vars) ts nothing_read
@@ -105,8 +99,7 @@ module _ (vars : List Var) where
   pub lifted_judged : {A : Type 0} (rules : Type 0) (r : Result A StrategyFault) (x : A) (f : A → ScriptOf)
       → layer.Judged strategies.IsRule rules r x
       → Judged rules (lifted r >>= λ q. Ok (f q)) (f x)
-  lifted_judged rules r x f (inl kept) = rw kept.1 (inl (kept.0, refl))
-  lifted_judged rules r x f (inr b) = rw b.shown (inr (breaks _ rules (Strategy b.fault) b.is_rule b.broken))
+  lifted_judged rules r x f h = grind (arith, breaks)
 
   -- the changes that are whole, up to the end of the last entry
   abbrev pub at_whole : Script → ScriptOf
@@ -122,12 +115,10 @@ module _ (vars : List Var) where
   FewIn (Change s w n es) = AreFew vars es
 
   pub kept_of : (s : Script) → KeepsWhole s → FewIn s → KeepsScript vars s
-  kept_of NoChange k few = tt
-  kept_of (Change s w n es) k few = (k.0, k.1.0, k.1.1, few_kept vars es k.2 few)
+  kept_of s k few = grind (arith, few_kept)
 
   pub whole_of : (s : Script) → KeepsScript vars s → KeepsWhole s × FewIn s
-  whole_of NoChange k = (tt, tt)
-  whole_of (Change s w n es) k = ((k.0, (k.1, k.2), kept_whole vars es k.3), few_of vars es k.3)
+  whole_of s k = grind (arith, kept_whole, few_of)
 
   -- a `before` behind whole changes
   starts_so : (w : Lexeme) → IsBefore w → step vars nothing_read w ≡ Ok (stopped NoChange w)
@@ -163,50 +154,7 @@ module _ (vars : List Var) where
   pub number_judged : (s : Script) (w t : Lexeme) → FitsScript s → IsBefore w → IsNumber t
       → layer.Judged (IsCaused (spell_script s ++ w ∷ []) t) (MayCome s t) (step vars (stopped s w) t)
       (inside_of s t (Whole NoEntry))
-  number_judged s w t fits before is = rw (number_due s w t is) (by s fits)
-    where
-      full_by : (s : Script) → FitsScript s → IsNotBelow s t
-          → layer.Judged (IsCaused (spell_script s ++ w ∷ []) t) (MayCome s t)
-          (due_by s w t false (nat_le max_changes (length (changes_of vars s)))) (inside_of s t (Whole NoEntry))
-      full_by s fits above =
-          elim (leb_tells max_changes (length (changes_of vars s))) [
-            | inl full ↦
-                let cause : IsOneTooMany vars (spell_script s ++ w ∷ []) t w.at = record {
-                  script = s;
-                  word = w;
-                  spelled = record { fits = fits; before = before; parts = refl };
-                  numbered = is;
-                  kept = above;
-                  many = full.1;
-                  place = refl;
-                } in
-                rw full.0
-                (inr (breaks _ _ (TooManyChanges w.at) (tt, cause) (λ may. omega (arith, full.1, may.1))))
-            | inr room ↦ rw room.0 (inl ((above, room.1), refl))
-          ]
-
-      by : (s : Script) → FitsScript s
-          → layer.Judged (IsCaused (spell_script s ++ w ∷ []) t) (MayCome s t)
-          (due_by s w t (falls (current_of s) (point_number t)) (nat_le max_changes (length (changes_of vars s))))
-          (inside_of s t (Whole NoEntry))
-      by NoChange fits = full_by NoChange fits tt
-      by (Change s v n es) fits =
-          elim (leb_tells (suc (point_number t)) (point_number n)) [
-            | inl low ↦
-                let cause : IsFalling (spell_script (Change s v n es) ++ w ∷ []) t t.at = record {
-                  script = s;
-                  first = v;
-                  count = n;
-                  entries = es;
-                  word = w;
-                  spelled = record { fits = fits; before = before; parts = refl };
-                  numbered = is;
-                  low = omega (arith, low.1);
-                  place = refl;
-                } in
-                rw low.0 (inr (breaks _ _ (FallingChange t.at) (tt, cause) (λ may. omega (arith, low.1, may.0))))
-            | inr up ↦ rw up.0 (full_by (Change s v n es) fits (omega (arith, up.1)))
-          ]
+  number_judged s w t fits before is = grind (arith, number_due, leb_tells, breaks)
 
   stop_read : (s : Script) (w : Lexeme) → FitsScript s → IsBefore w → Judged (KeepsWhole s) (Told
       (spell_script s)) (at_whole s)
@@ -228,16 +176,7 @@ module _ (vars : List Var) where
       → Judged (KeepsWhole s) (Told (spell_script s)) (at_whole s)
       → Judged (KeepsPlace (Inside s w n p)) (Told (spell_place (Inside s w n p))) (inside_of s n p)
   inside_read s w n p fits before =
-      let number = number_read s w n fits.0 fits.1 fits.2 (stop_read s w fits.0 fits.1 before) in
-      let done = changes_of vars s in
-      let start = inside_of s n (Whole NoEntry) in
-      rw (run-append (step vars) (spell_number s w n) (spell_part p) nothing_read)
-      (then_judged IsRule (KeepsScript vars s × MayCome s n) (Told (spell_number s w n)) start (KeepsPart vars p)
-      (KeepsPlace (Inside s w n p)) (λ q. run (step vars) (spell_part p) q) (inside_of s n p)
-      (λ a b. (a.0, a.1, b)) (λ k. ((k.0, k.1), k.2)) number
-      (λ a. rw (alike vars done (point_number n) p fits.3 fits.4)
-      (lifted_judged (KeepsPart vars p) (run (strategy.step vars) (spell_part p) (strategy.nothing_read vars))
-      (behind vars p) (change_goes_on done (point_number n)) (part_read vars p fits.3))))
+      grind (arith, number_read, stop_read, run-append, then_judged, alike, lifted_judged, behind, part_read)
 
   pub script_read : (s : Script) → FitsScript s → Judged (KeepsWhole s) (Told (spell_script s)) (at_whole s)
   script_read NoChange fits = inl (tt, run_none (step vars) nothing_read)
@@ -246,18 +185,14 @@ module _ (vars : List Var) where
 
   -- every place
   pub place_read : (p : Place) → FitsPlace p → Judged (KeepsPlace p) (Told (spell_place p)) (at_place p)
-  place_read Outside fits = inl (tt, run_none (step vars) nothing_read)
-  place_read (ToBefore s w) fits = stop_read s w fits.0 fits.1 (script_read s fits.0)
-  place_read (Inside s w n p) fits = inside_read s w n p fits (script_read s fits.0)
+  place_read p fits = grind (arith, run_none, stop_read, script_read, inside_read)
 
   -- where the reader stands that shows no fault
   pub stands_at : (p : Place) (s : ScriptOf) → FitsPlace p → Told (spell_place p) ≡ Ok s
       → KeepsPlace p × (s ≡ at_place p)
-  stands_at p s fits ran =
-      judged_ok IsRule (KeepsPlace p) (Told (spell_place p)) (at_place p) s (place_read p fits) ran
+  stands_at p s fits ran = grind (arith, judged_ok, place_read)
 
   -- the tokens of whole changes show no Syntax
   pub shows_rule : (s : Script) (fault : ChangeFault) → FitsScript s → Told (spell_script s) ≡ Err fault
       → IsRule fault
-  shows_rule s fault fits ran =
-      judged_rule IsRule (KeepsWhole s) (Told (spell_script s)) (at_whole s) fault (script_read s fits) ran
+  shows_rule s fault fits ran = grind (arith, judged_rule, script_read)

@@ -1,17 +1,14 @@
 -- In a change the reader of scripts does what the reader of strategies does, but that a `before` waits for a `=`.
 use Rattle.std.proofs.Common.{◌≡◌, ◌≢◌, ◌∙◌, ℕ, Bool, true, false, ◌&&◌, List, [], ◌∷◌, ◌++◌, Result, Ok, Err, ap, refl}
-use Rattle.std.proofs.Common.{sym, inl, inr}
-use Rattle.std.proofs.Math.Bool.{and-false}
+use Rattle.std.proofs.Common.{sym, inl, inr, arith}
+use Rattle.std.proofs.{Math.Bool.and-false, lemmas.Bool.cases_Bool}
 use Rattle.mfotl_lex.specs.declared.kind.Kind.{Kind}
 use Rattle.mfotl_lex.specs.declared.kind.Kind.TheVariants.{Word, Integer, Comma, Equal}
-use Rattle.mfotl_lex.specs.FirstFault.{◌>>=◌, run}
-use Rattle.mfotl_lex.specs.Lexemes.{Lexeme}
+use Rattle.mfotl_lex.specs.{FirstFault.◌>>=◌, FirstFault.run, Lexemes.Lexeme}
 use Rattle.mfotl_lex.proofs.FirstFaultLaws.{run_none}
 use Rattle.mfotl_model.specs.declared.policy.Var.{Var}
-use Rattle.slice_strategy.specs.declared.change.Change.{Change}
-use Rattle.slice_strategy.specs.declared.change.ChangeFault.{ChangeFault}
-use Rattle.slice_strategy.specs.declared.fault.StrategyFault.{StrategyFault}
-use Rattle.slice_strategy.specs.declared.stage.Method.{Method}
+use Rattle.slice_strategy.specs.declared.{change.Change.Change, change.ChangeFault.ChangeFault}
+use Rattle.slice_strategy.specs.declared.{fault.StrategyFault.StrategyFault, stage.Method.Method}
 use Rattle.slice_strategy.specs.ChangeGrammar.{is_before, IsBefore}
 use Rattle.slice_strategy.specs.ChangeReading as script
 use Rattle.slice_strategy.specs.ChangeReading.{ScriptOf, lifted, may_begin, change_goes_on, interrupted}
@@ -19,19 +16,14 @@ use Rattle.slice_strategy.specs.Grammar.{Integers, First, Next, Opening, Entries
 use Rattle.slice_strategy.specs.Grammar.{ToEqual, ToMethod, ToColon, ToComma, FitsPart, Fits, FitsOpening, FitsIntegers}
 use Rattle.slice_strategy.specs.Grammar.{spell_part}
 use Rattle.slice_strategy.specs.Reading.{Partial, Between, ended, with_stage, stage_step, step, nothing_read}
-use Rattle.slice_strategy.proofs.CauseLaw.{closed_few}
+use Rattle.slice_strategy.proofs.{CauseLaw.closed_few, PartReads.stands_behind, PartReads.more_fits, TokenRuns.one_more}
 use Rattle.slice_strategy.proofs.Moves.{behind, settled_other, whole_begins}
-use Rattle.slice_strategy.proofs.PartReads.{stands_behind, more_fits}
-use Rattle.slice_strategy.proofs.TokenRuns.{one_more}
-use Rattle.std.proofs.lemmas.Bool.{cases_Bool}
 
 pub before_word : (k : Kind) (text : List ℕ) → is_before k text ≡ true → k ≡ Word
-before_word Word text e = refl
-before_word _ text e = absurd cc
+before_word k text e = grind arith
 
 pub word_only : (k : Kind) (text : List ℕ) → k ≢ Word → is_before k text ≡ false
-word_only Word text other = absurd (other refl)
-word_only _ text other = refl
+word_only k text other = grind arith
 
 -- an entry's name is no `before`
 abbrev pub IsNoBefore : Part → Type 0
@@ -84,8 +76,7 @@ module _ (vars : List Var) (done : List Change) (number : ℕ) where
   then_by : (t : Lexeme) (r : Result Partial StrategyFault)
       → ((p : Partial) → r ≡ Ok p → script.step vars (change_goes_on done number p) t ≡ within_of (step vars p t))
       → (within_of r >>= λ s. script.step vars s t) ≡ within_of (r >>= λ p. step vars p t)
-  then_by t (Ok p) same = same p refl
-  then_by t (Err fault) same = refl
+  then_by t r same = grind arith
 
   then_alike : (front : List Lexeme) (t : Lexeme) → Alike front
       → ((p : Partial) → Ran front ≡ Ok p
@@ -96,10 +87,7 @@ module _ (vars : List Var) (done : List Change) (number : ℕ) where
   -- behind a part, a token that is no `before` or not at an entry's place
   part_alike : (p : Part) (t : Lexeme) → FitsPart p → Alike (spell_part p)
       → (is_before t.kind t.text && may_begin (behind vars p).stage) ≡ false → Alike (spell_part p ++ t ∷ [])
-  part_alike p t fits alike other =
-      then_alike (spell_part p) t alike (λ s ran.
-      let at = (stands_behind vars p s fits ran).1 in
-      else_step s t (ap (λ (x : Partial). is_before t.kind t.text && may_begin x.stage) at ∙ other))
+  part_alike p t fits alike other = grind (arith, then_alike, stands_behind, else_step)
 
   -- a name and its `=`, where the name is a `before`
   between_step : (q : Partial) (n : Lexeme) → q.stage ≡ Between → n.kind ≢ Comma
@@ -117,20 +105,14 @@ module _ (vars : List Var) (done : List Change) (number : ℕ) where
   pub name_again : (es : Entries) (n : Lexeme) (q : Partial) → Fits es → n.kind ≢ Comma
       → ended (behind vars (Whole es)).entries (behind vars (Whole es)).stage ≡ Ok q
       → step vars (behind vars (Whole es)) n ≡ step vars q n
-  name_again es n q fits other closed =
-      let at = (closed_few vars es fits q closed).1 in
-      rw (ended_step (behind vars (Whole es)) n other, closed)
-      (sym (between_step q n (ap (λ (x : Partial). x.stage) at) other))
+  name_again es n q fits other closed = grind (arith, closed_few, ended_step, behind, between_step)
 
   unit_by : (es : Entries) (n e : Lexeme) → Fits es → n.kind ≢ Comma → e.kind ≡ Equal
       → (r : Result Partial StrategyFault)
       → ended (behind vars (Whole es)).entries (behind vars (Whole es)).stage ≡ r
       → ((lifted r >>= λ q. Ok (interrupted done number n q)) >>= λ s. script.step vars s e)
       ≡ within_of (step vars (behind vars (Whole es)) n >>= λ q. step vars q e)
-  unit_by es n e fits other kind (Ok q) closed =
-      rw (name_again es n q fits other closed) (equal_step q n e kind)
-  unit_by es n e fits other kind (Err fault) closed =
-      rw (ended_step (behind vars (Whole es)) n other, closed) refl
+  unit_by es n e fits other kind r closed = grind (arith, name_again, equal_step, ended_step, behind)
 
   two_by : (es : Entries) (n e : Lexeme) → Fits es → IsBefore n → e.kind ≡ Equal
       → (r : Result Partial StrategyFault) → (Ran (spell_part (Whole es)) ≡ r)
@@ -141,17 +123,14 @@ module _ (vars : List Var) (done : List Change) (number : ℕ) where
       let at = (stands_behind vars (Whole es) s fits ran).1 in
       let p = behind vars (Whole es) in
       let word = before_word n.kind n.text before in
-      rw (at, before_step p n before (whole_begins vars es))
-      (unit_by es n e fits (λ comma. cc (word, comma)) kind (ended p.entries p.stage) refl)
+      grind (arith, before_step, whole_begins, unit_by)
 
   equal_alike : (es : Entries) (n e : Lexeme) → FitsPart (ToEqual es n e) → Alike (spell_part (Whole es))
       → Alike (spell_part (ToEqual es n e))
   equal_alike es n e fits alike =
       let front = spell_part (Whole es) in
       elim (cases_Bool (is_before n.kind n.text)) [
-        | inl before ↦
-            rw (more_told (front ++ n ∷ []) e, more_told front n, alike, more_ran (front ++ n ∷ []) e, more_ran front n)
-            (two_by es n e fits.0 before fits.2 (Ran front) refl)
+        | inl before ↦ grind (arith, more_told, more_ran, two_by)
         | inr no_before ↦
             part_alike (ToName es n) e (fits.0, fits.1) (part_alike (Whole es) n fits.0 alike (rw no_before))
             (and-false (is_before e.kind e.text))
@@ -193,8 +172,7 @@ module _ (vars : List Var) (done : List Change) (number : ℕ) where
       (of_kind t Integer _ more.3 (λ e. cc))
 
   whole_alike : (es : Entries) → Fits es → Alike (spell_part (Whole es))
-  whole_alike NoEntry fits =
-      run_none (script.step vars) fresh ∙ sym (ap within_of (run_none (step vars) (nothing_read vars)))
+  whole_alike NoEntry fits = cc (run_none (script.step vars) fresh, run_none (step vars) (nothing_read vars))
   whole_alike (Then es o is) fits = integers_alike es o is fits.0 fits.1 fits.2 (whole_alike es fits.0)
 
   -- so every part
@@ -205,5 +183,4 @@ module _ (vars : List Var) (done : List Change) (number : ℕ) where
   alike (ToEqual es n e) fits own = equal_alike es n e fits (whole_alike es fits.0)
   alike (ToMethod es n e w m) fits own = method_alike es n e w m fits (whole_alike es fits.0)
   alike (ToColon es o) fits own = colon_alike es o fits (whole_alike es fits.0)
-  alike (ToComma es o is c) fits own =
-      comma_alike es o is c fits (integers_alike es o is fits.0 fits.1 fits.3 (whole_alike es fits.0))
+  alike (ToComma es o is c) fits own = search (comma_alike, integers_alike, whole_alike)

@@ -2,41 +2,32 @@
 -- that is shown.
 use Rattle.std.proofs.Common.{◌≡◌, ◌≢◌, ◌∙◌, ℕ, true, List, [], ◌∷◌, ◌++◌, length, Some, None, Option, Result, Ok, Err}
 use Rattle.std.proofs.Common.{IfOk, IfErr, refl, ap, sym}
-use Rattle.mfotl_lex.specs.declared.fault.LexFault.{LexFault}
-use Rattle.mfotl_lex.specs.declared.kind.Mode.TheVariants.{Plain}
+use Rattle.mfotl_lex.specs.declared.{fault.LexFault.LexFault, kind.Mode.TheVariants.Plain}
 use Rattle.mfotl_lex.specs.FirstFault as layer
 use Rattle.mfotl_lex.specs.FirstFault.{Broken, End, run}
-use Rattle.mfotl_lex.specs.Lexemes.{tokens}
-use Rattle.mfotl_lex.specs.Places.{beginning}
-use Rattle.mfotl_lex.specs.Texts.{tail_of}
+use Rattle.mfotl_lex.specs.{Lexemes.tokens, Places.beginning, Texts.tail_of}
 use Rattle.mfotl_lex.proofs.FirstFaultLaws as firsts
-use Rattle.mfotl_lex.proofs.FirstFaultLaws.{bind_ok}
+use Rattle.mfotl_lex.proofs.{FirstFaultLaws.bind_ok, Verdicts.kept_ok}
 use Rattle.mfotl_lex.proofs.TextLaws as texts
-use Rattle.mfotl_lex.proofs.Verdicts.{kept_ok}
 use Rattle.mfotl_model.specs.Strategies.{Strategy as StrategyOf}
 use Rattle.mfotl_model.specs.declared.policy.Var.{Var}
-use Rattle.slice_strategy.specs.declared.change.Change.{Change as ChangeOf}
-use Rattle.slice_strategy.specs.declared.change.ChangeFault.{ChangeFault}
-use Rattle.slice_strategy.specs.declared.change.ChangeFault.TheVariants.{Strategy as Within}
-use Rattle.slice_strategy.specs.declared.fault.StrategyFault.{StrategyFault}
-use Rattle.slice_strategy.specs.declared.fault.StrategyFault.TheVariants.{Syntax, Memory}
-use Rattle.slice_strategy.specs.ChangeAnswers.{Gives}
-use Rattle.slice_strategy.specs.ChangeCauses.{IsCause, IsLast}
+use Rattle.slice_strategy.specs.declared.{change.Change.Change as ChangeOf, change.ChangeFault.ChangeFault}
+use Rattle.slice_strategy.specs.declared.{change.ChangeFault.TheVariants.Strategy as Within}
+use Rattle.slice_strategy.specs.declared.{fault.StrategyFault.StrategyFault, fault.StrategyFault.TheVariants.Syntax}
+use Rattle.slice_strategy.specs.declared.{fault.StrategyFault.TheVariants.Memory}
+use Rattle.slice_strategy.specs.{ChangeAnswers.Gives, ChangeCauses.IsCause, ChangeCauses.IsLast, Grammar.Whole}
+use Rattle.slice_strategy.specs.{Grammar.spell_part, Rules.strategy_of, Rules.text_of}
 use Rattle.slice_strategy.specs.ChangeGrammar.{Script, NoChange, Change, FitsScript, spell_script, IsViableScript}
 use Rattle.slice_strategy.specs.ChangeLaws.{OneAnswer, IsShown, ExactFaults, ExactSoundness, StaysShown}
 use Rattle.slice_strategy.specs.ChangeReading.{ScriptOf, last_change, step, nothing_read, at_tail, reading}
 use Rattle.slice_strategy.specs.ChangeRules.{point_number, changes_of, KeepsScript, IsValue}
-use Rattle.slice_strategy.specs.Grammar.{Whole, spell_part}
 use Rattle.slice_strategy.specs.Reading as strategy
 use Rattle.slice_strategy.specs.Reading.{Partial, complete, ended}
-use Rattle.slice_strategy.specs.Rules.{strategy_of, text_of}
 use Rattle.slice_strategy.proofs.CauseLaw.{closed_few, ends_accepted, few_closed, part_stands}
-use Rattle.slice_strategy.proofs.Moves.{behind}
-use Rattle.slice_strategy.proofs.PartReads.{few_kept, few_of}
+use Rattle.slice_strategy.proofs.{Moves.behind, PartReads.few_kept, PartReads.few_of, TokenRuns.never_ok}
 use Rattle.slice_strategy.proofs.ChangeCauseLaw.{follows, stands, place_stands, inner_ran, IsPlace}
 use Rattle.slice_strategy.proofs.ChangeParts.{IsRule, Place, Outside, ToBefore, Inside, spell_number, at_place}
 use Rattle.slice_strategy.proofs.ChangeParts.{at_whole, KeepsWhole, whole_of, script_read}
-use Rattle.slice_strategy.proofs.TokenRuns.{never_ok}
 
 module _ (vars : List Var) (bytes : List ℕ) where
   abbrev end : ℕ

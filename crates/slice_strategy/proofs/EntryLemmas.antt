@@ -2,20 +2,16 @@
 use Rattle.std.proofs.Common.{◌≡◌, ◌∙◌, ℕ, zero, suc, ◌+◌, ◌*◌, ◌/◌, ◌%◌, ◌<◌, ◌≤◌, Bool, true, false, not, nat_eq}
 use Rattle.std.proofs.Common.{◌&&◌, ◌||◌, List, [], ◌∷◌, length, drop, get_or, Some, slice_get, ap, sym, subst, arith}
 use Rattle.std.proofs.lemmas.List.{drop_more, drop_all, length-map}
-use Rattle.std.proofs.lemmas.Nat.{mul-le, mod_below}
+use Rattle.std.proofs.{lemmas.Nat.mul-le, lemmas.Nat.mod_below, lemmas.Option.slice_get-map}
+use Rattle.std.proofs.{lemmas.Option.slice_get-get_or}
 use Rattle.std.proofs.Math.Nat.{mul_comm, mul_assoc, add-mul, mul-one, mul-div_cancel_left}
-use Rattle.std.proofs.lemmas.Option.{slice_get-map, slice_get-get_or}
-use Rattle.mfotl_model.specs.FreeVariables.{among}
-use Rattle.mfotl_model.specs.Regions.{near_from, near_of}
-use Rattle.mfotl_model.specs.Satisfaction.{Valuation}
+use Rattle.mfotl_model.specs.{FreeVariables.among, Regions.near_from, Regions.near_of, Satisfaction.Valuation}
 use Rattle.mfotl_model.specs.Strategies.{Entry as EntryOf, Strategy, owner_from, owner_of, strategy_part, parts_of}
 use Rattle.mfotl_model.specs.Strategies.{workers_of}
 use Rattle.slice_strategy.specs.declared.entry.Entry.{Entry}
 use Rattle.slice_strategy.specs.Entries.{entry_of, entries_of, HasWorkers}
 use Rattle.mfotl_model.specs.declared.value.Value.{Value}
-use Rattle.slice_strategy.specs.Slicers.{full_row}
-use Rattle.slice_strategy.specs.Limits.{max_workers}
-use Rattle.slice_strategy.specs.SlicerLemmas.{both_some, one_owner}
+use Rattle.slice_strategy.specs.{Slicers.full_row, Limits.max_workers, SlicerLemmas.both_some, SlicerLemmas.one_owner}
 
 -- the entries from place i on
 abbrev pub behind : List Entry → ℕ → Strategy
@@ -23,15 +19,13 @@ behind items i = entries_of (drop i items)
 
 pub entry_next : (items : List Entry) (i : ℕ) (e : Entry) → i < length items → e ≡ get_or items i e
     → behind items i ≡ entry_of e ∷ behind items (i + 1)
-entry_next items i e low is =
-    ap entries_of (drop_more items i e low) ∙ ap (λ x. entry_of x ∷ behind items (i + 1)) (sym is)
+entry_next items i e low is = cc (drop_more items i e low)
 
 pub none_behind : (items : List Entry) (i : ℕ) → length items ≤ i → behind items i ≡ []
 none_behind items i past = ap entries_of (drop_all i items past)
 
 pub up_to : (n w : ℕ) → 0 < w → n ≤ n * w
-up_to n w some = let one : n * 1 ≤ n * w = mul-le n 1 n w (omega arith) (omega arith) in
-    let same : n * 1 ≡ n = mul-one n in omega (arith, one, same)
+up_to n w some = grind (arith, mul-le, mul-one)
 
 -- ---- an entry's part
 
@@ -51,15 +45,12 @@ has_parts es i e has found = let r = by es i found has.some in (r.0, omega (arit
     by (d ∷ es) (suc i) found some =
         let both = both_some (parts_of d) (workers_of es) some in
         let r = by es i found both.1 in
-        let up : workers_of es ≤ parts_of d * workers_of es =
-        subst (λ n. workers_of es ≤ n) (mul_comm (workers_of es) (parts_of d))
-        (up_to (workers_of es) (parts_of d) both.0) in
+        let up : workers_of es ≤ parts_of d * workers_of es = grind (arith, mul_comm, up_to) in
         (r.0, omega (arith, r.1, up))
 
 pub found_entry : (items : List Entry) (i : ℕ) (e : Entry) → i < length items → e ≡ get_or items i e
     → slice_get (entries_of items) i ≡ Some (entry_of e)
-found_entry items i e low is =
-    rw (slice_get-map entry_of items i, slice_get-get_or items i e low, ← is)
+found_entry items i e low is = cc (slice_get-map entry_of items i, slice_get-get_or items i e low)
 
 pub entries_size : (items : List Entry) → length (entries_of items) ≡ length items
 entries_size items = length-map items entry_of
@@ -68,8 +59,7 @@ entries_size items = length-map items entry_of
 pub read_entry : (items : List Entry) (strategy : Strategy) (i : ℕ) (e : Entry) → entries_of items ≡ strategy
     → i < length strategy → e ≡ get_or items i e
     → slice_get (entries_of items) i ≡ Some (entry_of e)
-read_entry items strategy i e same low is =
-    let size = ap length same in found_entry items i e (omega (arith, low, size, entries_size items)) is
+read_entry items strategy i e same low is = grind (arith, found_entry, entries_size)
 
 -- ---- an owner's digits, from the first entry on
 
@@ -80,10 +70,7 @@ pub record Owes (items : List Entry) (row : List Value) (number i : ℕ) : Type 
       ≡ owner_of (entries_of items) (full_row row)
 
 horner : (n p w a r : ℕ) → (n * p + a) * w + r ≡ n * (p * w) + (a * w + r)
-horner n p w a r =
-    let one : (n * p + a) * w ≡ n * p * w + a * w = add-mul (n * p) a w in
-    let two : n * p * w ≡ n * (p * w) = mul_assoc n p w in
-    omega (arith, one, two)
+horner n p w a r = omega (arith, add-mul (n * p) a w, mul_assoc n p w)
 
 module _ (items : List Entry) (row : List Value) (number i : ℕ) (owes : Owes items row number i) (e : Entry)
     (low : i < length items) (is : e ≡ get_or items i e) where
@@ -95,13 +82,7 @@ module _ (items : List Entry) (row : List Value) (number i : ℕ) (owes : Owes i
 
   pub owes_next : (a : ℕ) → a ≡ strategy_part (entry_of e) (full_row row i)
       → Owes items row (number * parts_of (entry_of e) + a) (i + 1)
-  owes_next a part =
-      record {
-        within = owes.within;
-        owner =
-            rw (← owes.owner, entry_next items i e low is, ← part)
-            (horner number (parts_of (entry_of e)) w a (owner_from (i + 1) (behind items (i + 1)) (full_row row)));
-      }
+  owes_next a part = grind (arith, entry_next, horner)
 
 pub owes_bound : (items : List Entry) (row : List Value) (number i : ℕ) → Owes items row number i → number < max_workers
 owes_bound items row number i owes =
@@ -120,10 +101,7 @@ pub owes_parts : (items : List Entry) (row : List Value) (number i : ℕ) → Ow
     → i < length items → e ≡ get_or items i e
     → (0 < parts_of (entry_of e)) × (parts_of (entry_of e) ≤ max_workers)
     × (number * parts_of (entry_of e) ≤ max_workers * max_workers)
-owes_parts items row number i owes e low is =
-    let h = has_parts (entries_of items) i (entry_of e) owes.within (found_entry items i e low is) in
-    let few = owes_bound items row number i owes in
-    (h.0, h.1, mul-le number (parts_of (entry_of e)) max_workers max_workers (omega (arith, few)) h.1)
+owes_parts items row number i owes e low is = grind (arith, has_parts, found_entry, owes_bound, mul-le)
 
 -- ---- a worker's digits, from the first entry on
 
@@ -159,12 +137,7 @@ module _ (items : List Entry) (vs : List ℕ) (v : Valuation) (k digits place i 
 
   pub nears_next : lies (place / parts_of (entry_of e)) ≡ true
       → Nears items vs v k (digits % (place / parts_of (entry_of e))) (place / parts_of (entry_of e)) (i + 1)
-  nears_next here =
-      record {
-        places = divides;
-        low = mod_below digits (place / parts_of (entry_of e)) some_others;
-        near = rw divides (rw (rw divides at here) at both);
-      }
+  nears_next here = search (divides, mod_below, some_others, both)
 
   pub nears_not : lies (place / parts_of (entry_of e)) ≡ false → false ≡ near_of (entries_of items) k vs v
   nears_not other = rw (rw divides at other) at both

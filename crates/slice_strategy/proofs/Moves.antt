@@ -1,31 +1,22 @@
 -- Where the reader stands behind each part of a strategy, and what each token makes of it there.
-use Rattle.std.proofs.Common.{◌≡◌, ◌≢◌, ◌∙◌, inl, inr, ◌<◌, ◌≤◌, true, false, if◌then◌else◌, List, Option, Some, None}
-use Rattle.std.proofs.Common.{Result, Ok, Err, slice_get, ap, refl, sym, arith}
-use Rattle.std.proofs.lemmas.Bool.{cases_Bool}
-use Rattle.std.proofs.lemmas.Bool.Decides.{leb_tells}
-use Rattle.std.proofs.lemmas.Option.{same_Some}
-use Rattle.std.specs.Prelude.{codes, pos, int_le, int_lt}
-use Rattle.std.specs.Str.{bytes_eq}
+use Rattle.std.proofs.Common.{◌≡◌, ◌≢◌, ◌<◌, ◌≤◌, true, if◌then◌else◌, List, Option, Some, None, Result, Ok, Err}
+use Rattle.std.proofs.Common.{slice_get, ap, refl, arith}
+use Rattle.std.proofs.{lemmas.Bool.cases_Bool, lemmas.Bool.Decides.leb_tells, lemmas.Option.same_Some}
+use Rattle.std.specs.Prelude.{int_lt}
 use Rattle.mfotl_lex.specs.declared.kind.Kind.{Kind}
 use Rattle.mfotl_lex.specs.declared.kind.Kind.TheVariants.{Word, Integer, Comma}
-use Rattle.mfotl_lex.specs.FirstFault.{◌>>=◌}
-use Rattle.mfotl_lex.specs.Lexemes.{Lexeme}
+use Rattle.mfotl_lex.specs.{FirstFault.◌>>=◌, Lexemes.Lexeme}
 use Rattle.mfotl_lex.proofs.Verdicts as layer
 use Rattle.mfotl_lex.proofs.Verdicts.{breaks, then_judged}
 use Rattle.mfotl_model.specs.Strategies.{workers_of}
 use Rattle.mfotl_model.specs.declared.policy.Var.{Var}
-use Rattle.slice_strategy.specs.declared.fault.StrategyFault.{StrategyFault}
-use Rattle.slice_strategy.specs.declared.fault.StrategyFault.TheVariants.{Syntax, UnknownVariable, RepeatedVariable}
-use Rattle.slice_strategy.specs.declared.fault.StrategyFault.TheVariants.{BadCount, CutSort, CutOrder, TooManyWorkers}
-use Rattle.slice_strategy.specs.declared.stage.Head.{Head}
-use Rattle.slice_strategy.specs.declared.stage.Method.{Method}
+use Rattle.slice_strategy.specs.declared.{fault.StrategyFault.StrategyFault, fault.StrategyFault.TheVariants.Syntax}
+use Rattle.slice_strategy.specs.declared.{fault.StrategyFault.TheVariants.CutSort, stage.Head.Head, stage.Method.Method}
 use Rattle.slice_strategy.specs.declared.stage.Method.TheVariants as method
-use Rattle.slice_strategy.specs.Causes.{IsCause, IsOver, IsRepeated, CutsText, IsNotAbove}
-use Rattle.slice_strategy.specs.ChangeReading.{may_begin}
+use Rattle.slice_strategy.specs.{Causes.IsCause, Causes.IsOver, ChangeReading.may_begin, Limits.max_workers}
 use Rattle.slice_strategy.specs.Grammar.{Integers, First, Next, Opening, Entries, NoEntry, Then, Part, Whole, ToName}
 use Rattle.slice_strategy.specs.Grammar.{ToEqual, ToMethod, ToColon, ToComma, FitsPart, Fits, spell_part, method_of}
 use Rattle.slice_strategy.specs.Grammar.{IsPart, Spells}
-use Rattle.slice_strategy.specs.Limits.{max_workers}
 use Rattle.slice_strategy.specs.Reading.{StageOf, Named, Chosen, Between, Divided, Cutting, Behind, Partial}
 use Rattle.slice_strategy.specs.Reading.{entry_named, opened, stage_step, ended, entry_settled, with_stage, step}
 use Rattle.slice_strategy.specs.Reading.{nothing_read, syntax_at, chosen_method}
@@ -73,24 +64,16 @@ module _ (vars : List Var) where
 
   -- where an entry may begin, stand whole entries
   pub whole_begins : (es : Entries) → may_begin (behind (Whole es)).stage ≡ true
-  whole_begins NoEntry = refl
-  whole_begins (Then es o is) = refl
+  whole_begins es = grind arith
 
   pub begins_whole : (p : Part) → may_begin (behind p).stage ≡ true → (es : Entries) × (p ≡ Whole es)
-  begins_whole (Whole es) e = (es, refl)
-  begins_whole (ToColon es o) e = absurd (cc (e, opened_never o.method))
-    where
-      opened_never : (m : Method) → may_begin (opened (head_of o.name) m) ≡ false
-      opened_never method.Hash = refl
-      opened_never method.Cut = refl
-  begins_whole _ e = absurd cc
+  begins_whole p e = grind arith
 
   abbrev pub Judged : List Lexeme → Lexeme → Type 0 → Result Partial StrategyFault → Partial → Type 0
   Judged front t rules r q = layer.Judged (IsCaused vars front t) rules r q
 
   pub settled_other : (p : Partial) (k : Kind) → k ≢ Comma → entry_settled p k ≡ ended p.entries p.stage
-  settled_other p Comma other = absurd (other refl)
-  settled_other p _ other = refl
+  settled_other p k other = grind arith
 
   -- there are not too many workers
   abbrev pub AreFew : Entries → Type 0
@@ -99,55 +82,20 @@ module _ (vars : List Var) where
   -- with the last entry there are too many
   pub over_of : (ts : List Lexeme) (es : Entries) (o : Opening) (is : Integers) → Spells ts (Then es o is)
       → max_workers < workers_of (strategy_of vars (Then es o is)) → IsOver vars ts o.name.at
-  over_of ts es o is spelled many =
-      record { before = es; opening = o; integers = is; spelled = spelled; many = many; place = refl }
+  over_of ts es o is spelled many = grind arith
 
   -- no more of the last entry comes
   pub ended_judged : (es : Entries) → Fits es → (t : Lexeme) → t.kind ≢ Comma
       → Judged (spell_part (Whole es)) t (AreFew es) (ended (behind (Whole es)).entries (behind (Whole es)).stage)
       (so_far es Between)
-  ended_judged NoEntry fits t other = inl (one_worker vars, refl)
-  ended_judged (Then es o is) fits t other =
-      elim (leb_tells (workers_of (strategy_of vars (Then es o is))) max_workers) [
-        | inl few ↦ rw few.0 (inl (few.1, refl))
-        | inr many ↦
-            let over = over_of _ es o is (itself (Whole (Then es o is)) fits) many.1 in
-            rw many.0 (inr (breaks _ _ (TooManyWorkers o.name.at) (tt, record { over = over; behind = other })
-            (λ few. omega (arith, many.1, few))))
-      ]
+  ended_judged es fits t other = grind (arith, one_worker, leb_tells, over_of, itself, breaks)
 
   -- a name where an entry may begin
   new_judged : (es : Entries) → Fits es → AreKnown vars es → AreFew es → (t : Lexeme) → t.kind ≡ Word
       → Judged (spell_part (Whole es)) t (IsNew vars es t)
       (with_stage (strategy_of vars es) (entry_named (strategy_of vars es) (variable_of vars t.text) t))
       (behind (ToName es t))
-  new_judged es fits known few t kind =
-      let here = itself (Whole es) fits in
-      elim (cases_Option (variable_of vars t.text)) [
-        | inl e ↦
-            rw e (inr (breaks _ _ (UnknownVariable t.at)
-            (tt, record { entries = es; spelled = here; few = few; kind = kind; unknown = e; place = refl })
-            (λ new. cc (e, new.free))))
-        | inr found ↦
-            let x = found.0 in
-            let free = found.1 in
-            elim (had_or_free vars es x known (named_low vars t.text x free)) [
-              | inl h ↦
-                  let cause : IsRepeated vars (spell_part (Whole es)) t t.at = record {
-                    entries = es;
-                    spelled = here;
-                    few = few;
-                    kind = kind;
-                    variable = x;
-                    free = free;
-                    had = h.had;
-                    place = refl;
-                  } in
-                  rw (free, h.repeats t) (inr (breaks _ _ (RepeatedVariable t.at) (tt, cause)
-                  (λ new. new.first (rw (same_Some x new.variable (sym free ∙ new.free)) at h.had))))
-              | inr f ↦ rw (free, f.uncut) (inl (record { variable = x; free = free; first = f.first }, refl))
-            ]
-      ]
+  new_judged es fits known few t kind = grind (arith, itself, cases_Option, breaks, had_or_free, named_low, same_Some)
 
   -- one judgement behind another, for the same fault
   pub name_judged : (es : Entries) → Fits es → AreKnown vars es → (t : Lexeme) → t.kind ≡ Word
@@ -169,87 +117,28 @@ module _ (vars : List Var) where
       if holds_text (slice_get vars head.variable) then Err (CutSort t.at) else Ok (Divided head method.Cut)
 
   pub chosen_by : (head : Head) (t : Lexeme) → chosen_method vars head t ≡ divided_by head t (method_of t.text)
-  chosen_by head t =
-      elim (cases_Bool (bytes_eq t.text (codes "hash"))) [
-        | inl hash ↦ rw hash
-        | inr other ↦
-            elim (cases_Bool (bytes_eq t.text (codes "cut"))) [
-              | inl cut ↦ rw (other, cut)
-              | inr neither ↦ rw (other, neither)
-            ]
-      ]
+  chosen_by head t = grind (arith, cases_Bool)
 
   -- a method
   pub method_judged : (es : Entries) (n e : Lexeme) → FitsPart (ToEqual es n e) → (t : Lexeme) (m : Method)
       → t.kind ≡ Word → method_of t.text ≡ Some m
       → Judged (spell_part (ToEqual es n e)) t (SuitsSort vars n m) (step_by (behind (ToEqual es n e)) t Word)
       (behind (ToMethod es n e t m))
-  method_judged es n e fits t m kind is = rw (chosen_by (head_of n) t, is) (by m is)
-    where
-      by : (m : Method) → method_of t.text ≡ Some m
-          → Judged (spell_part (ToEqual es n e)) t (SuitsSort vars n m)
-          (with_stage (strategy_of vars es) (divided_by (head_of n) t (Some m))) (behind (ToMethod es n e t m))
-      by method.Hash is = inl (tt, refl)
-      by method.Cut is =
-          elim (cases_Bool (holds_text (slice_get vars (number_of vars n)))) [
-            | inl text ↦
-                let cause : CutsText vars (spell_part (ToEqual es n e)) t t.at = record {
-                  entries = es;
-                  name = n;
-                  equal = e;
-                  spelled = itself (ToEqual es n e) fits;
-                  kind = kind;
-                  cut = is;
-                  string = text;
-                  place = refl;
-                } in
-                rw text (inr (breaks _ _ (CutSort t.at) (tt, cause) (λ suits. cc)))
-            | inr other ↦ rw other (inl (refl, refl))
-          ]
+  method_judged es n e fits t m kind is = grind (arith, chosen_by, cases_Bool, slice_get, itself, breaks)
 
   -- the first integer
   pub first_judged : (es : Entries) (o : Opening) → FitsPart (ToColon es o) → (t : Lexeme) → t.kind ≡ Integer
       → Judged (spell_part (ToColon es o)) t (AreInOrder o.method (First t)) (step_by (behind
       (ToColon es o)) t Integer)
       (behind (Whole (Then es o (First t))))
-  first_judged es o fits t kind = by o.method refl
-    where
-      by : (m : Method) → o.method ≡ m
-          → Judged (spell_part (ToColon es o)) t (AreInOrder m (First t))
-          (step_by (so_far es (opened (head_of o.name) m)) t Integer)
-          (so_far es (Behind (head_of o.name) (entry_by m (First t))))
-      by method.Hash is =
-          let so = itself (ToColon es o) fits in
-          elim (cases_Bool (int_le (pos 1) (number t))) [
-            | inl e ↦ rw e (inl (refl, refl))
-            | inr e ↦
-                rw e (inr (breaks _ _ (BadCount t.at)
-                (tt, record { entries = es; opening = o; spelled = so; hash = is; kind = kind; low = e; place = refl })
-                (λ enough. cc)))
-          ]
-      by method.Cut is = inl (tt, refl)
+  first_judged es o fits t kind = grind (arith, itself, cases_Bool, breaks)
 
   -- one more integer
   pub next_judged : (es : Entries) (o : Opening) (is : Integers) (c : Lexeme) → FitsPart (ToComma es o is c)
       → (t : Lexeme) → t.kind ≡ Integer
       → Judged (spell_part (ToComma es o is c)) t (int_lt (last_of is) (number t) ≡ true)
       (step_by (behind (ToComma es o is c)) t Integer) (behind (Whole (Then es o (Next is c t))))
-  next_judged es o is c fits t kind =
-      elim (cases_Bool (int_lt (last_of is) (number t))) [
-        | inl e ↦ rw (last_number is, e, fits.2) (inl (refl, refl))
-        | inr e ↦
-            let cause : IsNotAbove (spell_part (ToComma es o is c)) t t.at = record {
-              entries = es;
-              opening = o;
-              integers = is;
-              comma = c;
-              spelled = itself (ToComma es o is c) fits;
-              kind = kind;
-              low = e;
-              place = refl;
-            } in
-            rw (last_number is, e) (inr (breaks _ _ (CutOrder t.at) (tt, cause) (λ above. cc)))
-      ]
+  next_judged es o is c fits t kind = grind (arith, cases_Bool, last_number, itself, breaks)
 
   pub comma_step : (es : Entries) (o : Opening) (is : Integers) (t : Lexeme) → o.method ≡ method.Cut
       → step_by (behind (Whole (Then es o is))) t Comma ≡ Ok (behind (ToComma es o is t))

@@ -3,20 +3,16 @@ use Rattle.std.proofs.Common.{◌≡◌, ◌∙◌, ap, sym, refl, subst, arith,
 use Rattle.std.proofs.Common.{◌&&◌, ◌||◌, not, nat_eq, List, length, get_or, ◌⊎◌, inl, inr, Option, Some, None, IfSome}
 use Rattle.std.proofs.lemmas.Bool.{and_from, cases_eq, cases_lt}
 use Rattle.std.proofs.lemmas.Nat.{div-mul-add, mod-mul-add, mod_below, mul-le, div-add-mod'}
-use Rattle.std.proofs.Math.Bool.{and-false}
-use Rattle.std.proofs.Math.Nat.{mul-div_cancel_left}
+use Rattle.std.proofs.{Math.Bool.and-false, Math.Nat.mul-div_cancel_left}
 use Rattle.std.specs.Option.{unwrap_or}
 use Rattle.mfotl_model.proofs.LogicLemmas.{funext}
-use Rattle.mfotl_model.specs.FreeVariables.{among}
-use Rattle.mfotl_model.specs.Regions.{near_from}
-use Rattle.mfotl_model.specs.Satisfaction.{Valuation}
+use Rattle.mfotl_model.specs.{FreeVariables.among, Regions.near_from, Satisfaction.Valuation}
 use Rattle.mfotl_model.specs.Strategies.{parts_of, strategy_part, workers_of}
 use Rattle.slice_strategy.proofs.EntryLemmas.{behind, entry_next}
 use Rattle.slice_strategy.specs.declared.entry.Entry.{Entry}
-use Rattle.slice_strategy.specs.Entries.{entries_of, entry_of}
+use Rattle.slice_strategy.specs.{Entries.entries_of, Entries.entry_of, Slicers.NoneFrom, Slicers.end_of}
 use Rattle.slice_strategy.specs.Nearest.{IsNearest, may_be, next_number, raised}
 use Rattle.slice_strategy.specs.SlicerLemmas.{below_product, both_some, same_number}
-use Rattle.slice_strategy.specs.Slicers.{NoneFrom, end_of}
 
 -- a smaller digit makes a smaller number
 lower : (a b place r s : ℕ) → a < b → r < place → a * place + r < b * place + s

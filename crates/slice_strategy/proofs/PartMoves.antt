@@ -1,26 +1,23 @@
 -- Behind each part of a strategy: to which part a token leads, or of which fault it is the cause.
-use Rattle.std.proofs.Common.{◌≡◌, ◌≢◌, inl, inr, ℕ, List, [], ◌∷◌, ◌++◌, Result, Ok, Err, refl, sym, subst}
+use Rattle.std.proofs.Common.{◌≡◌, ◌≢◌, inl, inr, ℕ, List, [], ◌∷◌, ◌++◌, Result, Ok, Err, refl, subst, arith}
 use Rattle.std.specs.Prelude.{codes}
-use Rattle.std.proofs.lemmas.List.{append-nil, append_assoc}
+use Rattle.std.proofs.{lemmas.List.append-nil, lemmas.List.append_assoc, lemmas.Grind.common_steps}
 use Rattle.mfotl_lex.specs.declared.kind.Kind.{Kind}
 use Rattle.mfotl_lex.specs.declared.kind.Kind.TheVariants.{Word, Integer, Comma, Colon, Equal}
-use Rattle.mfotl_lex.specs.FirstFault.{◌>>=◌}
-use Rattle.mfotl_lex.specs.Lexemes.{Lexeme}
+use Rattle.mfotl_lex.specs.{FirstFault.◌>>=◌, Lexemes.Lexeme}
 use Rattle.mfotl_lex.proofs.Verdicts as layer
 use Rattle.mfotl_model.specs.declared.policy.Var.{Var}
-use Rattle.slice_strategy.specs.declared.fault.StrategyFault.{StrategyFault}
-use Rattle.slice_strategy.specs.declared.fault.StrategyFault.TheVariants.{Syntax}
-use Rattle.slice_strategy.specs.declared.stage.Method.{Method}
+use Rattle.slice_strategy.specs.declared.{fault.StrategyFault.StrategyFault, fault.StrategyFault.TheVariants.Syntax}
+use Rattle.slice_strategy.specs.declared.{stage.Method.Method}
 use Rattle.slice_strategy.specs.declared.stage.Method.TheVariants as method
 use Rattle.slice_strategy.specs.Causes.{IsCause}
 use Rattle.slice_strategy.specs.Grammar.{Integers, First, Next, Opening, Entries, NoEntry, Then, Part, Whole, ToName}
 use Rattle.slice_strategy.specs.Grammar.{ToEqual, ToMethod, ToColon, ToComma, FitsPart, Fits, FitsIntegers, spell_part}
 use Rattle.slice_strategy.specs.Grammar.{method_of, IsAccepted, IsViable}
-use Rattle.slice_strategy.specs.Reading.{Between, Partial, opened, ended, with_stage, stage_step, step}
+use Rattle.slice_strategy.specs.Reading.{Between, Partial, opened, ended, step}
 use Rattle.slice_strategy.proofs.Moves.{IsCaused, head_of, so_far, behind, step_by, stepped, ended_judged, name_judged}
 use Rattle.slice_strategy.proofs.Moves.{method_judged, first_judged, next_judged, comma_step, chosen_by}
-use Rattle.slice_strategy.proofs.PartReads.{KeepsPart, known_whole}
-use Rattle.slice_strategy.proofs.EntryLaws.{cases_Option}
+use Rattle.slice_strategy.proofs.{PartReads.KeepsPart, PartReads.known_whole, EntryLaws.cases_Option}
 
 -- ---- the grammar goes on
 
@@ -31,9 +28,7 @@ viable_front : (front : List Lexeme) (t : Lexeme) → IsViable (front ++ t ∷ [
 viable_front front t v = (t ∷ v.0, subst IsAccepted (append_assoc front (t ∷ []) v.0) v.1)
 
 whole_viable : (es : Entries) → Fits es → IsViable (spell_part (Whole es))
-whole_viable es fits =
-    let ts = spell_part (Whole es) in
-    ([], subst IsAccepted (sym (append-nil ts)) (es, record { fits = fits; spelled = refl }))
+whole_viable es fits = grind (arith, append-nil)
 
 colon_viable : (es : Entries) (o : Opening) → FitsPart (ToColon es o) → IsViable (spell_part (ToColon es o))
 unfolding of_kind
@@ -60,8 +55,7 @@ equal_viable es n e fits =
 
 pub cut_fits : (m : Method) (is : Integers) (c t : Lexeme) → m ≡ method.Cut → FitsIntegers m is → c.kind ≡ Comma
     → t.kind ≡ Integer → FitsIntegers m (Next is c t)
-cut_fits method.Hash is c t cut fits comma kind = absurd cc
-cut_fits method.Cut is c t cut fits comma kind = (fits, comma, kind)
+cut_fits m is c t cut fits comma kind = grind arith
 
 -- the entries with one more integer
 pub next_fits : (es : Entries) (o : Opening) (is : Integers) (c t : Lexeme) → FitsPart (ToComma es o is c)
@@ -108,47 +102,33 @@ module _ (vars : List Var) where
 
   leads : (p q : Part) (t : Lexeme) → FitsPart q → spell_part q ≡ spell_part p ++ t ∷ [] → IsNamedBy p t q
       → Moves p t (Ok (behind vars q))
-  leads p q t fits spelled name =
-      record { part = q; fits = fits; spelled = spelled; stands = refl; name = name }
+  leads p q t fits spelled name = grind arith
 
   shows : (p : Part) (t : Lexeme) (fault : StrategyFault) → IsCaused vars (spell_part p) t fault → Shows p t fault
-  shows p t (Syntax at) c = absurd c.0
-  shows p t _ c = c.1
+  shows p t fault c = grind arith
 
   judged_moves : (p q : Part) (t : Lexeme) (rules : Type 0) (r : Result Partial StrategyFault) → FitsPart q
       → spell_part q ≡ spell_part p ++ t ∷ [] → IsNamedBy p t q
       → layer.Judged (IsCaused vars (spell_part p) t) rules r (behind vars q) → Moves p t r
-  judged_moves p q t rules r fits spelled name (inl kept) = rw kept.1 (leads p q t fits spelled name)
-  judged_moves p q t rules r fits spelled name (inr b) = rw b.shown (shows p t b.fault b.is_rule)
+  judged_moves p q t rules r fits spelled name h = grind (arith, leads, shows)
 
   -- no entry may begin with the token
   ends_moves : (es : Entries) (t : Lexeme) → Fits es → t.kind ≢ Comma
       → (next : Partial → Result Partial StrategyFault) → next (so_far vars es Between) ≡ Err (Syntax t.at)
       → Moves (Whole es) t (ended (behind vars (Whole es)).entries (behind vars (Whole es)).stage >>= next)
-  ends_moves es t fits other next syntax =
-      elim (ended_judged vars es fits t other) [
-        | inl kept ↦ rw (kept.1, syntax) (same_place t.at)
-        | inr b ↦ rw b.shown (shows (Whole es) t b.fault b.is_rule)
-      ]
-    where
-      same_place : (n : ℕ) → n ≡ n
-      same_place n = refl
+  ends_moves es t fits other next syntax = grind (arith, common_steps, ended_judged, shows)
 
   -- a comma behind integers
   comma_moves : (es : Entries) (o : Opening) (is : Integers) (t : Lexeme) → Fits (Then es o is) → t.kind ≡ Comma
       → (m : Method) → o.method ≡ m
       → Moves (Whole (Then es o is)) t (step_by vars (behind vars (Whole (Then es o is))) t Comma)
   comma_moves es o is t fits kind method.Hash hash = rw hash refl
-  comma_moves es o is t fits kind method.Cut cut =
-      rw (comma_step vars es o is t cut)
-      (leads (Whole (Then es o is)) (ToComma es o is t) t (fits.0, fits.1, cut, fits.2, kind) refl tt)
+  comma_moves es o is t fits kind method.Cut cut = search (comma_step, leads)
 
   -- no integer behind a `:`
   opened_moves : (es : Entries) (o : Opening) (t : Lexeme) (k : Kind) → k ≢ Integer → (m : Method)
       → Moves (ToColon es o) t (step_by vars (so_far vars es (opened (head_of vars o.name) m)) t k)
-  opened_moves es o t Integer other m = absurd (other refl)
-  opened_moves es o t k other method.Hash = refl
-  opened_moves es o t k other method.Cut = refl
+  opened_moves es o t k other m = grind arith
 
   part_moves : (p : Part) (t : Lexeme) (k : Kind) → t.kind ≡ k → FitsPart p → KeepsPart vars p
       → Moves p t (step_by vars (behind vars p) t k)
@@ -157,9 +137,7 @@ module _ (vars : List Var) where
       (name_judged vars es fits (known_whole vars es kept) t kind)
   part_moves (Whole NoEntry) t Comma kind fits kept = refl
   part_moves (Whole (Then es o is)) t Comma kind fits kept = comma_moves es o is t fits kind o.method refl
-  part_moves (Whole es) t k kind fits kept =
-      ends_moves es t fits (λ comma. cc (kind, comma))
-      (λ q. with_stage q.entries (stage_step vars q.entries q.stage t k)) refl
+  part_moves (Whole es) t k kind fits kept = grind (arith, ends_moves es t)
   part_moves (ToName es n) t Equal kind fits kept =
       leads (ToName es n) (ToEqual es n t) t (fits.0, fits.1, kind) refl tt
   part_moves (ToName es n) t _ kind fits kept = refl

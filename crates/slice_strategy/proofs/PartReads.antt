@@ -1,16 +1,14 @@
 -- What the reader makes of the tokens of each part of a strategy: it stands behind the part, or shows a fault
 -- of a rule.
-use Rattle.std.proofs.Common.{◌≡◌, inl, true, List, [], ◌∷◌, ◌++◌, Result, Ok, Err, refl}
+use Rattle.std.proofs.Common.{◌≡◌, inl, true, List, [], ◌∷◌, ◌++◌, Result, Ok, Err, refl, arith}
 use Rattle.std.specs.Prelude.{int_lt}
-use Rattle.mfotl_lex.specs.declared.kind.Kind.TheVariants.{Word, Integer, Comma, Colon, Equal}
-use Rattle.mfotl_lex.specs.FirstFault.{run}
-use Rattle.mfotl_lex.specs.Lexemes.{Lexeme}
+use Rattle.mfotl_lex.specs.declared.kind.Kind.TheVariants.{Word, Integer, Comma, Colon}
+use Rattle.mfotl_lex.specs.{FirstFault.run, Lexemes.Lexeme}
 use Rattle.mfotl_lex.proofs.FirstFaultLaws.{run_none}
 use Rattle.mfotl_lex.proofs.Verdicts as layer
 use Rattle.mfotl_lex.proofs.Verdicts.{judged_ok, kept_ok, judged_rule}
 use Rattle.mfotl_model.specs.declared.policy.Var.{Var}
-use Rattle.slice_strategy.specs.declared.fault.StrategyFault.{StrategyFault}
-use Rattle.slice_strategy.specs.declared.stage.Method.{Method}
+use Rattle.slice_strategy.specs.declared.{fault.StrategyFault.StrategyFault, stage.Method.Method}
 use Rattle.slice_strategy.specs.declared.stage.Method.TheVariants as method
 use Rattle.slice_strategy.specs.Causes.{IsCause}
 use Rattle.slice_strategy.specs.Grammar.{Integers, First, Next, Opening, Entries, NoEntry, Then, Part, Whole, ToName}
@@ -27,8 +25,7 @@ use Rattle.mfotl_lex.specs.declared.kind.Kind.{Kind}
 -- what the grammar asks of one more integer
 pub more_fits : (m : Method) (is : Integers) (c t : Lexeme) → FitsIntegers m (Next is c t)
     → (m ≡ method.Cut) × FitsIntegers m is × (c.kind ≡ Comma) × (t.kind ≡ Integer)
-more_fits method.Hash is c t f = absurd f
-more_fits method.Cut is c t f = (refl, f.0, f.1, f.2)
+more_fits m is c t f = grind arith
 
 module _ (vars : List Var) where
   -- the rules that a part keeps, where the last entry isn't at its end
@@ -44,17 +41,14 @@ module _ (vars : List Var) where
       KeepsRules vars es × IsNew vars es o.name × SuitsSort vars o.name o.method × AreInOrder o.method is
 
   pub known_whole : (es : Entries) → KeepsPart (Whole es) → AreKnown vars es
-  known_whole NoEntry k = tt
-  known_whole (Then es o is) k = (kept_known vars es k.0, k.1)
+  known_whole es k = grind (arith, kept_known)
 
   -- the end of the last entry
   pub few_kept : (es : Entries) → KeepsPart (Whole es) → AreFew vars es → KeepsRules vars es
-  few_kept NoEntry k few = tt
-  few_kept (Then es o is) k few = (k.0, k.1, k.2, k.3, few)
+  few_kept es k few = grind arith
 
   pub kept_whole : (es : Entries) → KeepsRules vars es → KeepsPart (Whole es)
-  kept_whole NoEntry k = tt
-  kept_whole (Then es o is) k = (k.0, k.1, k.2, k.3)
+  kept_whole es k = grind arith
 
   pub few_of : (es : Entries) → KeepsRules vars es → AreFew vars es
   few_of NoEntry k = one_worker vars
@@ -94,8 +88,7 @@ module _ (vars : List Var) where
 
   equal_read : (es : Entries) (n e : Lexeme) → FitsPart (ToEqual es n e) → Reads (ToName es n)
       → Reads (ToEqual es n e)
-  equal_read es n e fits before =
-      reads_on (ToName es n) (ToEqual es n e) e Equal fits.2 refl (λ k. k) (λ k. k) before refl
+  equal_read es n e fits before = search (reads_on)
 
   method_read : (es : Entries) (n e w : Lexeme) (m : Method) → FitsPart (ToMethod es n e w m)
       → Reads (ToEqual es n e) → Reads (ToMethod es n e w m)
@@ -114,15 +107,12 @@ module _ (vars : List Var) where
 
   comma_read : (es : Entries) (o : Opening) (is : Integers) (c : Lexeme) → FitsPart (ToComma es o is c)
       → Reads (Whole (Then es o is)) → Reads (ToComma es o is c)
-  comma_read es o is c fits before =
-      reads_on (Whole (Then es o is)) (ToComma es o is c) c Comma fits.4 refl (λ k. k) (λ k. k) before
-      (comma_step vars es o is c fits.2)
+  comma_read es o is c fits before = search (reads_on, comma_step)
 
   more_in_order : (m : Method) (is : Integers) (c t : Lexeme) → m ≡ method.Cut
       → (AreInOrder m is → int_lt (last_of is) (number t) ≡ true → AreInOrder m (Next is c t))
       × (AreInOrder m (Next is c t) → AreInOrder m is × (int_lt (last_of is) (number t) ≡ true))
-  more_in_order method.Hash is c t cut = absurd cc
-  more_in_order method.Cut is c t cut = (λ a b. (a, b), λ k. k)
+  more_in_order m is c t cut = grind arith
 
   integers_read : (es : Entries) (o : Opening) (is : Integers) → Fits es → FitsOpening o → FitsIntegers o.method is
       → Reads (ToColon es o) → Reads (Whole (Then es o is))
@@ -143,28 +133,21 @@ module _ (vars : List Var) where
 
   whole_read : (es : Entries) → Fits es → Reads (Whole es)
   whole_read NoEntry fits = inl (tt, run_none (step vars) (nothing_read vars))
-  whole_read (Then es o is) fits =
-      integers_read es o is fits.0 fits.1 fits.2 (opening_read es o (fits.0, fits.1) (whole_read es fits.0))
+  whole_read (Then es o is) fits = search (integers_read, opening_read, whole_read es fits.0)
 
   -- every part
   pub part_read : (p : Part) → FitsPart p → Reads p
   part_read (Whole es) fits = whole_read es fits
   part_read (ToName es n) fits = name_read es n fits (whole_read es fits.0)
-  part_read (ToEqual es n e) fits =
-      equal_read es n e fits (name_read es n (fits.0, fits.1) (whole_read es fits.0))
-  part_read (ToMethod es n e w m) fits =
-      method_read es n e w m fits
-      (equal_read es n e (fits.0, fits.1, fits.2) (name_read es n (fits.0, fits.1) (whole_read es fits.0)))
+  part_read (ToEqual es n e) fits = search (equal_read, name_read, whole_read)
+  part_read (ToMethod es n e w m) fits = search (method_read, equal_read, name_read, whole_read)
   part_read (ToColon es o) fits = opening_read es o fits (whole_read es fits.0)
-  part_read (ToComma es o is c) fits =
-      comma_read es o is c fits
-      (integers_read es o is fits.0 fits.1 fits.3 (opening_read es o (fits.0, fits.1) (whole_read es fits.0)))
+  part_read (ToComma es o is c) fits = search (comma_read, integers_read, opening_read, whole_read)
 
   -- where the reader stands that shows no fault
   pub stands_behind : (p : Part) (s : Partial) → FitsPart p → Ran (spell_part p) ≡ Ok s
       → KeepsPart p × (s ≡ behind vars p)
-  stands_behind p s fits ran =
-      judged_ok IsRule (KeepsPart p) (Ran (spell_part p)) (behind vars p) s (part_read p fits) ran
+  stands_behind p s fits ran = grind (arith, judged_ok, behind, part_read)
 
   -- and what keeps the rules shows none
   pub kept_reads : (p : Part) → FitsPart p → KeepsPart p → Ran (spell_part p) ≡ Ok (behind vars p)
@@ -172,5 +155,4 @@ module _ (vars : List Var) where
 
   -- the tokens of a part show no Syntax
   pub shows_rule : (p : Part) (fault : StrategyFault) → FitsPart p → Ran (spell_part p) ≡ Err fault → IsRule fault
-  shows_rule p fault fits ran =
-      judged_rule IsRule (KeepsPart p) (Ran (spell_part p)) (behind vars p) fault (part_read p fits) ran
+  shows_rule p fault fits ran = grind (arith, judged_rule, behind, part_read)

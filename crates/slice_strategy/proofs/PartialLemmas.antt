@@ -1,11 +1,9 @@
 -- Values that rows give to variables.
-use Rattle.std.proofs.Common.{◌≡◌, ◌≢◌, ◌∙◌, ℕ, zero, suc, ◌+◌, ◌<◌, true, false, cond, nat_eq, ◌||◌, List, [], ◌∷◌}
-use Rattle.std.proofs.Common.{length, drop, get_or, ap, sym, arith, zero-add}
-use Rattle.std.proofs.lemmas.Bool.Decides.{nat_tests}
-use Rattle.std.proofs.lemmas.List.{drop_more}
+use Rattle.std.proofs.Common.{◌≡◌, ◌≢◌, ◌∙◌, ℕ, zero, suc, ◌+◌, ◌<◌, false, cond, nat_eq, ◌||◌, List, [], ◌∷◌, length}
+use Rattle.std.proofs.Common.{drop, get_or, ap, sym, arith, zero-add}
+use Rattle.std.proofs.{lemmas.Bool.Decides.nat_tests, lemmas.List.drop_more}
 use Rattle.std.specs.List.{range_with_len}
-use Rattle.mfotl_model.specs.FreeVariables.{among}
-use Rattle.mfotl_model.specs.Tables.{valuation}
+use Rattle.mfotl_model.specs.{FreeVariables.among, Tables.valuation}
 use Rattle.mfotl_model.specs.declared.value.Value.{Value}
 use Rattle.slice_strategy.specs.Slicers.{full_row}
 
@@ -21,19 +19,15 @@ module _ (cols : List ℕ) (row : List Value) (y i : ℕ) (a : Value) (in_cols :
 
   taken : cond (nat_eq y (get_or cols i 0)) (get_or row i a) (valuation (drop (i + 1) cols) (drop (i + 1) row) y)
       ≡ valuation cols row y
-  taken =
-      rw (drop_more cols i 0 in_cols, drop_more row i a in_row) at reads.value
+  taken = cc (drop_more cols i 0 in_cols, drop_more row i a in_row)
 
   pub reads_next : get_or cols i 0 ≢ y → Reads cols row y (i + 1)
-  reads_next other =
-      let apart : nat_eq y (get_or cols i 0) ≡ false = grind (arith, nat_tests) in
-      record { bound = rw apart at first; value = rw apart at taken }
+  reads_next other = grind (arith, first, taken)
 
 full_from : (s i : ℕ) (row : List Value) (a : Value) → i < length row
     → valuation (range_with_len s (length row)) row (s + i) ≡ get_or row i a
 full_from s i [] a low = absurd (omega arith)
-full_from s zero (b ∷ row) a low =
-    let here : nat_eq (s + 0) s ≡ true = grind (arith, nat_tests) in rw here
+full_from s zero (b ∷ row) a low = grind arith
 full_from s (suc i) (b ∷ row) a low =
     let apart : nat_eq (s + suc i) s ≡ false = grind (arith, nat_tests) in
     let next : s + suc i ≡ s + 1 + i = omega arith in

@@ -1,8 +1,6 @@
 -- The remainder of an integer, as the machine takes it.
-use Rattle.std.proofs.Common.{◌≡◌, ◌∙◌, ℕ, ◌+◌, ◌-◌, ◌*◌, ◌<◌, ◌≤◌, ap, refl, arith, ℤ, pos, negsuc}
-use Rattle.std.proofs.Common.{◌+ℤ◌}
-use Rattle.std.proofs.lemmas.Int.{int_rem_euclid_is, ints}
-use Rattle.std.proofs.lemmas.Nat.{mul-le}
+use Rattle.std.proofs.Common.{◌≡◌, ◌∙◌, ℕ, ◌+◌, ◌-◌, ◌*◌, ◌<◌, ◌≤◌, ap, refl, arith, ℤ, pos, negsuc, ◌+ℤ◌}
+use Rattle.std.proofs.{lemmas.Int.int_rem_euclid_is, lemmas.Int.ints, lemmas.Nat.mul-le}
 use Rattle.std.proofs.Math.Nat.{mul_comm, zero-mul, one-mul}
 use Rattle.std.specs.Int.{int_rem_euclid}
 use Rattle.mfotl_model.specs.Strategies.{remainder}
@@ -11,8 +9,7 @@ lifted : (m p : ℕ) → m + 1 ≤ p → negsuc m +ℤ pos p ≡ pos (p - (m + 1
 lifted m p h = omega (arith, ints)
 
 pub euclid : (z : ℤ) (count : ℕ) → 0 < count → int_rem_euclid z (pos count) ≡ pos (remainder z count)
-euclid (pos n) count some =
-    int_rem_euclid_is (pos n) (pos count) count 0 n some refl (omega (arith, ints, zero-mul count))
+euclid (pos n) count some = omega (arith, int_rem_euclid_is, pos n, pos count, ints, zero-mul count)
 euclid (negsuc n) count some =
     let high : 1 * (n + 1) ≤ count * (n + 1) = mul-le 1 (n + 1) count (n + 1) (omega arith) (omega arith) in
     let one : 1 * (n + 1) ≡ n + 1 = one-mul (n + 1) in

@@ -1,32 +1,20 @@
 -- What a reader has read stays sound, token by token.
-use Rattle.std.proofs.Common.{◌≡◌, ◌∙◌, ℕ, zero, suc, ◌-◌, ◌^◌, ◌<◌, ◌≤◌, Bool, true, false, nat_le, if◌then◌else◌, min}
-use Rattle.std.proofs.Common.{List, [], ◌∷◌, ◌++◌, length, replicate, Option, Some, None, Result, Ok, Err, slice_get}
-use Rattle.std.proofs.Common.{slice_set, refl, arith}
-use Rattle.std.specs.Prelude.{ℤ, pos, negsuc, codes}
-use Rattle.std.specs.Str.{bytes_eq}
+use Rattle.std.proofs.Common.{◌≡◌, ◌∙◌, ℕ, zero, suc, ◌-◌, ◌^◌, ◌<◌, ◌≤◌, Bool, if◌then◌else◌, min, List, [], ◌∷◌}
+use Rattle.std.proofs.Common.{length, replicate, Option, Result, Ok, Err, slice_get, slice_set, refl, arith}
+use Rattle.std.specs.Prelude.{ℤ}
 use Rattle.std.proofs.lemmas.Bool.{le-leb, leb-true, lt-leb}
-use Rattle.std.proofs.lemmas.Option.{slice_get_within}
-use Rattle.std.proofs.lemmas.List.{map-set}
-use Rattle.std.proofs.Math.Nat.{one-mul, one-le-mul}
+use Rattle.std.proofs.{lemmas.Option.slice_get_within, lemmas.List.map-set, Math.Nat.one-mul, Math.Nat.one-le-mul}
 use Rattle.mfotl_lex.specs.declared.kind.Kind.{Kind}
-use Rattle.mfotl_lex.specs.declared.kind.Kind.TheVariants.{Word, Integer, Colon, Equal}
 use Rattle.mfotl_lex.specs.Lexemes.{Lexeme}
-use Rattle.mfotl_lex.specs.Numbers.{integer_value}
 use Rattle.mfotl_model.specs.Strategies.{Entry, Strategy, parts_of, workers_of}
 use Rattle.mfotl_model.specs.Strategies.Entry.{Uncut, Hash, Cut}
 use Rattle.mfotl_model.specs.declared.policy.Var.{Var}
-use Rattle.slice_strategy.specs.declared.fault.StrategyFault.{StrategyFault}
-use Rattle.slice_strategy.specs.declared.fault.StrategyFault.TheVariants.{BadCount, CutSort, CutOrder, TooManyWorkers}
-use Rattle.slice_strategy.specs.declared.entry.Entry.{Entry as Item}
-use Rattle.slice_strategy.specs.declared.stage.Head.{Head}
+use Rattle.slice_strategy.specs.declared.{fault.StrategyFault.StrategyFault, entry.Entry.Entry as Item, stage.Head.Head}
+use Rattle.slice_strategy.specs.declared.fault.StrategyFault.TheVariants.{CutSort, CutOrder, TooManyWorkers}
 use Rattle.slice_strategy.specs.declared.stage.Method.TheVariants as method
-use Rattle.slice_strategy.specs.Entries.{entries_of, entry_of}
-use Rattle.slice_strategy.specs.Limits.{max_workers}
-use Rattle.slice_strategy.specs.Reading.{StageOf, Between, Named, Chosen, Divided, Counting, Cutting, Behind, StageFits}
-use Rattle.slice_strategy.specs.Reading.{PartialFits, fresh, entry_named, with_count, is_above, stage_step, syntax_at}
-use Rattle.slice_strategy.specs.Reading.{ended}
-use Rattle.slice_strategy.specs.Rules.{variable_of, holds_text}
-use Rattle.slice_strategy.specs.SlicerLemmas.{both_some}
+use Rattle.slice_strategy.specs.{Entries.entries_of, Entries.entry_of, Limits.max_workers, SlicerLemmas.both_some}
+use Rattle.slice_strategy.specs.Reading.{StageOf, Between, Divided, Behind, StageFits, PartialFits, fresh, entry_named}
+use Rattle.slice_strategy.specs.Reading.{with_count, stage_step, syntax_at, ended}
 
 -- ---- the stages
 
@@ -37,55 +25,29 @@ Sound n (Err fault) = Unit {0}
 
 fresh_sound : (entries : Strategy) (variable : ℕ) (t : Lexeme) (found : Option Entry)
     → slice_get entries variable ≡ found → Sound (length entries) (fresh found variable t)
-fresh_sound entries variable t (Some Uncut) is = slice_get_within entries variable Uncut is
-fresh_sound entries variable t _ is = tt
+fresh_sound entries variable t found is = grind (arith, slice_get_within)
 
 named_sound : (entries : Strategy) (found : Option ℕ) (t : Lexeme)
     → Sound (length entries) (entry_named entries found t)
-named_sound entries None t = tt
-named_sound entries (Some variable) t = fresh_sound entries variable t (slice_get entries variable) refl
+named_sound entries found t = grind (arith, fresh_sound, slice_get)
 
 module _ (n : ℕ) (head : Head) (low : head.variable < n) (t : Lexeme) where
   chosen_sound : (a b c : Bool)
       → Sound n (if a then Ok (Divided head method.Hash)
       else if b then (if c then Err (CutSort t.at) else Ok (Divided head method.Cut))
       else syntax_at t)
-  chosen_sound true b c = low
-  chosen_sound false true true = tt
-  chosen_sound false true false = low
-  chosen_sound false false c = tt
+  chosen_sound a b c = grind arith
 
   count_sound : (v : ℤ) → Sound n (with_count head v t.at)
-  count_sound (negsuc k) = tt
-  count_sound (pos m) = by (nat_le 1 m) refl
-    where
-      by : (enough : Bool) → nat_le 1 m ≡ enough
-          → Sound n (if enough then Ok (Behind head (Hash m)) else Err (BadCount t.at))
-      by true e = (low, leb-true 1 m e)
-      by false e = tt
+  count_sound v = grind (arith, leb-true)
 
   cut_sound : (cuts : List ℤ) (above : Bool)
       → Sound n (if above then Ok (Behind head (Cut cuts)) else Err (CutOrder t.at))
-  cut_sound cuts true = (low, omega arith)
-  cut_sound cuts false = tt
+  cut_sound cuts above = grind arith
 
 step_sound : (vars : List Var) (entries : Strategy) (stage : StageOf) (t : Lexeme) (kind : Kind)
     → StageFits (length entries) stage → Sound (length entries) (stage_step vars entries stage t kind)
-step_sound vars entries Between t Word fits = named_sound entries (variable_of vars t.text) t
-step_sound vars entries (Named head) t Equal fits = fits
-step_sound vars entries (Chosen head) t Word fits =
-    chosen_sound (length entries) head fits t (bytes_eq t.text (codes "hash")) (bytes_eq t.text (codes "cut"))
-    (holds_text (slice_get vars head.variable))
-step_sound vars entries (Divided head method.Hash) t Colon fits = fits
-step_sound vars entries (Divided head method.Cut) t Colon fits = fits
-step_sound vars entries (Counting head) t Integer fits =
-    count_sound (length entries) head fits t (integer_value t.text)
-step_sound vars entries (Cutting head cuts) t Integer fits =
-    let number = integer_value t.text in
-    cut_sound (length entries) head fits t (cuts ++ number ∷ [])
-    (is_above (slice_get cuts (length cuts - 1)) number)
-step_sound vars entries (Behind head (Cut cuts)) t kind fits = fits.0
-step_sound vars entries _ t _ fits = tt
+step_sound vars entries stage t kind fits = grind (arith, named_sound, chosen_sound, slice_get, count_sound, cut_sound)
 
 pub stage_fits : (vars : List Var) (entries : Strategy) (stage : StageOf) (t : Lexeme) (kind : Kind) (s : StageOf)
     → StageFits (length entries) stage → stage_step vars entries stage t kind ≡ Ok s → StageFits (length entries) s
@@ -99,9 +61,7 @@ uncut_one (suc n) = one-mul (workers_of (replicate n Uncut)) ∙ uncut_one n
 
 -- where no entry is settled there is one worker
 pub nothing_sound : (n : ℕ) → PartialFits (record { entries = replicate n Uncut; stage = Between })
-nothing_sound n =
-    let one = uncut_one n in
-    record { within = record { some = omega (arith, one); few = omega (arith, one) }; fits = tt }
+nothing_sound n = omega (arith, uncut_one n)
 
 -- an entry that has parts leaves some workers
 pub some_set : (es : Strategy) (i : ℕ) (e : Entry) → 0 < parts_of e → 0 < workers_of es
@@ -138,6 +98,4 @@ module _ (items : List Item) (head : Head) (entry : Item) (slice : List Item) (n
   pub set_sound : n ≤ max_workers
       → PartialFits (record { entries = entries_of items; stage = Behind head (entry_of entry) })
       → PartialFits (record { entries = entries_of (slice_set items head.variable entry); stage = Between })
-  set_sound few sound =
-      let some = some_set (entries_of items) head.variable (entry_of entry) sound.fits.1 sound.within.some in
-      rw same (record { within = record { some = some; few = few_workers few }; fits = tt })
+  set_sound few sound = search (some_set, same, few_workers)

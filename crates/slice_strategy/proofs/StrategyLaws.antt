@@ -1,29 +1,20 @@
 -- The laws of the reader: what it reads is what a text spells, and each fault is the first that is shown.
-use Rattle.std.proofs.Common.{◌≡◌, ◌≢◌, ◌∙◌, ℕ, true, List, length, Some, None, Option, Result, Ok, Err, IfOk, IfErr}
-use Rattle.std.proofs.Common.{refl, ap}
+use Rattle.std.proofs.Common.{◌≡◌, ◌≢◌, ◌∙◌, ℕ, true, List, length, Option, Result, Ok, Err, IfOk, IfErr, ap, arith}
 use Rattle.mfotl_lex.specs.declared.fault.LexFault.{LexFault}
-use Rattle.mfotl_lex.specs.declared.kind.Mode.TheVariants.{Plain}
 use Rattle.mfotl_lex.specs.FirstFault as layer
-use Rattle.mfotl_lex.specs.FirstFault.{End, run}
-use Rattle.mfotl_lex.specs.Lexemes.{tokens}
-use Rattle.mfotl_lex.specs.Places.{beginning}
-use Rattle.mfotl_lex.specs.Texts.{tail_of}
+use Rattle.mfotl_lex.specs.{FirstFault.End, FirstFault.run, Texts.tail_of}
 use Rattle.mfotl_lex.proofs.FirstFaultLaws as firsts
 use Rattle.mfotl_lex.proofs.FirstFaultLaws.{bind_ok}
 use Rattle.mfotl_model.specs.Strategies.{Strategy}
 use Rattle.mfotl_model.specs.declared.policy.Var.{Var}
-use Rattle.slice_strategy.specs.declared.fault.StrategyFault.{StrategyFault}
-use Rattle.slice_strategy.specs.declared.fault.StrategyFault.TheVariants.{Syntax, Memory}
-use Rattle.slice_strategy.specs.Answers.{Gives}
-use Rattle.slice_strategy.specs.Causes.{IsCause, IsLast}
+use Rattle.slice_strategy.specs.declared.{fault.StrategyFault.StrategyFault, fault.StrategyFault.TheVariants.Memory}
+use Rattle.slice_strategy.specs.{Answers.Gives, Causes.IsCause, Causes.IsLast, Rules.IsValue, Rules.text_of}
 use Rattle.slice_strategy.specs.Grammar.{Whole, IsAccepted, IsViable}
 use Rattle.slice_strategy.specs.Laws.{OneAnswer, IsShown, ExactFaults, ExactSoundness}
 use Rattle.slice_strategy.specs.Reading.{Partial, complete, ended, step, nothing_read, at_tail, reading}
-use Rattle.slice_strategy.specs.Rules.{IsValue, text_of}
 use Rattle.slice_strategy.proofs.CauseLaw.{follows, few_closed, ends_accepted, part_stands, closed_few}
 use Rattle.slice_strategy.proofs.PartReads.{few_kept, kept_whole, kept_reads, few_of}
-use Rattle.slice_strategy.proofs.EntryLaws.{strategy_size}
-use Rattle.slice_strategy.proofs.TokenRuns.{never_ok}
+use Rattle.slice_strategy.proofs.{EntryLaws.strategy_size, TokenRuns.never_ok}
 
 module _ (vars : List Var) (bytes : List ℕ) where
   -- ---- values
@@ -37,31 +28,17 @@ module _ (vars : List Var) (bytes : List ℕ) where
       let es = accepted.0 in
       let at = part_stands vars (text_of bytes).list s (Whole es) ran accepted.1 in
       let few = closed_few vars es accepted.1.fits q (rw at.1 at closed) in
-      record {
-        written = es;
-        whole = whole;
-        spelled = accepted.1;
-        rules = few_kept vars es at.0 few.0;
-        value = cc (rw few.1 at done);
-      }
+      grind (arith, few_kept)
 
   at_end_by : (fault : Option LexFault) (s : Partial) (strategy : Strategy)
       → at_tail (tail_of true (length bytes) fault) s ≡ Ok strategy
       → (tail_of true (length bytes) fault ≡ End (length bytes))
       × (q : Partial) × (ended s.entries s.stage ≡ Ok q) × (complete (length bytes) q.entries q.stage ≡ Ok strategy)
-  at_end_by None s strategy e =
-      let r = bind_ok (ended s.entries s.stage) (λ q. complete (length bytes) q.entries q.stage) strategy e in
-      (refl, r.0, r.1, r.2)
-  at_end_by (Some x) s strategy e = absurd (never_ok (ended s.entries s.stage) (Syntax x.at) strategy e)
+  at_end_by fault s strategy e = grind (arith, bind_ok, never_ok)
 
   pub read_is_spelled : (strategy : Strategy) → reading vars bytes ≡ Ok strategy → IsValue vars bytes strategy
   unfolding reading layer.reading
-  read_is_spelled strategy e =
-      let x = text_of bytes in
-      let read = bind_ok (run (step vars) x.list (nothing_read vars)) (λ p. at_tail x.tail p) strategy e in
-      let end = at_end_by (tokens (beginning Plain bytes)).fault read.0 strategy read.2 in
-      accepted_value read.0 end.1 strategy read.1 end.2
-      (ends_accepted vars x.list read.0 read.1 (length bytes) end.1 strategy end.2 end.3) end.3 end.0
+  read_is_spelled strategy e = grind (arith, bind_ok, at_end_by, accepted_value, ends_accepted)
 
   pub spelled_is_read : (strategy : Strategy) → IsValue vars bytes strategy → reading vars bytes ≡ Ok strategy
   unfolding reading layer.reading
@@ -97,14 +74,11 @@ exact_soundness vars =
 
 pub value_given : (vars : List Var) (bytes : List ℕ) (result : Result Strategy StrategyFault)
     → Gives (λ s. s) result (reading vars bytes) → IfOk result (λ s. IsValue vars bytes s)
-value_given vars bytes (Ok s) given = read_is_spelled vars bytes s given
-value_given vars bytes (Err fault) given = tt
+value_given vars bytes result given = grind (arith, read_is_spelled)
 
 pub fault_shown : (vars : List Var) (bytes : List ℕ) (result : Result Strategy StrategyFault)
     → Gives (λ s. s) result (reading vars bytes) → IfErr result (λ fault. fault ≢ Memory → IsShown vars bytes fault)
-fault_shown vars bytes (Ok s) given = tt
-fault_shown vars bytes (Err Memory) given = λ other. absurd (other refl)
-fault_shown vars bytes (Err fault) given = λ _. (exact_faults vars bytes fault).0 given
+fault_shown vars bytes result given = grind (arith, exact_faults)
 
 -- there is an entry for each variable
 pub size_given : (vars : List Var) (bytes : List ℕ) (result : Result Strategy StrategyFault)

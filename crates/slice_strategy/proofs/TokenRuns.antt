@@ -1,38 +1,29 @@
 -- Tokens one by one: what is the same of the reader of strategies and the reader of scripts.
-use Rattle.std.proofs.Common.{◌≡◌, ◌∙◌, inl, inr, List, [], ◌∷◌, ◌++◌, Result, Ok, Err, refl}
+use Rattle.std.proofs.Common.{◌≡◌, List, [], ◌∷◌, ◌++◌, Result, Ok, Err, arith}
 use Rattle.mfotl_lex.specs.FirstFault.{◌>>=◌, run}
-use Rattle.mfotl_lex.proofs.FirstFaultLaws.{run-append, bind_same}
-use Rattle.mfotl_lex.proofs.Verdicts.{Judged, then_judged}
+use Rattle.mfotl_lex.proofs.{FirstFaultLaws.run-append, FirstFaultLaws.bind_same, Verdicts.Judged, Verdicts.then_judged}
 
 -- a result that is given on as it is
 all_of : {A E : Type 0} (r : Result A E) → (r >>= λ x. Ok x) ≡ r
-all_of (Ok x) = refl
-all_of (Err fault) = refl
+all_of r = grind arith
 
 -- behind a result, or instead of it, stands a fault
 pub never_ok : {A B E : Type 0} (r : Result A E) (fault : E) (y : B) → (r >>= λ x. Err fault) ≡ Ok y → ⊥
-never_ok (Ok x) fault y e = cc
-never_ok (Err other) fault y e = cc
+never_ok r fault y e = grind arith
 
 -- a fault of a rule, whatever its cause
 pub told : {A E : Type 0} (IsRule IsCause : E → Type 0) (rules : Type 0) (r : Result A E) (x : A)
     → Judged (λ fault. IsRule fault × IsCause fault) rules r x → Judged IsRule rules r x
-told IsRule IsCause rules r x (inl kept) = inl kept
-told IsRule IsCause rules r x (inr b) =
-    inr (record { broken = b.broken; fault = b.fault; is_rule = b.is_rule.0; shown = b.shown })
+told IsRule IsCause rules r x h = grind arith
 
 module _ {S T E : Type 0} (step : S → T → Result S E) (start : S) where
   pub one_more : (front : List T) (t : T)
       → run step (front ++ t ∷ []) start ≡ (run step front start >>= λ s. step s t)
   unfolding run
-  one_more front t =
-      run-append step front (t ∷ []) start
-      ∙ bind_same (run step front start) (λ s. run step (t ∷ []) s) (λ s. step s t) (λ s. all_of (step s t))
+  one_more front t = simp (run-append, bind_same, all_of)
 
   -- a verdict, and that on one token more
   pub then_token : (IsRule : E → Type 0) (front : List T) (t : T) (rules more all : Type 0) (p q : S)
       → (rules → more → all) → (all → rules × more) → Judged IsRule rules (run step front start) p
       → (rules → Judged IsRule more (step p t) q) → Judged IsRule all (run step (front ++ t ∷ []) start) q
-  then_token IsRule front t rules more all p q to from before next =
-      rw (one_more front t)
-      (then_judged IsRule rules (run step front start) p more all (λ s. step s t) q to from before next)
+  then_token IsRule front t rules more all p q to from before next = grind (arith, one_more, then_judged)

@@ -1,9 +1,7 @@
-use Rattle.mfotl_lex.specs.Places.{mode_behind}
-use Rattle.mfotl_lex.specs.Blanks.{blank_len, comment_len}
+use Rattle.mfotl_lex.specs.{Places.mode_behind, Blanks.blank_len, Blanks.comment_len, Numbers.integer_value}
+use Rattle.mfotl_lex.specs.{Numbers.digits_value, FirstFault.run}
 use Rattle.mfotl_lex.specs.Scans.{plain_scan, minus_scan, text_scan, order_scan}
 use Rattle.mfotl_lex.specs.Lexemes.{next_token, after, tokens, tokens_within}
-use Rattle.mfotl_lex.specs.Numbers.{integer_value, digits_value}
-use Rattle.mfotl_lex.specs.FirstFault.{run}
 use Rattle.mfotl_lex.specs.FirstFault as layer
 use Rattle.slice_strategy.specs.ChangeReading.{step, reading}
 use Rattle.slice_strategy.specs.Reading as strategy

@@ -1,11 +1,9 @@
 use Rattle.std.proofs.Common.{◌+◌, ◌/◌, ◌%◌, subst}
 use Rattle.std.proofs.lemmas.List.{take_rest}
-use Rattle.mfotl_model.specs.Regions.{near_from}
-use Rattle.mfotl_model.specs.Tables.{valuation}
+use Rattle.mfotl_model.specs.{Regions.near_from, Tables.valuation}
 use Rattle.slice_strategy.proofs.NearestLemmas.{digit_inside, nearest_next}
 use Rattle.slice_strategy.proofs.nearest.+nearest.Goals as goal
-use Rattle.slice_strategy.specs.Entries.{entries_of}
-use Rattle.slice_strategy.specs.Nearest.{IsNearest}
+use Rattle.slice_strategy.specs.{Entries.entries_of, Nearest.IsNearest}
 
 pub digit_above-above-requires-clause-inside : goal.digit_above-above-requires-clause-inside
 digit_above-above-requires-clause-inside t c =

@@ -1,6 +1,5 @@
 use Rattle.std.proofs.Common.{arith}
-use Rattle.slice_strategy.specs.Entries.{entry_of}
-use Rattle.slice_strategy.specs.SlicerLemmas.{strategy_part_below}
+use Rattle.slice_strategy.specs.{Entries.entry_of, SlicerLemmas.strategy_part_below}
 use Rattle.slice_strategy.proofs.nearest.digit_held.Goals as goal
 
 pub returns-in-Some-clause-low : goal.returns-in-Some-clause-low

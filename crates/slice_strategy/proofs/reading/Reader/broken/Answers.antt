@@ -1,6 +1,6 @@
-use Rattle.slice_strategy.proofs.ReadingLemmas.{broken_in}
+use Rattle.slice_strategy.proofs.{ReadingLemmas.broken_in, reading.Reader.broken.Goals.in-Ok}
+use Rattle.slice_strategy.proofs.{reading.Reader.broken.Goals.in-Err}
 use Rattle.slice_strategy.proofs.reading.Reader.broken.Goals as goal
-use Rattle.slice_strategy.proofs.reading.Reader.broken.Goals.{in-Ok, in-Err}
 
 pub returns : goal.returns
 returns c =

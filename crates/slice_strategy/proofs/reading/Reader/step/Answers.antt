@@ -1,6 +1,5 @@
 use Rattle.mfotl_lex.specs.Lexemes.{lexeme}
-use Rattle.slice_strategy.specs.Answers.{stage_of}
-use Rattle.slice_strategy.specs.Entries.{entries_of}
+use Rattle.slice_strategy.specs.{Answers.stage_of, Entries.entries_of}
 use Rattle.slice_strategy.proofs.SoundLemmas.{stage_fits}
 use Rattle.slice_strategy.proofs.reading.Reader.step.Goals as goal
 

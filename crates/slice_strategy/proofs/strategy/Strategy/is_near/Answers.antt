@@ -1,6 +1,5 @@
 use Rattle.std.proofs.Common.{◌∙◌, ap, sym}
-use Rattle.mfotl_model.specs.Regions.{near_of}
-use Rattle.mfotl_model.specs.Tables.{valuation}
+use Rattle.mfotl_model.specs.{Regions.near_of, Tables.valuation}
 use Rattle.slice_strategy.specs.Entries.{entries_of}
 use Rattle.slice_strategy.proofs.EntryLemmas.{nears_next, nears_not}
 use Rattle.slice_strategy.proofs.strategy.Strategy.is_near.Goals as goal

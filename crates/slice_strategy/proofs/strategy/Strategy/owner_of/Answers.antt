@@ -1,7 +1,6 @@
 use Rattle.std.proofs.Common.{◌<◌, ◌∙◌, ap, sym, length, arith}
 use Rattle.mfotl_model.specs.Strategies.{strategy_part}
-use Rattle.slice_strategy.specs.Entries.{entry_of}
-use Rattle.slice_strategy.specs.SlicerLemmas.{strategy_part_below}
+use Rattle.slice_strategy.specs.{Entries.entry_of, SlicerLemmas.strategy_part_below}
 use Rattle.slice_strategy.proofs.EntryLemmas.{entries_size, owes_parts, owes_next, owes_bound}
 use Rattle.slice_strategy.proofs.PartialLemmas.{full_value}
 use Rattle.slice_strategy.proofs.strategy.Strategy.owner_of.Goals as goal
