@@ -49,7 +49,7 @@ impl fmt::Display for Variable {
 }
 
 /// The first reason why a policy can't be monitored.
-#[derive(Debug, Drop, Error)]
+#[derive(Drop, Error)]
 pub enum FragmentFault {
     /// The normal form has more than 1,024 nodes.
     TooLarge,
@@ -68,21 +68,34 @@ pub enum FragmentFault {
 }
 
 impl FragmentFault {
-    ghost use Rattle.std.specs.Prelude.{IfOk};
-    ghost use Rattle.monitorable.specs.FaultTexts.{fault_text};
+    ghost use Rattle.std.specs.Prelude.{◌++◌, IfOk, MatchOption};
+    ghost use Rattle.monitorable.specs.FaultTexts.{fault_text, shown_fault, shown_name};
 
     /// What is printed of the fault, whatever bytes the variable's name has.
     pub fn text(&self, alloc: Global) -> Result<Vec<u8>, AllocError>
         ensures { IfOk result (λ text. text.items ≡ fault_text self.now) }
     {
+        match self.parts() {
+            (kind, Some(variable)) => variable.text_after(alloc, kind.as_bytes()),
+            (kind, None) => Vec::from_slice(alloc, kind.as_bytes()),
+        }
+    }
+
+    // What is printed before the variable's name, and the variable.
+    fn parts(&self) -> (&'static str, Option<&Variable>)
+        ensures text { MatchOption result.1 (fault_text self.now ≡ result.0.now) (λ variable.
+            fault_text self.now ≡ result.0.now ++ variable.now.name) }
+        ensures shown { MatchOption result.1 (shown_fault self.now ≡ result.0.now) (λ variable.
+            shown_fault self.now ≡ result.0.now ++ shown_name variable.now.name) }
+    {
         match self {
-            FragmentFault::TooLarge => Vec::from_slice(alloc, b"TooLarge"),
-            FragmentFault::UnboundedFuture => Vec::from_slice(alloc, b"UnboundedFuture"),
-            FragmentFault::Unguarded(variable) => variable.text_after(alloc, b"Unguarded "),
-            FragmentFault::Uneven => Vec::from_slice(alloc, b"Uneven"),
-            FragmentFault::LooseLeft(variable) => variable.text_after(alloc, b"LooseLeft "),
-            FragmentFault::UnusedBound(variable) => variable.text_after(alloc, b"UnusedBound "),
-            FragmentFault::Memory => Vec::from_slice(alloc, b"Memory"),
+            FragmentFault::TooLarge => ("TooLarge", None),
+            FragmentFault::UnboundedFuture => ("UnboundedFuture", None),
+            FragmentFault::Unguarded(variable) => ("Unguarded ", Some(variable)),
+            FragmentFault::Uneven => ("Uneven", None),
+            FragmentFault::LooseLeft(variable) => ("LooseLeft ", Some(variable)),
+            FragmentFault::UnusedBound(variable) => ("UnusedBound ", Some(variable)),
+            FragmentFault::Memory => ("Memory", None),
         }
     }
 }
@@ -95,15 +108,17 @@ impl fmt::Display for FragmentFault {
     ghost output = { λ fault. Some (shown_fault fault) };
 
     fn fmt<W: fmt::Write>(&self, f: &mut fmt::Formatter<W>) -> fmt::Result {
-        match self {
-            FragmentFault::TooLarge => f.write_str("TooLarge"),
-            FragmentFault::UnboundedFuture => f.write_str("UnboundedFuture"),
-            FragmentFault::Unguarded(variable) => write!(f, "Unguarded {variable}"),
-            FragmentFault::Uneven => f.write_str("Uneven"),
-            FragmentFault::LooseLeft(variable) => write!(f, "LooseLeft {variable}"),
-            FragmentFault::UnusedBound(variable) => write!(f, "UnusedBound {variable}"),
-            FragmentFault::Memory => f.write_str("Memory"),
+        match self.parts() {
+            (kind, Some(variable)) => write!(f, "{kind}{variable}"),
+            (kind, None) => f.write_str(kind),
         }
+    }
+}
+
+// As it is printed, since a derived `Debug` of so many cases is dear to prove.
+impl fmt::Debug for FragmentFault {
+    fn fmt<W: fmt::Write>(&self, f: &mut fmt::Formatter<W>) -> fmt::Result {
+        fmt::Display::fmt(self, f)
     }
 }
 
