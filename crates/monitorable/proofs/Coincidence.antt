@@ -1,12 +1,9 @@
 -- Whether a formula holds hangs on its free variables alone.
 use Rattle.std.proofs.Common.{refl, sym, ap, ◌∙◌}
 use Rattle.mfotl_model.specs.FreeVariables.{among}
-use Rattle.monitorable.proofs.NormalFormLaws.{normal_form_holds}
-use Rattle.monitorable.proofs.NormalFormVariables.{normal_form_variables}
-use Rattle.monitorable.proofs.RenamedMeaning.{carried, renamed_holds}
-use Rattle.monitorable.specs.CoreForms.{CoreForm}
-use Rattle.monitorable.specs.Laws.{Coincidence}
-use Rattle.monitorable.specs.NormalForm.{positive}
+use Rattle.monitorable.proofs.{NormalFormLaws.normal_form_holds, NormalFormVariables.normal_form_variables}
+use Rattle.monitorable.proofs.{RenamedMeaning.carried, RenamedMeaning.renamed_holds}
+use Rattle.monitorable.specs.{CoreForms.CoreForm, Laws.Coincidence, NormalForm.positive}
 
 -- its normal form in new numbers holds of one valuation where it holds of the other
 pub coincidence : Coincidence

@@ -1,31 +1,23 @@
 -- What the laws of the normal form and of new numbers say of the core of a policy.
 use Rattle.std.proofs.Common.{◌≡◌, [], ap, pos, ◌∙◌, Bool, cond, nat_lt, Option, Some, None, arith}
-use Rattle.mfotl_model.specs.Formulas.{Form}
-use Rattle.mfotl_model.specs.FreeVariables.{fv}
+use Rattle.mfotl_model.specs.{Formulas.Form, FreeVariables.fv, Domains.in_domain}
 use Rattle.mfotl_model.specs.declared.value.Value.TheVariants.{Int}
-use Rattle.monitorable.proofs.NormalFormLaws.{normal_form_holds, normal_form_settled}
-use Rattle.monitorable.proofs.NormalFormVariables.{normal_form_constants, normal_form_variables}
-use Rattle.monitorable.proofs.RenamedConstants.{apart_constants}
-use Rattle.monitorable.proofs.RenamedMeaning.{apart_means_the_same}
-use Rattle.monitorable.proofs.RenamedVariables.{apart_variables}
-use Rattle.monitorable.specs.CoreForms.{CoreForm, meaning}
-use Rattle.mfotl_model.specs.Domains.{in_domain}
+use Rattle.monitorable.proofs.{NormalFormLaws.normal_form_holds, NormalFormLaws.normal_form_settled}
+use Rattle.monitorable.proofs.{NormalFormVariables.normal_form_constants, NormalFormVariables.normal_form_variables}
+use Rattle.monitorable.proofs.{RenamedConstants.apart_constants, RenamedMeaning.apart_means_the_same}
+use Rattle.monitorable.proofs.{RenamedVariables.apart_variables}
+use Rattle.monitorable.specs.{CoreForms.CoreForm, CoreForms.meaning, Limits.node_limit, NodeCount.nodes}
+use Rattle.monitorable.specs.{NormalForm.negative, Renaming.apart_form}
 use Rattle.monitorable.specs.Fragment.{Names, frag, frag_fault}
-use Rattle.monitorable.specs.Limits.{node_limit}
 use Rattle.monitorable.specs.Negation.{HasConstantsOf, Negates, SettlesWith}
-use Rattle.monitorable.specs.NodeCount.{nodes}
-use Rattle.monitorable.specs.NormalForm.{negative}
-use Rattle.monitorable.specs.Renaming.{apart_form}
-use Rattle.monitorable.specs.declared.fault.FragmentFault.{FragmentFault}
-use Rattle.monitorable.specs.declared.fault.FragmentFault.TheVariants.{TooLarge}
+use Rattle.monitorable.specs.declared.{fault.FragmentFault.FragmentFault, fault.FragmentFault.TheVariants.TooLarge}
 
 -- the core of a formula
 abbrev pub core_of : Form → CoreForm
 core_of f = apart_form (negative f)
 
 pub negates : (f : Form) → Negates (core_of f) f
-negates f log dom v i =
-    (apart_means_the_same log dom (negative f) v i).0 ∙ (normal_form_holds log dom f v i).1
+negates f log dom v i = grind (arith, apart_means_the_same log dom (negative f) v i, normal_form_holds log dom f v i)
 
 pub settles : (f : Form) → SettlesWith (core_of f) f
 settles f times i =

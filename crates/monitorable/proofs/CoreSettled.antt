@@ -61,8 +61,7 @@ core_within times (And f g) i h = core_within times f i (and_parts (settled time
 core_within times (Or f g) i h = core_within times f i (and_parts (settled times (meaning f) i) _ h).0
 core_within times (Exists x f) i h = core_within times f i h
 core_within times (Previous interval f) i h = ltb-true i (length times) (and_parts (nat_lt i (length times)) _ h).0
-core_within times (Next interval f) i h =
-    let l = ltb-true (i + 1) (length times) (and_parts (nat_lt (i + 1) (length times)) _ h).0 in omega arith
+core_within times (Next interval f) i h = grind arith
 core_within times (Since interval f g) i h =
     core_within times f i
     (and_parts (settled times (meaning f) i) (settled times (meaning g) i) (since_ready _ i i h (omega arith))).0

@@ -2,9 +2,7 @@
 use Rattle.std.proofs.Common.{◌≡◌, ℕ, ◌+◌, ◌-◌, Bool, true, false, not, ◌&&◌, cond, nat_eq, List, [], ◌∷◌, ◌++◌, length}
 use Rattle.std.proofs.Common.{None, refl, sym, ap, ◌∙◌, inl, inr, arith}
 use Rattle.std.proofs.lemmas.Bool.{and_parts, or_cases, or_left, not-true}
-use Rattle.std.proofs.lemmas.Bool.Decides.{nat_tests}
-use Rattle.std.proofs.lemmas.List.Folds.{list_any-append}
-use Rattle.std.proofs.lemmas.Map.Views.{tells_apart}
+use Rattle.std.proofs.{lemmas.Bool.Decides.nat_tests, lemmas.List.Folds.list_any-append, lemmas.Map.Views.tells_apart}
 use Rattle.std.specs.List.{flat_map}
 use Rattle.mfotl_model.proofs.LogicLemmas.{among_without, among_distinct, any_alike, same_number}
 use Rattle.mfotl_model.proofs.RowLemmas.{value_exact, value_itself}
@@ -14,19 +12,13 @@ use Rattle.monitorable.specs.CoreForms.{CoreForm, meaning, Atom, Compare, Not, A
 use Rattle.monitorable.specs.CoreForms.{Until}
 use Rattle.mfotl_model.specs.Satisfaction.{Valuation, sat, term_value, with_value, event_of, compares, same_sort}
 use Rattle.mfotl_model.specs.Satisfaction.{meets_sign}
-use Rattle.mfotl_model.specs.Values.{value_cmp}
-use Rattle.mfotl_model.specs.declared.event.TimePoint.{TimePoint}
-use Rattle.mfotl_model.specs.declared.term.Comparison.{Comparison}
-use Rattle.mfotl_model.specs.declared.term.Sign.{Sign}
-use Rattle.mfotl_model.specs.declared.term.Sign.TheVariants.{Equal}
-use Rattle.mfotl_model.specs.declared.term.Term.{Term}
-use Rattle.mfotl_model.specs.declared.term.Term.TheVariants.{Var, Const}
-use Rattle.mfotl_model.specs.declared.value.Value.{Value}
+use Rattle.mfotl_model.specs.{Values.value_cmp, Domains.in_domain, Domains.Includes}
+use Rattle.mfotl_model.specs.declared.{event.TimePoint.TimePoint, term.Comparison.Comparison, term.Sign.Sign}
+use Rattle.mfotl_model.specs.declared.{term.Sign.TheVariants.Equal, term.Term.Term, term.Term.TheVariants.Var}
+use Rattle.mfotl_model.specs.declared.{term.Term.TheVariants.Const, value.Value.Value}
 use Rattle.monitorable.proofs.DomainLemmas.{any_witness, any_in_domains, includes_left, includes_right, value_among}
-use Rattle.monitorable.proofs.DomainLemmas.{event_value, since_witness, until_witness, previous_witness}
-use Rattle.monitorable.proofs.DomainLemmas.{next_witness}
+use Rattle.monitorable.proofs.DomainLemmas.{event_value, since_witness, until_witness, previous_witness, next_witness}
 use Rattle.monitorable.proofs.FragmentLemmas.{Bounds, by_itself, even_variables, parts, right_variable, used_variable}
-use Rattle.mfotl_model.specs.Domains.{in_domain, Includes}
 use Rattle.monitorable.specs.Fragment.{Names, with_name, is_equal, pairs_constant, binds, bound_by, under_not, fault_in}
 use Rattle.monitorable.specs.Laws.{Domain}
 use Rattle.monitorable.specs.declared.role.Role.{Role}
@@ -45,8 +37,7 @@ equation : (base : List Value) (sign : Sign) (left right : Term) (v : Valuation)
     → Includes base (constant_in left ++ constant_in right)
     → compares sign (term_value v left) (term_value v right) ≡ true
     → among y (variables_in (left ∷ right ∷ [])) ≡ true → in_domain base (v y) ≡ true
-equation base Equal (Var x) (Const a) v y b has h m =
-    rw (own_variable y x m, equal_value (v x) a h) (has a (or_left _ _ (value_itself a)))
+equation base Equal (Var x) (Const a) v y b has h m = grind arith
 equation base Equal (Const a) (Var x) v y b has h m =
     rw (own_variable y x m, ← (equal_value a (v x) h)) (has a (or_left _ _ (value_itself a)))
 equation base sign left right v y b has h m = cc
@@ -55,8 +46,7 @@ equation_if : (base : List Value) (c : Comparison) (v : Valuation) (y : ℕ) (b 
     → Includes base (constant_in c.left ++ constant_in c.right)
     → compares c.sign (term_value v c.left) (term_value v c.right) ≡ true
     → among y (cond b (variables_in (c.left ∷ c.right ∷ [])) []) ≡ true → in_domain base (v y) ≡ true
-equation_if base c v y true e has h m = equation base c.sign c.left c.right v y e has h m
-equation_if base c v y false e has h m = cc
+equation_if base c v y b e has h m = grind (arith, equation)
 
 module _ (log : List TimePoint) (base : List Value) (logged : Includes base (log_values log)) where
   -- each variable that a conjunct binds has a value of the base

@@ -2,29 +2,20 @@
 use Rattle.std.proofs.Common.{◌≡◌, ℕ, zero, suc, ◌+◌, ◌-◌, Bool, true, false, ◌&&◌, nat_lt, nat_eq, List, [], ◌∷◌, ◌++◌}
 use Rattle.std.proofs.Common.{map, length, refl, sym, ap, ◌∙◌, inl, inr, arith}
 use Rattle.std.proofs.lemmas.Bool.{and_parts, or_cases, or_left, or_right, eqb-true, cases_lt}
-use Rattle.std.proofs.lemmas.List.{get_or_past}
-use Rattle.std.proofs.lemmas.List.Folds.{list_any-append}
-use Rattle.std.proofs.lemmas.List.FromFn.{length-map-range_with_len}
-use Rattle.std.proofs.lemmas.Map.Views.{tells_apart}
+use Rattle.std.proofs.{lemmas.List.get_or_past, lemmas.List.Folds.list_any-append}
+use Rattle.std.proofs.{lemmas.List.FromFn.length-map-range_with_len, lemmas.Map.Views.tells_apart}
 use Rattle.std.specs.List.{list_any, list_all, flat_map, range_with_len}
-use Rattle.std.specs.Ordering.{eq_by_cmp}
-use Rattle.std.specs.Cmp.{both_ways}
+use Rattle.std.specs.{Ordering.eq_by_cmp, Cmp.both_ways}
 use Rattle.mfotl_model.proofs.LogicLemmas.{any_in, any_flat_map, truth_is}
 use Rattle.mfotl_model.proofs.RowLemmas.{value_exact, event_exact, value_itself}
-use Rattle.mfotl_model.specs.ActiveDomain.{constants, log_values}
-use Rattle.mfotl_model.specs.Events.{event_cmp}
-use Rattle.mfotl_model.specs.FreeVariables.{among, variable_in}
-use Rattle.mfotl_model.specs.Intervals.{in_interval}
+use Rattle.mfotl_model.specs.{ActiveDomain.constants, ActiveDomain.log_values, Events.event_cmp, FreeVariables.among}
+use Rattle.mfotl_model.specs.{FreeVariables.variable_in, Intervals.in_interval, Values.value_cmp, Domains.in_domain}
+use Rattle.mfotl_model.specs.{Domains.Includes}
 use Rattle.mfotl_model.specs.Satisfaction.{Valuation, term_value, has_event, database_at, time_at, truth_at, truths}
 use Rattle.mfotl_model.specs.Satisfaction.{since, until, previous, next}
-use Rattle.mfotl_model.specs.Values.{value_cmp}
-use Rattle.mfotl_model.specs.declared.event.Event.{Event}
-use Rattle.mfotl_model.specs.declared.event.TimePoint.{TimePoint}
-use Rattle.mfotl_model.specs.declared.interval.Interval.{Interval}
-use Rattle.mfotl_model.specs.declared.term.Term.{Term}
-use Rattle.mfotl_model.specs.declared.term.Term.TheVariants.{Var, Const}
-use Rattle.mfotl_model.specs.declared.value.Value.{Value}
-use Rattle.mfotl_model.specs.Domains.{in_domain, Includes}
+use Rattle.mfotl_model.specs.declared.{event.Event.Event, event.TimePoint.TimePoint, interval.Interval.Interval}
+use Rattle.mfotl_model.specs.declared.{term.Term.Term, term.Term.TheVariants.Var, term.Term.TheVariants.Const}
+use Rattle.mfotl_model.specs.declared.{value.Value.Value}
 use Rattle.monitorable.specs.CoreForms.{CoreForm, meaning}
 
 -- where a test finds something in a list, a member passes it
@@ -44,9 +35,7 @@ any_witness q (a ∷ dom) h =
 
 pub any_with : (q : Value → Bool) (a : Value) (dom : List Value) → q a ≡ true → in_domain dom a ≡ true
     → list_any q dom ≡ true
-any_with q a dom h m =
-    any_member (eq_by_cmp value_cmp a) q dom
-    (λ b e. ap q (sym (tells_apart value_exact a b e)) ∙ h) m
+any_with q a dom h m = grind (arith, any_member, tells_apart, value_exact)
 
 -- a test that only values of the base pass finds alike in all domains that include the base
 pub any_in_domains : (q : Value → Bool) (a b base : List Value) → ((c : Value) → q c ≡ true → in_domain base c ≡ true)
@@ -62,13 +51,11 @@ any_in_domains q a b base h left right =
 -- what includes the constants of both operands includes those of each
 pub includes_left : (base : List Value) (f g : CoreForm)
     → Includes base (constants (meaning f) ++ constants (meaning g)) → Includes base (constants (meaning f))
-includes_left base f g h a m =
-    h a (list_any-append (eq_by_cmp value_cmp a) (constants (meaning f)) (constants (meaning g)) ∙ or_left _ _ m)
+includes_left base f g h a m = search (list_any-append, or_left)
 
 pub includes_right : (base : List Value) (f g : CoreForm)
     → Includes base (constants (meaning f) ++ constants (meaning g)) → Includes base (constants (meaning g))
-includes_right base f g h a m =
-    h a (list_any-append (eq_by_cmp value_cmp a) (constants (meaning f)) (constants (meaning g)) ∙ or_right _ _ m)
+includes_right base f g h a m = search (list_any-append, or_right)
 
 -- a variable's value is among the values of the terms that it occurs in
 pub value_among : (v : Valuation) (y : ℕ) (terms : List Term) → among y (flat_map variable_in terms) ≡ true
@@ -100,21 +87,13 @@ event_value log i event a h m =
 
 -- a truth value that is listed as true is true
 truth_holds : (p : ℕ → Bool) (n j : ℕ) → truth_at (truths n p) j ≡ true → p j ≡ true
-truth_holds p n j h =
-    elim (cases_lt j n) [
-      | inl l ↦ sym (truth_is p n j l) ∙ h
-      | inr l ↦
-          let e : length (truths n p) ≡ n = length-map-range_with_len p 0 n in
-          let f : false ≡ true = sym (get_or_past (truths n p) j false (omega arith)) ∙ h in cc
-    ]
+truth_holds p n j h = grind (arith, cases_lt, truth_is, length-map-range_with_len, get_or_past)
 
 -- where a range has a position at which all of three tests hold, the one in the middle holds there
 middle_holds : (a c p : ℕ → Bool) (n from size : ℕ)
     → list_any (λ j. a j && truth_at (truths n p) j && c j) (range_with_len from size) ≡ true
     → (j : ℕ) × (p j ≡ true)
-middle_holds a c p n from size h =
-    let w = any_in (λ j. a j && truth_at (truths n p) j && c j) from size h in
-    (w.0, truth_holds p n w.0 (and_parts _ _ (and_parts _ (c w.0) w.3).0).1)
+middle_holds a c p n from size h = grind (arith, any_in, truth_holds, and_parts)
 
 -- where SINCE or UNTIL holds, the right operand holds somewhere
 pub since_witness : (I : Interval) (times : List ℕ) (a : List Bool) (p : ℕ → Bool) (n i : ℕ)

@@ -1,27 +1,18 @@
 -- The active domain, and the rows over it.
-use Rattle.std.proofs.Common.{◌≡◌, ℕ, Bool, true, ◌&&◌, ◌||◌, nat_eq, List, [], ◌∷◌, ◌++◌, length, map, refl, sym, ap}
-use Rattle.std.proofs.Common.{◌∙◌, arith}
-use Rattle.std.proofs.lemmas.Bool.{and_from, or_left, or_right}
-use Rattle.std.proofs.lemmas.Bool.{eqb-true}
-use Rattle.std.proofs.lemmas.Grind.{flat_map-append}
-use Rattle.std.proofs.lemmas.List.Folds.{list_any-append}
-use Rattle.std.proofs.lemmas.Map.Views.{any-filter_same, tells_apart}
-use Rattle.std.specs.List.{list_any, list_all, filter, flat_map}
+use Rattle.std.proofs.Common.{◌≡◌, ℕ, Bool, true, ◌&&◌, ◌||◌, nat_eq, List, [], ◌∷◌, ◌++◌, length, map, refl, ◌∙◌}
+use Rattle.std.proofs.Common.{arith}
+use Rattle.std.proofs.lemmas.Bool.{and_from, or_left, or_right, eqb-true}
+use Rattle.std.proofs.{lemmas.Grind.flat_map-append, lemmas.List.Folds.list_any-append}
+use Rattle.std.proofs.{lemmas.Map.Views.any-filter_same, lemmas.Map.Views.tells_apart}
+use Rattle.std.specs.List.{list_any, list_all, filter}
 use Rattle.std.specs.Ordering.{eq_by_cmp}
-use Rattle.mfotl_model.proofs.AscendingLemmas.{any_ascending}
-use Rattle.mfotl_model.proofs.LogicLemmas.{same_number}
+use Rattle.mfotl_model.proofs.{AscendingLemmas.any_ascending, LogicLemmas.same_number, ColumnLemmas.row_kept}
 use Rattle.mfotl_model.proofs.RowLemmas.{value_exact, row_exact, member_all_rows}
-use Rattle.mfotl_model.proofs.ColumnLemmas.{row_kept}
 use Rattle.mfotl_model.specs.ActiveDomain.{adom, constants, log_values}
-use Rattle.mfotl_model.specs.FreeVariables.{among}
-use Rattle.mfotl_model.specs.Formulas.{Form}
-use Rattle.mfotl_model.specs.Satisfaction.{Valuation}
-use Rattle.mfotl_model.specs.Tables.{all_apart, valuation}
+use Rattle.mfotl_model.specs.{FreeVariables.among, Formulas.Form, Satisfaction.Valuation, Tables.all_apart}
+use Rattle.mfotl_model.specs.{Tables.valuation, Violations.all_rows, Domains.in_domain, Domains.Includes}
 use Rattle.mfotl_model.specs.Values.{value_cmp, value_total, row_cmp}
-use Rattle.mfotl_model.specs.Violations.{all_rows}
-use Rattle.mfotl_model.specs.declared.event.TimePoint.{TimePoint}
-use Rattle.mfotl_model.specs.declared.value.Value.{Value}
-use Rattle.mfotl_model.specs.Domains.{in_domain, Includes}
+use Rattle.mfotl_model.specs.declared.{event.TimePoint.TimePoint, value.Value.Value}
 
 -- the active domain has the values of the log and of the policy
 adom_has : (log : List TimePoint) (f : Form) (a : Value)
@@ -41,14 +32,7 @@ kept b c d h = grind arith
 
 -- a longer log has no smaller active domain
 pub grows : (log more : List TimePoint) (f : Form) → Includes (adom (log ++ more) f) (adom log f)
-grows log more f a h =
-    adom_has (log ++ more) f a
-    ∙ rw (
-      flat_map-append (λ point. flat_map (λ event. event.args) point.db) log more,
-      list_any-append (eq_by_cmp value_cmp a) (log_values log) (log_values more),
-    )
-    (kept (in_domain (log_values log) a) (in_domain (log_values more) a) (in_domain (constants f) a)
-    (sym (adom_has log f a) ∙ h))
+grows log more f a h = grind (arith, adom_has, flat_map-append, list_any-append, kept)
 
 -- what holds of the value of each column holds of each value
 all_read : (p : Value → Bool) (v : Valuation) (columns : List ℕ)
@@ -62,15 +46,10 @@ pub row_within : (columns : List ℕ) (row : List Value) (dom : List Value) → 
     → nat_eq (length row) (length columns) ≡ true
     → ((y : ℕ) → among y columns ≡ true → in_domain dom (valuation columns row y) ≡ true)
     → list_all (in_domain dom) row ≡ true
-row_within columns row dom apart size h =
-    ap (list_all (in_domain dom)) (sym (row_kept columns row apart (eqb-true (length row) (length columns) size)))
-    ∙ all_read (in_domain dom) (valuation columns row) columns h
+row_within columns row dom apart size h = grind (arith, row_kept, eqb-true, all_read)
 
 -- a row is found exactly if it passes the test and has n values, all in the domain
 pub found : (p : List Value → Bool) (n : ℕ) (dom : List Value) (row : List Value)
     → list_any (eq_by_cmp row_cmp row) (filter p (all_rows n dom))
     ≡ (p row && (nat_eq (length row) n && list_all (in_domain dom) row))
-found p n dom row =
-    any-filter_same (eq_by_cmp row_cmp row) p (p row)
-    (λ r e. ap p (sym (tells_apart row_exact row r e))) (all_rows n dom)
-    ∙ ap (λ b. p row && b) (member_all_rows n dom row)
+found p n dom row = grind (arith, any-filter_same, tells_apart, row_exact, member_all_rows n dom row)

@@ -1,32 +1,22 @@
 -- What is settled stays as it is in every longer log.
-use Rattle.std.proofs.Common.{◌≡◌, ℕ, zero, suc, ◌+◌, ◌-◌, ◌<◌, Bool, true, ◌&&◌, ◌||◌, nat_eq, List, [], ◌++◌}
-use Rattle.std.proofs.Common.{map, length, not, refl, sym, ap, ◌∙◌, arith, length-append, get_or}
-use Rattle.std.proofs.lemmas.Bool.{and_parts, lt-ltb}
-use Rattle.std.proofs.lemmas.Bool.Decides.{nat_tests}
+use Rattle.std.proofs.Common.{◌≡◌, ℕ, zero, ◌+◌, ◌-◌, ◌<◌, Bool, true, ◌&&◌, ◌||◌, nat_eq, List, ◌++◌, length, not}
+use Rattle.std.proofs.Common.{refl, sym, ap, ◌∙◌, arith, length-append}
+use Rattle.std.proofs.{lemmas.Bool.and_parts, lemmas.Bool.lt-ltb, lemmas.Bool.Decides.nat_tests}
 use Rattle.std.proofs.lemmas.List.{get_or_append_left, length-map, map-append}
 use Rattle.mfotl_model.proofs.LogicLemmas.{any_alike, truth_is}
-use Rattle.mfotl_model.specs.Formulas.{Form}
-use Rattle.mfotl_model.specs.Log.{times}
-use Rattle.mfotl_model.specs.Satisfaction.{Valuation, sat, with_value, has_event, event_of, database_at, time_at}
-use Rattle.mfotl_model.specs.Satisfaction.{truth_at, previous, next, truths}
+use Rattle.mfotl_model.specs.{Formulas.Form, Log.times, Times.NeverFalls}
+use Rattle.mfotl_model.specs.Satisfaction.{Valuation, sat, with_value, database_at, time_at, truth_at, previous, next}
+use Rattle.mfotl_model.specs.Satisfaction.{truths}
 use Rattle.mfotl_model.specs.Settled.{settled, previous_settled, next_settled}
-use Rattle.mfotl_model.specs.Times.{NeverFalls}
-use Rattle.mfotl_model.specs.declared.event.TimePoint.{TimePoint}
-use Rattle.mfotl_model.specs.declared.interval.Interval.{Interval}
-use Rattle.mfotl_model.specs.declared.value.Value.{Value}
-use Rattle.monitorable.proofs.CoreSettled.{reaches, since_ready}
-use Rattle.monitorable.proofs.NormalFormLaws.{normal_form_holds, normal_form_settled}
-use Rattle.monitorable.proofs.SettledLemmas.{settled_in_log}
+use Rattle.mfotl_model.specs.declared.{event.TimePoint.TimePoint, interval.Interval.Interval, value.Value.Value}
+use Rattle.monitorable.proofs.{CoreSettled.reaches, CoreSettled.since_ready, NormalFormLaws.normal_form_holds}
+use Rattle.monitorable.proofs.{NormalFormLaws.normal_form_settled, SettledLemmas.settled_in_log}
 use Rattle.monitorable.proofs.TemporalLemmas.{Same, since_same, until_same}
 use Rattle.monitorable.specs.CoreForms.{CoreForm, meaning, Atom, Not, And, Or, Exists, Previous, Next, Since, Until}
-use Rattle.monitorable.specs.Laws.{Finality}
-use Rattle.monitorable.specs.NormalForm.{positive}
+use Rattle.monitorable.specs.{Laws.Finality, NormalForm.positive}
 
 pub within_log : (log : List TimePoint) (f : Form) (j : ℕ) → settled (times log) f j ≡ true → j < length log
-within_log log f j h =
-    let l = settled_in_log (times log) f j h in
-    let e = length-map log (λ p. p.ts) in
-    omega arith
+within_log log f j h = grind (arith, settled_in_log, length-map)
 
 -- PREVIOUS is settled at the first position, or where its operand is ready one position before
 before_settled : (b c : Bool) (i : ℕ) → (b && (nat_eq i 0 || c)) ≡ true → 0 < i → c ≡ true
@@ -40,21 +30,14 @@ module _ (log more : List TimePoint) where
   size_more = length-map (log ++ more) (λ p. p.ts) ∙ length-append log more
 
   pub time_same : (j : ℕ) → j < length log → time_at (times log) j ≡ time_at (times (log ++ more)) j
-  time_same j l =
-      sym (ap (λ t. time_at t j) (map-append (λ p. p.ts) log more)
-      ∙ get_or_append_left (times log) (times more) 0 j (omega (arith, size)))
+  time_same j l = search (map-append, get_or_append_left, size)
 
   database_same : (j : ℕ) → j < length log → database_at log j ≡ database_at (log ++ more) j
-  database_same j l =
-      let e = length-map log (λ point. point.db) in
-      sym (ap (λ dbs. get_or dbs j []) (map-append (λ point. point.db) log more)
-      ∙ get_or_append_left (map (λ point. point.db) log) (map (λ point. point.db) more) [] j (omega arith))
+  database_same j l = search (length-map, map-append, get_or_append_left)
 
   truth_same : (p q : ℕ → Bool) (j : ℕ) → j < length log → p j ≡ q j
       → truth_at (truths (length log) p) j ≡ truth_at (truths (length (log ++ more)) q) j
-  truth_same p q j l e =
-      truth_is p (length log) j l ∙ e
-      ∙ sym (truth_is q (length (log ++ more)) j (omega (arith, length-append log more)))
+  truth_same p q j l e = grind (arith, truth_is, length-append)
 
   agree : (p q r s : ℕ → Bool) (j : ℕ) → j < length log → p j ≡ r j → q j ≡ s j
       → Same (times log) (times (log ++ more)) (truths (length log) p) (truths (length log) q)
@@ -66,33 +49,19 @@ module _ (log more : List TimePoint) where
       → previous I (times log) (truths (length log) p) i
       ≡ previous I (times (log ++ more)) (truths (length (log ++ more)) q) i
   unfolding previous
-  previous_same I p q zero l e = refl
-  previous_same I p q (suc i) l e =
-      rw (
-        time_same (suc i) l,
-        time_same (suc i - 1) (omega arith),
-        truth_same p q (suc i - 1) (omega arith) (e (omega arith)),
-      )
+  previous_same I p q i l e = grind (arith, zero, time_same, truth_same)
 
   next_same : (I : Interval) (p q : ℕ → Bool) (i : ℕ) → i + 1 < length log → p (i + 1) ≡ q (i + 1)
       → next I (times log) (truths (length log) p) i
       ≡ next I (times (log ++ more)) (truths (length (log ++ more)) q) i
   unfolding next
-  next_same I p q i l e =
-      rw (
-        lt-ltb (i + 1) (length (times log)) (omega (arith, size)),
-        lt-ltb (i + 1) (length (times (log ++ more))) (omega (arith, size_more)),
-        time_same (i + 1) l,
-        time_same i (omega arith),
-        truth_same p q (i + 1) l e,
-      )
+  next_same I p q i l e = grind (arith, lt-ltb, size, size_more, time_same, truth_same)
 
   module _ (dom : List Value) (rising : NeverFalls (times (log ++ more))) where
     core_final : (f : CoreForm) (v : Valuation) (i : ℕ) → settled (times log) (meaning f) i ≡ true
         → sat log dom v i (meaning f) ≡ sat (log ++ more) dom v i (meaning f)
     unfolding sat settled previous_settled next_settled
-    core_final (Atom atom) v i s =
-        ap (λ db. has_event db (event_of v atom)) (database_same i (within_log log (meaning (Atom atom)) i s))
+    core_final (Atom atom) v i s = search (database_same, within_log)
     core_final (Not f) v i s = ap not (core_final f v i s)
     core_final (And f g) v i s =
         let p = and_parts (settled (times log) (meaning f) i) (settled (times log) (meaning g) i) s in

@@ -10,8 +10,7 @@ use Rattle.mfotl_model.specs.declared.formula.Bound.{Bound}
 use Rattle.monitorable.specs.Fragment.{Names, with_name, first, first_outside, at_variable, binds, bound_by, needed_by}
 use Rattle.monitorable.specs.Fragment.{asked, guards, evens, uses, covers, looks_within, under_not, is_conjunction}
 use Rattle.monitorable.specs.Fragment.{judges_not, fault_in}
-use Rattle.monitorable.specs.declared.fault.FragmentFault.{FragmentFault}
-use Rattle.monitorable.specs.declared.role.Role.{Role}
+use Rattle.monitorable.specs.declared.{fault.FragmentFault.FragmentFault, role.Role.Role}
 use Rattle.monitorable.specs.declared.role.Role.TheVariants.{Whole, Part, Left}
 
 -- where there is no first of two faults, there is none

@@ -1,22 +1,17 @@
 -- In new numbers a formula that the fragment accepts is accepted.
-use Rattle.std.proofs.Common.{◌≡◌, ℕ, ◌+◌, Bool, true, ◌&&◌, cond, List, [], ◌∷◌, ◌++◌, map, None, refl, sym, ap, ap₂}
-use Rattle.std.proofs.Common.{◌∙◌, arith}
-use Rattle.std.proofs.lemmas.Bool.Decides.{nat_tests}
-use Rattle.std.proofs.lemmas.List.{map-append}
+use Rattle.std.proofs.Common.{◌≡◌, ℕ, ◌+◌, Bool, true, cond, List, [], ◌∷◌, map, None, refl, ap₂, arith}
+use Rattle.std.proofs.{lemmas.Bool.Decides.nat_tests, lemmas.List.map-append}
 use Rattle.mfotl_model.proofs.LogicLemmas.{same_number}
 use Rattle.mfotl_model.specs.FreeVariables.{fv, among, joined}
 use Rattle.monitorable.specs.CoreForms.{CoreForm, meaning, Compare, Not, And, Or, Exists, Previous, Next, Since, Until}
-use Rattle.mfotl_model.specs.declared.formula.Bound.{Bound}
-use Rattle.mfotl_model.specs.declared.term.Comparison.{Comparison}
-use Rattle.mfotl_model.specs.declared.term.Term.{Term}
-use Rattle.mfotl_model.specs.declared.term.Term.TheVariants.{Var, Const}
+use Rattle.mfotl_model.specs.declared.{formula.Bound.Bound, term.Comparison.Comparison}
 use Rattle.monitorable.proofs.FragmentLemmas.{asked_kept, no_first, no_variable, parts}
 use Rattle.monitorable.proofs.RenamedVariables.{Spread, left, right, bound, renamed_fv, same_numbers}
-use Rattle.monitorable.specs.Fragment.{Names, with_name, first_outside, at_variable, is_equal}
-use Rattle.monitorable.specs.Fragment.{pairs_constant, binds, bound_by, needed_by, guards, evens, uses, covers}
-use Rattle.monitorable.specs.Fragment.{under_not, is_conjunction, judges_not, judges_comparison, fault_in}
+use Rattle.monitorable.specs.Fragment.{Names, with_name, first_outside, at_variable, binds, bound_by, needed_by, guards}
+use Rattle.monitorable.specs.Fragment.{evens, uses, covers, under_not, is_conjunction, judges_not, judges_comparison}
+use Rattle.monitorable.specs.Fragment.{fault_in}
 use Rattle.monitorable.specs.Laws.{ApartFragment}
-use Rattle.monitorable.specs.Renaming.{Numbers, with_number, renamed, renamed_term, renamed_comparison, binder_count}
+use Rattle.monitorable.specs.Renaming.{Numbers, with_number, renamed, renamed_comparison, binder_count}
 use Rattle.monitorable.specs.declared.role.Role.{Role}
 use Rattle.monitorable.specs.declared.role.Role.TheVariants.{Whole, Part, Left}
 
@@ -34,12 +29,7 @@ none_new : (p : ℕ → ℕ) (xs ys : List ℕ) {us vs : List ℕ} → us ≡ ma
 none_new p xs ys e k h = rw (e, k) (outside_new p xs ys h)
 
 binds_new : (p : Numbers) (c : Comparison) → binds (renamed_comparison p c) ≡ binds c
-binds_new p c = ap (λ b. is_equal c.sign && b) (pairs c.left c.right)
-  where
-    pairs : (l r : Term) → pairs_constant (renamed_term p l) (renamed_term p r) ≡ pairs_constant l r
-    pairs (Var x) (Var y) = refl
-    pairs (Const a) (Var y) = refl
-    pairs l r = refl
+binds_new p c = grind arith
 
 chosen : (p : ℕ → ℕ) (b c : Bool) (xs ys us vs : List ℕ) → c ≡ b → us ≡ map p xs → vs ≡ map p ys
     → cond c us vs ≡ map p (cond b xs ys)
@@ -50,9 +40,7 @@ bound_new : (f : CoreForm) {p : Numbers} {n : ℕ} → Spread p n (fv (meaning f
 unfolding bound_by renamed fv
 bound_new (Compare c) {p} s = chosen p _ _ _ [] _ [] (binds_new p c) (renamed_fv (Compare c) s) refl
 bound_new (Not f) s = refl
-bound_new (And f g) {p} s =
-    ap₂ (λ a b. a ++ b) (bound_new f (left f g s)) (bound_new g (right f g s))
-    ∙ sym (map-append p (bound_by f) (bound_by g))
+bound_new (And f g) {p} s = simp (ap₂, left, right, map-append, bound_new f (left f g s), bound_new g (right f g s))
 bound_new f s = renamed_fv f s
 
 needed_new : (f : CoreForm) {p : Numbers} {n : ℕ} → Spread p n (fv (meaning f))
@@ -60,15 +48,12 @@ needed_new : (f : CoreForm) {p : Numbers} {n : ℕ} → Spread p n (fv (meaning 
 unfolding needed_by renamed fv
 needed_new (Compare c) {p} s = chosen p _ _ [] _ [] _ (binds_new p c) refl (renamed_fv (Compare c) s)
 needed_new (Not f) s = renamed_fv f s
-needed_new (And f g) {p} s =
-    ap₂ (λ a b. a ++ b) (needed_new f (left f g s)) (needed_new g (right f g s))
-    ∙ sym (map-append p (needed_by f) (needed_by g))
+needed_new (And f g) {p} s = simp (ap₂, left, right, map-append, needed_new f (left f g s), needed_new g (right f g s))
 needed_new f s = refl
 
 guards_new : (names names' : Names) (f : CoreForm) {p : Numbers} {n : ℕ} → Spread p n (fv (meaning f))
     → guards names f ≡ None → guards names' (renamed p n f) ≡ None
-guards_new names names' f {p} s h =
-    rw (none_new p (bound_by f) (needed_by f) (bound_new f s) (needed_new f s) (no_variable _ _ h))
+guards_new names names' f {p} s h = grind (arith, none_new, bound_new, needed_new, no_variable)
 
 evens_new : (f g : CoreForm) {p : Numbers} {n : ℕ} → Spread p n (joined (fv (meaning f)) (fv (meaning g)))
     → evens f g ≡ None → evens (renamed p n f) (renamed p (n + binder_count f) g) ≡ None

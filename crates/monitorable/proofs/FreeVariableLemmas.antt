@@ -1,9 +1,7 @@
 -- Free variables have no repeats.
 use Rattle.std.proofs.Common.{◌≡◌, true, not, nat_eq, ◌∷◌, [], refl, sym, ap, ◌∙◌}
 use Rattle.std.specs.List.{flat_map}
-use Rattle.mfotl_model.specs.Formulas.{Form}
-use Rattle.mfotl_model.specs.FreeVariables.{fv, variable_in}
-use Rattle.mfotl_model.specs.Tables.{all_apart}
+use Rattle.mfotl_model.specs.{Formulas.Form, FreeVariables.fv, FreeVariables.variable_in, Tables.all_apart}
 use Rattle.mfotl_model.proofs.ColumnLemmas.{filter_apart, joined_apart, distinct_apart}
 use Rattle.monitorable.proofs.NormalFormVariables.{normal_form_variables}
 use Rattle.monitorable.specs.CoreForms.{CoreForm, meaning, Atom, Compare, Not, And, Or, Exists, Previous, Next, Since}

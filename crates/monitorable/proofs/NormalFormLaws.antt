@@ -1,18 +1,15 @@
 -- The normal forms hold where they should, and are settled where the formula is.
 use Rattle.std.proofs.Common.{◌≡◌, ℕ, Bool, not, ◌&&◌, nat_lt, List, length, refl, arith}
 use Rattle.std.proofs.lemmas.Bool.{lt-ltb}
-use Rattle.mfotl_model.specs.Formulas.{Form}
+use Rattle.mfotl_model.specs.{Formulas.Form, Settled.settled}
 use Rattle.mfotl_model.specs.Formulas.Form.{Not, And, Or, Implies, Equiv, Exists, Forall, Previous, Next, Once}
 use Rattle.mfotl_model.specs.Formulas.Form.{Historically, Eventually, Always, Since, Until}
 use Rattle.mfotl_model.specs.Satisfaction.{Valuation, sat, with_value}
-use Rattle.mfotl_model.specs.declared.event.TimePoint.{TimePoint}
-use Rattle.mfotl_model.specs.declared.value.Value.{Value}
-use Rattle.mfotl_model.specs.Settled.{settled}
+use Rattle.mfotl_model.specs.declared.{event.TimePoint.TimePoint, value.Value.Value}
 use Rattle.mfotl_model.proofs.LogicLemmas.{absorbed, all_any}
 use Rattle.monitorable.proofs.CoreSettled.{core_within}
-use Rattle.monitorable.specs.CoreForms.{CoreForm, meaning}
-use Rattle.monitorable.specs.NormalForm.{positive, negative}
-use Rattle.monitorable.specs.Laws.{NormalFormHolds, NormalFormSettled}
+use Rattle.monitorable.specs.{CoreForms.CoreForm, CoreForms.meaning, NormalForm.positive, NormalForm.negative}
+use Rattle.monitorable.specs.{Laws.NormalFormHolds, Laws.NormalFormSettled}
 
 not_not : (a : Bool) → a ≡ not (not a)
 not_not a = grind arith

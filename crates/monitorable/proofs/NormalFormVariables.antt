@@ -1,17 +1,14 @@
 -- The normal forms have the free variables and the constants of the formula.
 use Rattle.std.proofs.Common.{◌≡◌, ℕ, Bool, true, false, not, ◌||◌, nat_eq, List, [], ◌∷◌, append-nil, refl, ap, arith}
-use Rattle.std.proofs.lemmas.Bool.{or_left, or_right}
-use Rattle.std.proofs.lemmas.List.Folds.{list_any-append}
+use Rattle.std.proofs.{lemmas.Bool.or_left, lemmas.Bool.or_right, lemmas.List.Folds.list_any-append}
 use Rattle.std.specs.List.{filter}
-use Rattle.mfotl_model.proofs.LogicLemmas.{among_joined, same_number}
-use Rattle.mfotl_model.proofs.VariableLemmas.{joined_none}
+use Rattle.mfotl_model.proofs.{LogicLemmas.among_joined, LogicLemmas.same_number, VariableLemmas.joined_none}
 use Rattle.mfotl_model.specs.ActiveDomain.{constants}
-use Rattle.mfotl_model.specs.Domains.{in_domain}
 use Rattle.mfotl_model.specs.FreeVariables.{fv, among, joined}
 use Rattle.mfotl_model.specs.Formulas.Form.{Not, And, Or, Implies, Equiv, Exists, Forall, Previous, Next, Once}
 use Rattle.mfotl_model.specs.Formulas.Form.{Historically, Eventually, Always, Since, Until}
-use Rattle.monitorable.specs.Laws.{NormalFormVariables, NormalFormConstants}
-use Rattle.monitorable.specs.NormalForm.{positive, negative}
+use Rattle.monitorable.specs.{Laws.NormalFormVariables, Laws.NormalFormConstants, NormalForm.positive}
+use Rattle.monitorable.specs.{NormalForm.negative}
 
 none_more : (xs ys : List ℕ) → ((y : ℕ) → among y ys ≡ true → among y xs ≡ true)
     → filter (λ z. not (among z xs)) ys ≡ []
@@ -32,18 +29,9 @@ pub normal_form_variables : NormalFormVariables
 unfolding fv positive negative
 normal_form_variables (Not f) = let l = normal_form_variables f in (l.1, l.0)
 normal_form_variables (And f g) = rw ((normal_form_variables f).0, (normal_form_variables g).0) (refl, refl)
-normal_form_variables (Or f g) =
-    let l = normal_form_variables f in
-    let r = normal_form_variables g in
-    (rw (l.0, r.0), rw (l.1, r.1))
-normal_form_variables (Implies f g) =
-    let l = normal_form_variables f in
-    let r = normal_form_variables g in
-    (rw (l.1, r.0), rw (l.0, r.1))
-normal_form_variables (Equiv f g) =
-    let l = normal_form_variables f in
-    let r = normal_form_variables g in
-    rw (l.0, l.1, r.0, r.1) (twice_over _ _, twice_over _ _)
+normal_form_variables (Or f g) = search (normal_form_variables f, normal_form_variables g)
+normal_form_variables (Implies f g) = search (normal_form_variables f, normal_form_variables g)
+normal_form_variables (Equiv f g) = grind (arith, twice_over, normal_form_variables f, normal_form_variables g)
 normal_form_variables (Exists x f) = rw (normal_form_variables f).0 (refl, refl)
 normal_form_variables (Forall x f) = rw (normal_form_variables f).1 (refl, refl)
 normal_form_variables (Previous interval f) = let l = normal_form_variables f in (l.0, l.0)
@@ -62,21 +50,12 @@ both_over b c = grind arith
 pub normal_form_constants : NormalFormConstants
 unfolding constants positive negative
 normal_form_constants (Not f) a = let l = normal_form_constants f a in (l.1, l.0)
-normal_form_constants (And f g) a =
-    simp (list_any-append, (normal_form_constants f a).0, (normal_form_constants g a).0) (refl, refl)
-normal_form_constants (Or f g) a =
-    let l = normal_form_constants f a in
-    let r = normal_form_constants g a in
-    simp (list_any-append, l.0, l.1, r.0, r.1) (refl, refl)
+normal_form_constants (And f g) a = grind (arith, list_any-append, normal_form_constants f a, normal_form_constants g a)
+normal_form_constants (Or f g) a = grind (arith, list_any-append, normal_form_constants f a, normal_form_constants g a)
 normal_form_constants (Implies f g) a =
-    let l = normal_form_constants f a in
-    let r = normal_form_constants g a in
-    simp (list_any-append, l.0, l.1, r.0, r.1) (refl, refl)
+    grind (arith, list_any-append, normal_form_constants f a, normal_form_constants g a)
 normal_form_constants (Equiv f g) a =
-    let l = normal_form_constants f a in
-    let r = normal_form_constants g a in
-    let e = both_over (in_domain (constants f) a) (in_domain (constants g) a) in
-    simp (list_any-append, l.0, l.1, r.0, r.1) (e, e)
+    grind (arith, both_over, list_any-append, normal_form_constants f a, normal_form_constants g a)
 normal_form_constants (Exists x f) a = let l = normal_form_constants f a in (l.0, l.0)
 normal_form_constants (Forall x f) a = let l = normal_form_constants f a in (l.1, l.1)
 normal_form_constants (Previous interval f) a = let l = normal_form_constants f a in (l.0, l.0)

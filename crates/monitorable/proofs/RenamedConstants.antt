@@ -1,18 +1,15 @@
 -- A formula in new numbers has its constants.
-use Rattle.std.proofs.Common.{◌≡◌, ℕ, ◌+◌, List, [], ◌∷◌, ◌++◌, map, refl, ap₂}
+use Rattle.std.proofs.Common.{◌≡◌, ℕ, ◌+◌, List, [], ◌∷◌, ◌++◌, map, refl, ap₂, arith}
 use Rattle.std.specs.List.{flat_map}
-use Rattle.mfotl_model.specs.ActiveDomain.{constant_in, constants}
-use Rattle.mfotl_model.specs.FreeVariables.{fv}
+use Rattle.mfotl_model.specs.{ActiveDomain.constant_in, ActiveDomain.constants, FreeVariables.fv}
 use Rattle.monitorable.specs.CoreForms.{CoreForm, meaning, Atom, Compare, Not, And, Or, Exists, Previous, Next, Since}
 use Rattle.monitorable.specs.CoreForms.{Until}
 use Rattle.mfotl_model.specs.declared.term.Term.{Term}
-use Rattle.mfotl_model.specs.declared.term.Term.TheVariants.{Var, Const}
 use Rattle.monitorable.specs.Laws.{ApartConstants}
 use Rattle.monitorable.specs.Renaming.{Numbers, with_number, renamed, renamed_term, binder_count, above}
 
 term_constants : (p : Numbers) (t : Term) → constant_in (renamed_term p t) ≡ constant_in t
-term_constants p (Var x) = refl
-term_constants p (Const a) = refl
+term_constants p t = grind arith
 
 terms_constants : (p : Numbers) (terms : List Term)
     → flat_map constant_in (map (renamed_term p) terms) ≡ flat_map constant_in terms

@@ -1,17 +1,13 @@
 -- A formula in new numbers holds where it did, and is settled where it was.
-use Rattle.std.proofs.Common.{◌≡◌, ℕ, ◌+◌, ◌<◌, true, not, List, [], ◌∷◌, map, refl, ap, ap₂, ◌∙◌, arith}
+use Rattle.std.proofs.Common.{◌≡◌, ℕ, ◌+◌, ◌<◌, true, not, List, [], ◌∷◌, map, refl, ap, ap₂, arith}
 use Rattle.std.proofs.lemmas.Bool.{or_left, or_right}
-use Rattle.std.proofs.lemmas.Bool.Decides.{nat_tests}
 use Rattle.std.specs.List.{flat_map}
 use Rattle.mfotl_model.proofs.LogicLemmas.{among_distinct, among_without, any_alike, same_number}
 use Rattle.mfotl_model.specs.FreeVariables.{fv, among, joined, without, variable_in, variables_in}
-use Rattle.mfotl_model.specs.Satisfaction.{Valuation, sat, term_value, with_value, has_event, database_at, compares}
+use Rattle.mfotl_model.specs.Satisfaction.{Valuation, sat, term_value, with_value}
 use Rattle.mfotl_model.specs.Settled.{settled}
-use Rattle.mfotl_model.specs.declared.event.TimePoint.{TimePoint}
-use Rattle.mfotl_model.specs.declared.term.Sign.{Sign}
-use Rattle.mfotl_model.specs.declared.term.Term.{Term}
-use Rattle.mfotl_model.specs.declared.term.Term.TheVariants.{Var, Const}
-use Rattle.mfotl_model.specs.declared.value.Value.{Value}
+use Rattle.mfotl_model.specs.declared.{event.TimePoint.TimePoint, term.Term.Term, term.Term.TheVariants.Var}
+use Rattle.mfotl_model.specs.declared.{term.Term.TheVariants.Const, value.Value.Value}
 use Rattle.monitorable.proofs.VariableListLemmas.{below_above, in_left, in_right}
 use Rattle.monitorable.specs.CoreForms.{CoreForm, meaning, Atom, Compare, Not, And, Or, Exists, Previous, Next, Since}
 use Rattle.monitorable.specs.CoreForms.{Until}
@@ -25,26 +21,19 @@ pub record Carries (numbers : Numbers) (n : ℕ) (xs : List ℕ) (v w : Valuatio
 
 left : {p : Numbers} {n : ℕ} {v w : Valuation} (f g : CoreForm)
     → Carries p n (joined (fv (meaning f)) (fv (meaning g))) v w → Carries p n (fv (meaning f)) v w
-left f g c =
-    let sub = in_left (fv (meaning f)) (fv (meaning g)) in
-    record { same = λ y h. c.same y (sub y h); below = λ y h. c.below y (sub y h) }
+left f g c = grind (arith, in_left)
 
 -- with more room
 right : {p : Numbers} {n : ℕ} {v w : Valuation} (f g : CoreForm)
     → Carries p n (joined (fv (meaning f)) (fv (meaning g))) v w
     → Carries p (n + binder_count f) (fv (meaning g)) v w
-right f g c =
-    let sub = in_right (fv (meaning f)) (fv (meaning g)) in
-    record { same = λ y h. c.same y (sub y h); below = λ y h. let l = c.below y (sub y h) in omega arith }
+right f g c = grind (arith, in_right)
 
 -- under a quantifier, whose variable gets the number n and has the value a
 bound : {p : Numbers} {n : ℕ} {v w : Valuation} (x : ℕ) (xs : List ℕ) (a : Value)
     → Carries p n (without x xs) v w
     → Carries (with_number p x n) (n + 1) xs (with_value v n a) (with_value w x a)
-bound x xs a c = record {
-  same = λ y h. grind (arith, nat_tests, among_without y x xs, c.same y, c.below y);
-  below = λ y h. grind (arith, nat_tests, among_without y x xs, c.below y);
-}
+bound x xs a c = grind (arith, among_without)
 
 terms_same : (p : Numbers) (terms : List Term) (v w : Valuation)
     → ((y : ℕ) → among y (flat_map variable_in terms) ≡ true → v (p y) ≡ w y)
@@ -58,22 +47,15 @@ terms_same p (Var x ∷ terms) v w agree =
 variables_same : (p : Numbers) (terms : List Term) (v w : Valuation)
     → ((y : ℕ) → among y (variables_in terms) ≡ true → v (p y) ≡ w y)
     → map (term_value v) (map (renamed_term p) terms) ≡ map (term_value w) terms
-variables_same p terms v w agree =
-    terms_same p terms v w (λ y h. agree y (among_distinct y (flat_map variable_in terms) ∙ h))
-
-comparison_same : (sign : Sign) (a b c d : Value) → a ∷ b ∷ [] ≡ c ∷ d ∷ [] → compares sign a b ≡ compares sign c d
-comparison_same sign a b c d e = let l : a ≡ c = cc in let r : b ≡ d = cc in ap₂ (compares sign) l r
+variables_same p terms v w agree = search (terms_same, among_distinct)
 
 module _ (log : List TimePoint) (dom : List Value) where
   pub renamed_holds : (f : CoreForm) (i : ℕ) {p : Numbers} {n : ℕ} {v w : Valuation}
       → Carries p n (fv (meaning f)) v w
       → sat log dom v i (meaning (renamed p n f)) ≡ sat log dom w i (meaning f)
   unfolding sat fv renamed
-  renamed_holds (Atom atom) i {p} c =
-      ap (λ args. has_event (database_at log i) (record { pred = atom.pred; args = args }))
-      (variables_same p atom.args _ _ c.same)
-  renamed_holds (Compare k) i {p} c =
-      comparison_same k.sign _ _ _ _ (variables_same p (k.left ∷ k.right ∷ []) _ _ c.same)
+  renamed_holds (Atom atom) i {p} c = cc (variables_same p atom.args _ _ c.same)
+  renamed_holds (Compare k) i {p} c = grind arith
   renamed_holds (Not f) i c = ap not (renamed_holds f i c)
   renamed_holds (And f g) i c = rw (renamed_holds f i (left f g c), renamed_holds g i (right f g c))
   renamed_holds (Or f g) i c = rw (renamed_holds f i (left f g c), renamed_holds g i (right f g c))
@@ -96,10 +78,8 @@ module _ (times : List ℕ) where
   renamed_settled p n (Exists x f) i = renamed_settled (with_number p x.number n) (n + 1) f i
   renamed_settled p n (Previous interval f) i = simp (renamed_settled p n f)
   renamed_settled p n (Next interval f) i = simp (renamed_settled p n f)
-  renamed_settled p n (Since interval f g) i =
-      simp (renamed_settled p n f, renamed_settled p (n + binder_count f) g)
-  renamed_settled p n (Until interval f g) i =
-      simp (renamed_settled p n f, renamed_settled p (n + binder_count f) g)
+  renamed_settled p n (Since interval f g) i = simp (renamed_settled p n f, renamed_settled p (n + binder_count f) g)
+  renamed_settled p n (Until interval f g) i = simp (renamed_settled p n f, renamed_settled p (n + binder_count f) g)
   renamed_settled p n f i = refl
 
 -- the numbers at first
@@ -108,7 +88,4 @@ pub carried : (f : CoreForm) (v w : Valuation) → ((y : ℕ) → among y (fv (m
 carried f v w same = record { same = same; below = λ y h. below_above y (fv (meaning f)) h }
 
 pub apart_means_the_same : ApartMeansTheSame
-apart_means_the_same log dom f v i = (
-  renamed_holds log dom f i (carried f v v (λ y h. refl)),
-  λ times. renamed_settled times (λ y. y) (above (fv (meaning f))) f i,
-)
+apart_means_the_same log dom f v i = search (renamed_holds, carried, renamed_settled)

@@ -1,17 +1,12 @@
 -- The variables of a formula in new numbers: its free ones are the old ones in new numbers, and its
 -- quantifiers bind the numbers from n on.
-use Rattle.std.proofs.Common.{◌≡◌, ℕ, ◌+◌, ◌<◌, true, not, nat_eq, List, [], ◌∷◌, ◌++◌, map, refl, sym, ap, ap₂}
-use Rattle.std.proofs.Common.{◌∙◌, arith, map-id}
-use Rattle.std.proofs.lemmas.Bool.Decides.{nat_tests}
+use Rattle.std.proofs.Common.{◌≡◌, ℕ, ◌+◌, ◌<◌, true, List, [], ◌∷◌, map, refl, ap, ap₂, ◌∙◌, arith, map-id}
 use Rattle.std.specs.List.{flat_map, range_with_len}
-use Rattle.mfotl_model.proofs.LogicLemmas.{among_without, range_front}
-use Rattle.mfotl_model.proofs.ColumnLemmas.{append_apart}
-use Rattle.mfotl_model.specs.FreeVariables.{fv, among, joined, without, distinct, variable_in, variables_in}
+use Rattle.mfotl_model.proofs.{LogicLemmas.among_without, LogicLemmas.range_front, ColumnLemmas.append_apart}
+use Rattle.mfotl_model.specs.FreeVariables.{fv, among, joined, without, variable_in, variables_in}
 use Rattle.monitorable.specs.CoreForms.{CoreForm, meaning, Atom, Compare, Not, And, Or, Exists, Previous, Next, Since}
 use Rattle.monitorable.specs.CoreForms.{Until}
-use Rattle.mfotl_model.specs.declared.term.Term.{Term}
-use Rattle.mfotl_model.specs.declared.term.Term.TheVariants.{Var, Const}
-use Rattle.mfotl_model.specs.Tables.{all_apart}
+use Rattle.mfotl_model.specs.declared.{term.Term.Term, term.Term.TheVariants.Var, term.Term.TheVariants.Const}
 use Rattle.monitorable.specs.Laws.{ApartVariables}
 use Rattle.monitorable.specs.Renaming.{Numbers, with_number, renamed, renamed_term, binders, binder_count, above}
 use Rattle.monitorable.specs.Renaming.{apart_form}
@@ -26,35 +21,22 @@ pub record Spread (numbers : Numbers) (n : ℕ) (xs : List ℕ) : Type 0 where
 
 pub left : {p : Numbers} {n : ℕ} (f g : CoreForm) → Spread p n (joined (fv (meaning f)) (fv (meaning g)))
     → Spread p n (fv (meaning f))
-left f g s =
-    let sub = in_left (fv (meaning f)) (fv (meaning g)) in
-    record { apart = λ y z h k. s.apart y z (sub y h) (sub z k); below = λ y h. s.below y (sub y h) }
+left f g s = grind (arith, in_left)
 
 -- with more room
 pub right : {p : Numbers} {n : ℕ} (f g : CoreForm) → Spread p n (joined (fv (meaning f)) (fv (meaning g)))
     → Spread p (n + binder_count f) (fv (meaning g))
-right f g s =
-    let sub = in_right (fv (meaning f)) (fv (meaning g)) in
-    record {
-      apart = λ y z h k. s.apart y z (sub y h) (sub z k);
-      below = λ y h. let l = s.below y (sub y h) in omega arith;
-    }
+right f g s = grind (arith, in_right)
 
 -- under a quantifier, whose variable gets the number n
 pub bound : {p : Numbers} {n : ℕ} (x : ℕ) (xs : List ℕ) → Spread p n (without x xs)
     → Spread (with_number p x n) (n + 1) xs
-bound x xs s = record {
-  apart = λ y z h k e.
-      grind (arith, nat_tests, among_without y x xs, among_without z x xs, s.below y, s.below z, s.apart y z);
-  below = λ y h. grind (arith, nat_tests, among_without y x xs, s.below y);
-}
+bound x xs s = grind (arith, among_without)
 
 -- the free variables under a quantifier, without the bound one
 without_mapped : (p : Numbers) (n x : ℕ) (xs : List ℕ) → Spread p n (without x xs)
     → without n (map (with_number p x n) xs) ≡ map p (without x xs)
-without_mapped p n x xs s =
-    filter_mapped p (with_number p x n) (λ y. not (nat_eq y n)) (λ y. not (nat_eq y x)) xs
-    (λ y h. grind (arith, nat_tests, among_without y x xs, s.below y)) (λ y h t. grind (arith, nat_tests))
+without_mapped p n x xs s = grind (arith, filter_mapped, among_without)
 
 terms_mapped : (p : Numbers) (terms : List Term)
     → flat_map variable_in (map (renamed_term p) terms) ≡ map p (flat_map variable_in terms)
@@ -64,8 +46,7 @@ terms_mapped p (Const a ∷ terms) = terms_mapped p terms
 
 variables_mapped : (p : Numbers) (terms : List Term) → Injective p (variables_in terms)
     → variables_in (map (renamed_term p) terms) ≡ map p (variables_in terms)
-variables_mapped p terms inj =
-    ap distinct (terms_mapped p terms) ∙ distinct_mapped p (flat_map variable_in terms) inj
+variables_mapped p terms inj = cc (terms_mapped p terms, distinct_mapped p (flat_map variable_in terms) inj)
 
 pub renamed_fv : (f : CoreForm) {p : Numbers} {n : ℕ} → Spread p n (fv (meaning f))
     → fv (meaning (renamed p n f)) ≡ map p (fv (meaning f))
@@ -77,9 +58,7 @@ renamed_fv (And f g) {p} s =
     ap₂ joined (renamed_fv f (left f g s)) (renamed_fv g (right f g s)) ∙ joined_mapped p _ _ s.apart
 renamed_fv (Or f g) {p} s =
     ap₂ joined (renamed_fv f (left f g s)) (renamed_fv g (right f g s)) ∙ joined_mapped p _ _ s.apart
-renamed_fv (Exists x f) {p} {n} s =
-    ap (without n) (renamed_fv f (bound x.number (fv (meaning f)) s))
-    ∙ without_mapped p n x.number (fv (meaning f)) s
+renamed_fv (Exists x f) {p} {n} s = simp (bound, without_mapped, renamed_fv f (bound x.number (fv (meaning f)) s))
 renamed_fv (Previous interval f) s = renamed_fv f s
 renamed_fv (Next interval f) s = renamed_fv f s
 renamed_fv (Since interval f g) {p} s =
@@ -91,12 +70,9 @@ renamed_fv f s = refl
 pub renamed_binders : (p : Numbers) (n : ℕ) (f : CoreForm) → binders (renamed p n f) ≡ range_with_len n (binder_count f)
 unfolding binders binder_count renamed
 renamed_binders p n (Not f) = renamed_binders p n f
-renamed_binders p n (And f g) =
-    rw (range_front, renamed_binders p n f, renamed_binders p (n + binder_count f) g)
-renamed_binders p n (Or f g) =
-    rw (range_front, renamed_binders p n f, renamed_binders p (n + binder_count f) g)
-renamed_binders p n (Exists x f) =
-    rw (renamed_binders (with_number p x.number n) (n + 1) f) (sym (range_front n 1 (binder_count f)))
+renamed_binders p n (And f g) = simp (range_front, renamed_binders p n f, renamed_binders p (n + binder_count f) g)
+renamed_binders p n (Or f g) = simp (range_front, renamed_binders p n f, renamed_binders p (n + binder_count f) g)
+renamed_binders p n (Exists x f) = simp (range_front, renamed_binders (with_number p x.number n) (n + 1) f)
 renamed_binders p n (Previous interval f) = renamed_binders p n f
 renamed_binders p n (Next interval f) = renamed_binders p n f
 renamed_binders p n (Since interval f g) =
@@ -113,11 +89,5 @@ pub apart_fv : (f : CoreForm) → fv (meaning (apart_form f)) ≡ fv (meaning f)
 apart_fv f = renamed_fv f (same_numbers (fv (meaning f))) ∙ map-id (fv (meaning f))
 
 pub apart_variables : ApartVariables
-apart_variables f = (
-  apart_fv f,
-  ap₂ (λ a b. all_apart (a ++ b)) (apart_fv f) (renamed_binders (λ y. y) (above (fv (meaning f))) f)
-      ∙ append_apart (fv (meaning f)) (range_with_len (above (fv (meaning f))) (binder_count f))
-      (fv_apart (meaning f))
-      (range_apart (above (fv (meaning f))) (binder_count f))
-      (λ y h. range_outside y (above (fv (meaning f))) (binder_count f) (below_above y (fv (meaning f)) h)),
-)
+apart_variables f =
+    search (apart_fv, ap₂, renamed_binders, append_apart, fv_apart, range_apart, range_outside, below_above)

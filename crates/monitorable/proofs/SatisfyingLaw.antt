@@ -2,24 +2,15 @@
 use Rattle.std.proofs.Common.{◌≡◌, ℕ, true, nat_eq, List, ◌++◌, length, None}
 use Rattle.std.proofs.lemmas.List.Folds.{list_any-append}
 use Rattle.std.specs.List.{list_all}
-use Rattle.mfotl_model.proofs.AscendingLemmas.{same_ascending}
-use Rattle.mfotl_model.proofs.LogicLemmas.{funext}
-use Rattle.mfotl_model.proofs.RowLemmas.{value_exact}
+use Rattle.mfotl_model.proofs.{AscendingLemmas.same_ascending, LogicLemmas.funext, RowLemmas.value_exact}
 use Rattle.mfotl_model.specs.ActiveDomain.{adom, constants, log_values}
-use Rattle.mfotl_model.specs.Domains.{Includes, in_domain}
-use Rattle.mfotl_model.specs.FreeVariables.{fv}
-use Rattle.mfotl_model.specs.Tables.{valuation}
-use Rattle.mfotl_model.specs.Values.{value_total}
-use Rattle.mfotl_model.specs.Violations.{violates}
-use Rattle.mfotl_model.specs.declared.event.TimePoint.{TimePoint}
-use Rattle.mfotl_model.specs.declared.value.Value.{Value}
-use Rattle.monitorable.proofs.DomainLaw.{domain}
+use Rattle.mfotl_model.specs.{Domains.Includes, Domains.in_domain, FreeVariables.fv, Tables.valuation}
+use Rattle.mfotl_model.specs.{Values.value_total, Violations.violates}
+use Rattle.mfotl_model.specs.declared.{event.TimePoint.TimePoint, value.Value.Value}
+use Rattle.monitorable.proofs.{DomainLaw.domain, FreeVariableLemmas.fv_apart}
 use Rattle.monitorable.proofs.DomainRows.{has_constants, has_log, row_within}
-use Rattle.monitorable.proofs.FreeVariableLemmas.{fv_apart}
-use Rattle.monitorable.specs.CoreForms.{CoreForm, meaning}
-use Rattle.monitorable.specs.Fragment.{Names, frag}
-use Rattle.monitorable.specs.Laws.{ViolationsSatisfy}
-use Rattle.monitorable.specs.SatisfyingRows.{core_domain, satisfies}
+use Rattle.monitorable.specs.{CoreForms.CoreForm, CoreForms.meaning, Fragment.Names, Fragment.frag}
+use Rattle.monitorable.specs.{Laws.ViolationsSatisfy, SatisfyingRows.core_domain, SatisfyingRows.satisfies}
 
 pub violations_satisfy : ViolationsSatisfy
 violations_satisfy f g negates variables same_constants log i =

@@ -1,18 +1,15 @@
 -- What is settled is settled in every longer log, there and at each position before.
-use Rattle.std.proofs.Common.{◌≡◌, ℕ, ◌+◌, ◌-◌, ◌<◌, ◌≤◌, Bool, true, ◌&&◌, List, ◌++◌, length, Option, sym, ◌∙◌, inl}
-use Rattle.std.proofs.Common.{inr, arith, length-append}
+use Rattle.std.proofs.Common.{◌≡◌, ℕ, ◌+◌, ◌-◌, ◌<◌, ◌≤◌, Bool, true, ◌&&◌, List, ◌++◌, length, Option, sym, ◌∙◌, arith}
+use Rattle.std.proofs.Common.{length-append}
 use Rattle.std.proofs.lemmas.Bool.{and_parts, and_from, cases_lt}
-use Rattle.std.proofs.lemmas.Bool.Decides.{nat_tests}
-use Rattle.std.proofs.lemmas.List.{get_or_append_left}
+use Rattle.std.proofs.{lemmas.Bool.Decides.nat_tests, lemmas.List.get_or_append_left}
 use Rattle.mfotl_model.proofs.LogicLemmas.{all_from}
-use Rattle.mfotl_model.specs.Satisfaction.{time_at}
+use Rattle.mfotl_model.specs.{Satisfaction.time_at, Times.NeverFalls}
 use Rattle.mfotl_model.specs.Settled.{settled, previous_settled, next_settled, since_settled, until_settled}
-use Rattle.mfotl_model.specs.Times.{NeverFalls}
 use Rattle.monitorable.proofs.CoreSettled.{reaches, settles, since_ready}
 use Rattle.monitorable.proofs.NormalFormLaws.{normal_form_settled}
 use Rattle.monitorable.specs.CoreForms.{CoreForm, meaning, Not, And, Or, Exists, Previous, Next, Since, Until}
-use Rattle.monitorable.specs.Laws.{SettledStays}
-use Rattle.monitorable.specs.NormalForm.{positive}
+use Rattle.monitorable.specs.{Laws.SettledStays, NormalForm.positive}
 
 both : {a b c d : Bool} → (a ≡ true → c ≡ true) → (b ≡ true → d ≡ true) → (a && b) ≡ true → (c && d) ≡ true
 both {a} {b} {c} {d} left right h = let p = and_parts a b h in and_from c d (left p.0) (right p.1)
@@ -40,27 +37,7 @@ module _ (t u : List ℕ) (more : length t ≤ length u) (rising : NeverFalls u)
 
   until_down : (greatest : Option ℕ) (ready ready' : ℕ → Bool) → Down ready ready'
       → Down (until_settled greatest t ready) (until_settled greatest u ready')
-  until_down greatest ready ready' down i j l h =
-      let r = reaches greatest t ready i h in
-      let at_i = same i r.here in
-      let at_far = same r.far r.reached in
-      let rises = rising j i l (omega arith) in
-      settles greatest u ready' j (record {
-        hi = r.hi;
-        bounded = r.bounded;
-        here = omega arith;
-        far = r.far;
-        reached = omega arith;
-        past = omega arith;
-        near = λ k low high close. elim (cases_lt k (length t)) [
-          | inl inside ↦
-              let at_k = same k inside in elim (cases_lt k i) [
-                | inl before ↦ down i k (omega arith) (r.near i (omega arith) r.here (omega arith))
-                | inr after ↦ down k k (omega arith) (r.near k after inside (omega arith))
-              ]
-          | inr outside ↦ let climbs = rising r.far k (omega arith) high in absurd (omega arith)
-        ];
-      })
+  until_down greatest ready ready' down i j l h = grind (arith, reaches, settles, cases_lt)
 
   pub core_down : (f : CoreForm) → Down (settled t (meaning f)) (settled u (meaning f))
   unfolding settled

@@ -4,19 +4,15 @@ use Rattle.std.proofs.Common.{◌∙◌}
 use Rattle.std.proofs.lemmas.Bool.{and_parts, or_left, or_right, not-true, eqb-true}
 use Rattle.std.proofs.lemmas.List.Folds.{list_any-append}
 use Rattle.mfotl_model.proofs.LogicLemmas.{same_number}
-use Rattle.mfotl_model.specs.ActiveDomain.{constants}
-use Rattle.mfotl_model.specs.Domains.{Includes}
-use Rattle.mfotl_model.specs.FreeVariables.{fv, among}
-use Rattle.mfotl_model.specs.Tables.{all_apart}
+use Rattle.mfotl_model.specs.{ActiveDomain.constants, Domains.Includes, FreeVariables.fv, FreeVariables.among}
+use Rattle.mfotl_model.specs.{Tables.all_apart}
 use Rattle.mfotl_model.specs.declared.value.Value.{Value}
-use Rattle.monitorable.proofs.DomainLemmas.{includes_left, includes_right}
+use Rattle.monitorable.proofs.{DomainLemmas.includes_left, DomainLemmas.includes_right, VariableListLemmas.in_left}
+use Rattle.monitorable.proofs.{VariableListLemmas.in_right}
 use Rattle.monitorable.proofs.FragmentLemmas.{even_variables, parts, right_variable, used_variable}
-use Rattle.monitorable.proofs.VariableListLemmas.{in_left, in_right}
 use Rattle.monitorable.specs.CoreForms.{CoreForm, meaning, Not, And, Or, Exists, Previous, Next, Since, Until}
 use Rattle.monitorable.specs.Fragment.{Names, fault_in, under_not, with_name}
-use Rattle.monitorable.specs.Laws.{PartsAreSound}
-use Rattle.monitorable.specs.Renaming.{binders}
-use Rattle.monitorable.specs.Soundness.{IsWellFormedIn}
+use Rattle.monitorable.specs.{Laws.PartsAreSound, Renaming.binders, Soundness.IsWellFormedIn}
 use Rattle.monitorable.specs.declared.role.Role.{Role}
 use Rattle.monitorable.specs.declared.role.Role.TheVariants as role
 

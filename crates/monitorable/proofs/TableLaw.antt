@@ -1,31 +1,19 @@
 -- A table that is exact for a core holds the rows that satisfy it.
 use Rattle.std.proofs.Common.{◌≡◌, ℕ, true, ◌&&◌, nat_eq, List, [], ◌∷◌, length, map, None, refl, sym, ap, ◌∙◌, inl}
-use Rattle.std.proofs.Common.{inr}
+use Rattle.std.proofs.Common.{inr, arith}
 use Rattle.std.proofs.lemmas.Bool.{and_parts, and_from, or_cases, eqb-true}
-use Rattle.std.proofs.lemmas.Map.Lookups.{btree_set_from_contains}
-use Rattle.std.proofs.lemmas.Map.Views.{tells_apart}
-use Rattle.std.specs.BTreeSet.{BTreeSet}
-use Rattle.std.specs.List.{list_all, filter}
-use Rattle.std.specs.List.Sorted.{IsStrictlySortedBy}
-use Rattle.std.specs.Ordering.{eq_by_cmp}
-use Rattle.std.specs.Cmp.{both_ways}
-use Rattle.mfotl_model.proofs.AscendingLemmas.{any_ascending, sorted_ascending}
-use Rattle.mfotl_model.proofs.RowLemmas.{row_exact}
-use Rattle.mfotl_model.proofs.ColumnLemmas.{row_kept}
-use Rattle.mfotl_model.specs.Exact.{Exact}
-use Rattle.mfotl_model.specs.FreeVariables.{fv}
+use Rattle.std.proofs.{lemmas.Map.Lookups.btree_set_from_contains, lemmas.Map.Views.tells_apart}
+use Rattle.std.specs.{BTreeSet.BTreeSet, List.list_all, List.filter, List.Sorted.IsStrictlySortedBy, Ordering.eq_by_cmp}
+use Rattle.std.specs.{Cmp.both_ways}
+use Rattle.mfotl_model.proofs.{AscendingLemmas.any_ascending, AscendingLemmas.sorted_ascending, RowLemmas.row_exact}
+use Rattle.mfotl_model.proofs.{ColumnLemmas.row_kept}
+use Rattle.mfotl_model.specs.{Exact.Exact, FreeVariables.fv, Values.row_cmp, Values.row_total, Violations.all_rows}
+use Rattle.mfotl_model.specs.{Domains.in_domain}
 use Rattle.mfotl_model.specs.Tables.{TableOf, all_sized, has, has_row, valuation}
-use Rattle.mfotl_model.specs.Values.{row_cmp, row_total}
-use Rattle.mfotl_model.specs.Violations.{all_rows}
-use Rattle.mfotl_model.specs.declared.event.TimePoint.{TimePoint}
-use Rattle.mfotl_model.specs.declared.value.Value.{Value}
-use Rattle.monitorable.proofs.DomainRows.{found}
-use Rattle.monitorable.proofs.FreeVariableLemmas.{fv_apart}
-use Rattle.monitorable.proofs.SatisfyingLaw.{row_inside}
-use Rattle.monitorable.specs.CoreForms.{CoreForm, meaning}
-use Rattle.mfotl_model.specs.Domains.{in_domain}
-use Rattle.monitorable.specs.Fragment.{Names, frag}
-use Rattle.monitorable.specs.Laws.{TablesSatisfy, whole_view}
+use Rattle.mfotl_model.specs.declared.{event.TimePoint.TimePoint, value.Value.Value}
+use Rattle.monitorable.proofs.{DomainRows.found, FreeVariableLemmas.fv_apart, SatisfyingLaw.row_inside}
+use Rattle.monitorable.specs.{CoreForms.CoreForm, CoreForms.meaning, Fragment.Names, Fragment.frag, Laws.TablesSatisfy}
+use Rattle.monitorable.specs.{Laws.whole_view}
 use Rattle.monitorable.specs.SatisfyingRows.{core_domain, satisfies, satisfying_rows}
 
 -- among rows of one size is no row of another
@@ -65,16 +53,10 @@ module _ (log : List TimePoint) (names : Names) (g : CoreForm) (i : ℕ) (table 
       ∙ found (satisfies log g i) (length vars) (core_domain log g) row
 
   forth : (row : List Value) → has_row table.rows row ≡ true → has_row (satisfying_rows log g i) row ≡ true
-  forth row h =
-      let size = rw exact.columns at (sized_row (length table.columns) table.rows row sized h) in
-      let holds : satisfies log g i row ≡ true = sym (alike row size) ∙ h in
-      member row ∙ and_from _ _ holds (and_from _ _ size
-      (row_inside log names g i accepted (core_domain log g) (λ a h. h) row size holds))
+  forth row h = grind (arith, sized_row, alike, member, and_from, row_inside)
 
   back : (row : List Value) → has_row (satisfying_rows log g i) row ≡ true → has_row table.rows row ≡ true
-  back row h =
-      let parts = and_parts (satisfies log g i row) _ (sym (member row) ∙ h) in
-      alike row (and_parts (nat_eq (length row) (length vars)) _ parts.1).0 ∙ parts.0
+  back row h = grind (arith, and_parts, member, alike)
 
   same_rows : table.rows ≡ satisfying_rows log g i
   same_rows =
@@ -86,5 +68,4 @@ module _ (log : List TimePoint) (names : Names) (g : CoreForm) (i : ℕ) (table 
       row_exact
 
 pub tables_satisfy : TablesSatisfy
-tables_satisfy log names g i table accepted exact sized sorted =
-    same_rows log names g i table accepted exact sized sorted
+tables_satisfy log names g i table accepted exact sized sorted = search (same_rows)

@@ -1,15 +1,12 @@
 -- Temporal operators on lists of truth values that agree where it matters.
-use Rattle.std.proofs.Common.{◌≡◌, ℕ, ◌+◌, ◌-◌, ◌<◌, ◌≤◌, Bool, true, ◌&&◌, List, length, Some, sym, ◌∙◌, inl, inr}
-use Rattle.std.proofs.Common.{arith}
+use Rattle.std.proofs.Common.{◌≡◌, ℕ, ◌+◌, ◌-◌, ◌<◌, ◌≤◌, Bool, true, ◌&&◌, List, length, Some, sym, ◌∙◌, arith}
 use Rattle.std.proofs.lemmas.Bool.{cases_lt}
-use Rattle.std.specs.Cmp.{both_ways}
-use Rattle.std.specs.List.{list_all, range_with_len}
+use Rattle.std.specs.{Cmp.both_ways, List.list_all, List.range_with_len}
 use Rattle.mfotl_model.proofs.LogicLemmas.{all_same, any_from, any_in, any_same}
 use Rattle.mfotl_model.proofs.TimeLemmas.{too_far}
-use Rattle.mfotl_model.specs.Intervals.{in_interval}
+use Rattle.mfotl_model.specs.{Intervals.in_interval, Times.NeverFalls}
 use Rattle.mfotl_model.specs.Satisfaction.{time_at, truth_at, since, until}
 use Rattle.mfotl_model.specs.declared.interval.Interval.{Interval}
-use Rattle.mfotl_model.specs.Times.{NeverFalls}
 use Rattle.monitorable.proofs.CoreSettled.{Reaches}
 
 -- two logs agree at a position: by its timestamp, and by the truth of two operands there
@@ -21,17 +18,7 @@ pub record Same (t u : List ℕ) (a b c d : List Bool) (j : ℕ) : Type 0 where
 pub since_same : (I : Interval) (t u : List ℕ) (a b c d : List Bool) (i : ℕ) → ((j : ℕ) → j ≤ i → Same t u a b c d j)
     → since I t a b i ≡ since I u c d i
 unfolding since
-since_same I t u a b c d i same =
-    any_same _ _ 0 (i + 1) (λ j low high.
-    let now = same i (omega arith) in
-    let s = same j (omega arith) in
-    rw (
-      now.time,
-      s.time,
-      s.second,
-      all_same (truth_at a) (truth_at c) (j + 1) (i - j)
-          (λ k least most. (same k (omega arith)).first),
-    ))
+since_same I t u a b c d i same = grind (arith, any_same, all_same)
 
 module _ (I : Interval) (t : List ℕ) (a b : List Bool) (i : ℕ) where
   -- the position j meets UNTIL's line at i
@@ -49,32 +36,13 @@ module _ (I : Interval) (t u : List ℕ) (a b c d : List Bool) (ready : ℕ → 
     (same : (j : ℕ) → j < length t → ready j ≡ true → Same t u a b c d j) where
   meets_same : (j : ℕ) → i ≤ j → j < length t → time_at t j ≤ time_at t i + r.hi
       → meets I t a b i j ≡ meets I u c d i j
-  meets_same j low high near =
-      let s = same j high (r.near j low high near) in
-      rw (
-        s.time,
-        times i r.here,
-        s.second,
-        all_same (truth_at a) (truth_at c) i (j - i) (λ k least most.
-            let at_k = times k (omega arith) in
-            let rises = rising k j (omega arith) (omega arith) in
-            (same k (omega arith) (r.near k least (omega arith) (omega arith))).first),
-      )
+  meets_same j low high near = grind (arith, all_same)
 
   forth : (j : ℕ) → i ≤ j → j < length t → meets I t a b i j ≡ true → meets I u c d i j ≡ true
   forth j low high m = sym (meets_same j low high (close I t a b i r.hi j r.bounded m)) ∙ m
 
   back : (j : ℕ) → i ≤ j → j < length u → meets I u c d i j ≡ true → (j < length t) × (meets I t a b i j ≡ true)
-  back j low high m =
-      let near = close I u c d i r.hi j r.bounded m in
-      let at_i = times i r.here in
-      let at_far = times r.far r.reached in
-      let inside : j < length t = elim (cases_lt j (length t)) [
-        | inl h ↦ h
-        | inr past ↦ let climbs = rising r.far j (omega arith) high in absurd (omega arith)
-      ] in
-      let at_j = times j inside in
-      (inside, meets_same j low inside (omega arith) ∙ m)
+  back j low high m = grind (arith, close, cases_lt, meets_same)
 
   pub until_same : until I t a b i ≡ until I u c d i
   unfolding until

@@ -1,21 +1,14 @@
 -- The text of a log is a prefix of the text of every longer one.
 use Rattle.std.proofs.Common.{◌≡◌, ℕ, zero, suc, ◌+◌, ◌≤◌, Bool, true, List, ◌++◌, map, length, None, refl, ap, ap₂}
 use Rattle.std.proofs.Common.{◌∙◌, inl, inr, arith, length-append}
-use Rattle.std.proofs.lemmas.Bool.{cases_Bool}
-use Rattle.std.proofs.lemmas.Grind.{flat_map-append}
-use Rattle.std.proofs.lemmas.List.{map-append}
-use Rattle.std.proofs.lemmas.List.Sums.{take_while-cons}
+use Rattle.std.proofs.{lemmas.Bool.cases_Bool, lemmas.Grind.flat_map-append, lemmas.List.map-append}
+use Rattle.std.proofs.{lemmas.List.Sums.take_while-cons}
 use Rattle.std.specs.List.{flat_map, range_with_len, take_while}
-use Rattle.mfotl_model.specs.Log.{times}
-use Rattle.mfotl_model.specs.Settled.{settled}
+use Rattle.mfotl_model.specs.{Log.times, Settled.settled}
 use Rattle.mfotl_model.specs.VerdictText.{VerdictOf, line_of, verdict_at, verdicts}
-use Rattle.monitorable.proofs.CoreLaws.{accepted}
-use Rattle.monitorable.proofs.FinalityLaw.{time_same, within_log}
-use Rattle.monitorable.proofs.SettledStays.{settled_stays}
-use Rattle.monitorable.proofs.ViolationsFinal.{violations_final}
-use Rattle.monitorable.specs.Fragment.{frag}
-use Rattle.monitorable.specs.Laws.{TextFinal, log_of}
-use Rattle.monitorable.specs.NormalForm.{negative}
+use Rattle.monitorable.proofs.{CoreLaws.accepted, FinalityLaw.time_same, FinalityLaw.within_log}
+use Rattle.monitorable.proofs.{SettledStays.settled_stays, ViolationsFinal.violations_final}
+use Rattle.monitorable.specs.{Fragment.frag, Laws.TextFinal, Laws.log_of, NormalForm.negative}
 
 -- two lists of verdicts, each as far as its test holds, where the second test holds wherever the first does
 module _ (p q : ℕ → Bool) (v w : ℕ → VerdictOf) (follows : (i : ℕ) → p i ≡ true → q i ≡ true)

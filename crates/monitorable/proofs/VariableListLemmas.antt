@@ -2,8 +2,7 @@
 use Rattle.std.proofs.Common.{◌≡◌, ℕ, zero, suc, ◌+◌, ◌<◌, Bool, true, false, not, ◌||◌, nat_eq, List, [], ◌∷◌, ◌++◌}
 use Rattle.std.proofs.Common.{map, refl, sym, ap, ap₂, ◌∙◌, arith}
 use Rattle.std.proofs.lemmas.Bool.{or_left, or_right, and_from, ne_eqb}
-use Rattle.std.proofs.lemmas.Bool.Decides.{nat_tests}
-use Rattle.std.proofs.lemmas.List.{map-append}
+use Rattle.std.proofs.{lemmas.Bool.Decides.nat_tests, lemmas.List.map-append}
 use Rattle.std.specs.List.{filter, range_with_len}
 use Rattle.mfotl_model.proofs.LogicLemmas.{among_joined, same_number}
 use Rattle.mfotl_model.specs.FreeVariables.{among, joined, distinct}
@@ -80,6 +79,4 @@ range_outside y n (suc k) l =
 
 pub range_apart : (n k : ℕ) → all_apart (range_with_len n k) ≡ true
 range_apart n zero = refl
-range_apart n (suc k) =
-    and_from (not (among n (range_with_len (n + 1) k))) (all_apart (range_with_len (n + 1) k))
-    (ap not (range_outside n (n + 1) k (omega arith))) (range_apart (n + 1) k)
+range_apart n (suc k) = grind (arith, and_from, range_outside, range_apart (n + 1) k)

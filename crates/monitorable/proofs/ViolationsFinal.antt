@@ -1,26 +1,16 @@
 -- The violations at a settled position stay as they are in every longer log.
 use Rattle.std.proofs.Common.{◌≡◌, ℕ, Bool, true, ◌&&◌, List, ◌++◌, length, None, sym, ◌∙◌, arith}
-use Rattle.mfotl_model.proofs.AscendingLemmas.{same_ascending}
-use Rattle.mfotl_model.proofs.RowLemmas.{row_exact}
-use Rattle.mfotl_model.specs.Domains.{Includes}
-use Rattle.mfotl_model.specs.FreeVariables.{fv}
-use Rattle.mfotl_model.specs.Log.{times}
-use Rattle.mfotl_model.specs.Settled.{settled}
-use Rattle.mfotl_model.specs.Tables.{valuation}
-use Rattle.mfotl_model.specs.Times.{NeverFalls}
-use Rattle.mfotl_model.specs.Values.{row_total}
-use Rattle.mfotl_model.specs.declared.event.TimePoint.{TimePoint}
-use Rattle.mfotl_model.specs.declared.value.Value.{Value}
-use Rattle.monitorable.proofs.DomainLaw.{domain}
+use Rattle.mfotl_model.proofs.{AscendingLemmas.same_ascending, RowLemmas.row_exact}
+use Rattle.mfotl_model.specs.{Domains.Includes, FreeVariables.fv, Log.times, Settled.settled, Tables.valuation}
+use Rattle.mfotl_model.specs.{Times.NeverFalls, Values.row_total}
+use Rattle.mfotl_model.specs.declared.{event.TimePoint.TimePoint, value.Value.Value}
+use Rattle.monitorable.proofs.{DomainLaw.domain, FinalityLaw.finality, NormalFormLaws.normal_form_holds}
+use Rattle.monitorable.proofs.{NormalFormLaws.normal_form_settled, NormalFormVariables.normal_form_variables}
+use Rattle.monitorable.proofs.{NormalFormVariables.normal_form_constants, SatisfyingLaw.row_inside}
+use Rattle.monitorable.proofs.{SatisfyingLaw.violations_satisfy}
 use Rattle.monitorable.proofs.DomainRows.{found, grows, has_constants, has_log}
-use Rattle.monitorable.proofs.FinalityLaw.{finality}
-use Rattle.monitorable.proofs.NormalFormLaws.{normal_form_holds, normal_form_settled}
-use Rattle.monitorable.proofs.NormalFormVariables.{normal_form_variables, normal_form_constants}
-use Rattle.monitorable.proofs.SatisfyingLaw.{row_inside, violations_satisfy}
-use Rattle.monitorable.specs.CoreForms.{CoreForm, meaning}
-use Rattle.monitorable.specs.Fragment.{Names, frag}
-use Rattle.monitorable.specs.Laws.{ViolationsFinal}
-use Rattle.monitorable.specs.NormalForm.{negative}
+use Rattle.monitorable.specs.{CoreForms.CoreForm, CoreForms.meaning, Fragment.Names, Fragment.frag}
+use Rattle.monitorable.specs.{Laws.ViolationsFinal, NormalForm.negative}
 use Rattle.monitorable.specs.SatisfyingRows.{HasViolationsOf, core_domain, satisfies, satisfying_rows}
 
 pub itself : (dom : List Value) → Includes dom dom

@@ -1,13 +1,9 @@
 -- The core's facts, by the laws of new numbers.
 use Rattle.std.proofs.Common.{◌++◌, IsTrue, subst, sym}
-use Rattle.mfotl_model.specs.FreeVariables.{fv}
-use Rattle.mfotl_model.specs.Tables.{all_apart}
-use Rattle.monitorable.proofs.FragmentRenamed.{apart_fragment}
-use Rattle.monitorable.proofs.RenamedVariables.{apart_variables}
+use Rattle.mfotl_model.specs.{FreeVariables.fv, Tables.all_apart}
+use Rattle.monitorable.proofs.{FragmentRenamed.apart_fragment, RenamedVariables.apart_variables}
 use Rattle.monitorable.proofs.core_of_policy.core_apart.Goals as goal
-use Rattle.monitorable.specs.CoreForms.{meaning, node_form}
-use Rattle.monitorable.specs.Fragment.{IsMonitorable}
-use Rattle.monitorable.specs.Renaming.{binders}
+use Rattle.monitorable.specs.{CoreForms.meaning, CoreForms.node_form, Fragment.IsMonitorable, Renaming.binders}
 
 pub new-requires-clause-in_fragment : goal.new-requires-clause-in_fragment
 new-requires-clause-in_fragment c =

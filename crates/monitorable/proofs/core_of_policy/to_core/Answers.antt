@@ -1,20 +1,14 @@
 -- What the laws of the normal form and of new numbers say of the core.
 use Rattle.std.proofs.Common.{◌≡◌, IfOk, None, Result, arith, rules, sym, subst}
-use Rattle.std.proofs.lemmas.Grind.{common_steps}
-use Rattle.std.proofs.lemmas.Result.{IfOk-weaker}
-use Rattle.mfotl_model.specs.FreeVariables.{fv}
-use Rattle.mfotl_model.specs.Formulas.{Form}
+use Rattle.std.proofs.{lemmas.Grind.common_steps, lemmas.Result.IfOk-weaker}
+use Rattle.mfotl_model.specs.{FreeVariables.fv, Formulas.Form}
 use Rattle.monitorable.proofs.CoreLaws.{accepted, core_of, negates, same_constants, same_variables, settles}
 use Rattle.monitorable.proofs.SatisfyingLaw.{violations_satisfy}
 use Rattle.monitorable.proofs.core_of_policy.to_core.Goals as goal
-use Rattle.monitorable.specs.CoreForms.{CoreForm, meaning}
-use Rattle.monitorable.specs.Cores.{core_form, policy_form}
-use Rattle.monitorable.specs.Fragment.{frag, free_names}
+use Rattle.monitorable.specs.{CoreForms.CoreForm, CoreForms.meaning, Cores.core_form, Cores.policy_form, Fragment.frag}
+use Rattle.monitorable.specs.{Fragment.free_names, Renaming.apart_form, SatisfyingRows.HasViolationsOf}
 use Rattle.monitorable.specs.Negation.{HasConstantsOf, Negates, SettlesWith}
-use Rattle.monitorable.specs.Renaming.{apart_form}
-use Rattle.monitorable.specs.SatisfyingRows.{HasViolationsOf}
-use Rattle.monitorable.specs.declared.fault.FragmentFault.{FragmentFault}
-use Rattle.monitorable.specs.declared.policy_core.Core.{Core}
+use Rattle.monitorable.specs.declared.{fault.FragmentFault.FragmentFault, policy_core.Core.Core}
 
 pub core_apart-requires : goal.core_apart-requires
 core_apart-requires c =

@@ -1,7 +1,6 @@
 -- The terms so far, and those that are left, have the answer.
 use Rattle.std.proofs.Common.{◌≡◌, ◌++◌, drop, map}
-use Rattle.monitorable.specs.Renaming.{renamed_term}
-use Rattle.monitorable.specs.RenamingScope.{numbers_of}
+use Rattle.monitorable.specs.{Renaming.renamed_term, RenamingScope.numbers_of}
 use Rattle.monitorable.proofs.renaming.Renaming.terms.Given as goal
 
 abbrev pub invariant-loop-term : goal.invariant-loop-term
