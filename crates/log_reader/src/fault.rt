@@ -89,11 +89,7 @@ impl fmt::Display for LogFault {
                 write!(f, "FallingTime {before} {now} at {at}")
             }
             LogFault::Memory => f.write_str("Memory"),
-            _ => {
-                let name = self.name();
-                let at = self.offset();
-                write!(f, "{name} at {at}")
-            }
+            _ => write!(f, "{} at {}", self.name(), self.offset()),
         }
     }
 }
