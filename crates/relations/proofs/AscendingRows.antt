@@ -1,15 +1,10 @@
 -- Rows put into ascending order: their number of values, their members, and when a list is the one in order.
-use Rattle.std.proofs.Common.{◌≡◌, ℕ, Bool, true, not, ◌&&◌, nat_eq, List, length, sym, subst, ap, ◌∙◌, arith}
+use Rattle.std.proofs.Common.{◌≡◌, ℕ, Bool, true, not, ◌&&◌, nat_eq, List, length, sym, ap, ◌∙◌, arith}
 use Rattle.std.proofs.lemmas.Grind.{common_steps}
-use Rattle.std.specs.BTreeSet.{insert_key}
-use Rattle.std.specs.List.{list_all}
-use Rattle.std.specs.List.Sorted.{IsStrictlySortedBy}
-use Rattle.std.specs.Ordering.{eq_by_cmp}
+use Rattle.std.specs.{BTreeSet.insert_key, List.list_all, List.Sorted.IsStrictlySortedBy, Ordering.eq_by_cmp}
 use Rattle.mfotl_model.proofs.AscendingLemmas.{any_ascending, any_insert, sorted_ascending}
-use Rattle.mfotl_model.proofs.RowLemmas.{row_exact}
-use Rattle.mfotl_model.proofs.LogicLemmas.{all_any}
-use Rattle.mfotl_model.specs.Ascending.{ascending}
-use Rattle.mfotl_model.specs.Values.{row_cmp, row_total}
+use Rattle.mfotl_model.proofs.{RowLemmas.row_exact, LogicLemmas.all_any}
+use Rattle.mfotl_model.specs.{Ascending.ascending, Values.row_cmp, Values.row_total}
 use Rattle.mfotl_model.specs.declared.value.Value.{Value}
 use Rattle.mfotl_model.specs.Tables.{all_apart, all_sized, has_row}
 use Rattle.relations.specs.Tables.{IsTable}
@@ -47,6 +42,4 @@ sized_inserted n xs row = all_insert (λ r. nat_eq (length r) n) xs row
 pub made_is : (columns : List ℕ) (xs ys : List (List Value)) → all_apart columns ≡ true
     → all_sized (length columns) xs ≡ true
     → ys ≡ ascending row_cmp xs → IsTable columns ys
-made_is columns xs ys apart sized e =
-    subst (IsTable columns) (sym e)
-    (record { apart = apart; sized = sized_ascending (length columns) xs ∙ sized; sorted = rows_ascend xs })
+made_is columns xs ys apart sized e = grind (arith, sized_ascending, rows_ascend)

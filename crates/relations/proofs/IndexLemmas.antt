@@ -1,19 +1,14 @@
 -- Rows sorted behind their keys.
-use Rattle.std.proofs.Common.{◌≡◌, ℕ, ◌+◌, ◌<◌, List, [], ◌∷◌, map, length, slice_index_or, refl}
-use Rattle.std.proofs.Common.{sym, subst, ap, ap₂, ◌∙◌, arith}
-use Rattle.std.proofs.lemmas.List.{length-map}
-use Rattle.std.proofs.Math.ListN.{get_or-map}
-use Rattle.std.proofs.lemmas.List.Elements.{All-map, All-get_or, All-head, All-tail}
-use Rattle.std.proofs.lemmas.List.Sorted.{All-permutation, IsPermutation-map}
-use Rattle.std.specs.List.{All}
-use Rattle.std.specs.List.Sorted.{IsPermutation, IsSorted}
-use Rattle.std.specs.Ordering.{is_lt, ordering_then}
+use Rattle.std.proofs.Common.{◌≡◌, ℕ, ◌+◌, ◌<◌, List, [], ◌∷◌, map, length, slice_index_or, refl, sym, subst, ap, ap₂}
+use Rattle.std.proofs.Common.{◌∙◌, arith}
+use Rattle.std.proofs.{lemmas.List.length-map, Math.ListN.get_or-map, lemmas.List.Sorted.All-permutation}
+use Rattle.std.proofs.{lemmas.List.Sorted.IsPermutation-map}
+use Rattle.std.proofs.lemmas.List.Elements.{All-map, All-head, All-tail}
+use Rattle.std.specs.{List.All, List.Sorted.IsPermutation, List.Sorted.IsSorted, Ordering.is_lt, Ordering.ordering_then}
 use Rattle.mfotl_model.proofs.RunLemmas.{first_rises}
-use Rattle.mfotl_model.specs.Values.{row_cmp}
+use Rattle.mfotl_model.specs.{Values.row_cmp, Tables.part}
 use Rattle.mfotl_model.specs.declared.value.Value.{Value}
-use Rattle.mfotl_model.specs.Tables.{part}
-use Rattle.relations.specs.Entries.{entry_cmp, keyed_entry}
-use Rattle.relations.specs.Indexes.{index_cmp}
+use Rattle.relations.specs.{Entries.entry_cmp, Entries.keyed_entry, Indexes.index_cmp}
 use Rattle.relations.specs.declared.entry.Entry.{Entry}
 
 rows_back : (columns key_columns : List ℕ) (rows : List (List Value))
@@ -65,8 +60,7 @@ module _ (columns key_columns : List ℕ) (rows : List (List Value)) (es : List 
   rows_rise sorted k d a l =
       let e : Entry = record { key = part columns key_columns d; row = d } in
       let n : length (map (λ (x : Entry). x.row) es) ≡ length es = length-map es (λ (x : Entry). x.row) in
-      let own : (i : ℕ) → i < length es → Keyed (slice_index_or es i e) =
-      λ i m. All-get_or Keyed es i e m all_keyed in
+      let own : (i : ℕ) → i < length es → Keyed (slice_index_or es i e) = search (slice_index_or, all_keyed) in
       (λ i. is_lt (index_cmp columns key_columns (row_at es (k + 1) e i) (row_at es k e i)))
       ∙ (λ i. is_lt (ordering_then (row_cmp (sym (own (k + 1) (omega arith)) i) (sym (own k (omega arith)) i))
       (row_cmp (slice_index_or es (k + 1) e).row (slice_index_or es k e).row)))

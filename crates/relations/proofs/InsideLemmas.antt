@@ -1,20 +1,14 @@
 -- The join with a table that has no columns of its own is the rows of the first of which the second has a part.
-use Rattle.std.proofs.Common.{◌≡◌, ℕ, Bool, true, not, ◌&&◌, ◌||◌, nat_eq, List, [], ◌∷◌, ◌++◌, map}
-use Rattle.std.proofs.Common.{length, refl, sym, ap, ◌∙◌, arith}
-use Rattle.std.proofs.lemmas.Bool.{and_parts, eqb-true}
-use Rattle.std.proofs.lemmas.Grind.{common_steps}
-use Rattle.std.proofs.lemmas.List.{append-nil}
-use Rattle.std.proofs.lemmas.List.Kept.{IsStrictlySortedBy-filter}
-use Rattle.std.proofs.lemmas.Map.Lookups.{btree_set_from_contains}
-use Rattle.std.specs.BTreeSet.{BTreeSet}
+use Rattle.std.proofs.Common.{◌≡◌, ℕ, Bool, true, not, ◌&&◌, List, [], ◌∷◌, ◌++◌, map, length, refl, sym, ap, ◌∙◌}
+use Rattle.std.proofs.Common.{arith}
+use Rattle.std.proofs.{lemmas.Bool.and_parts, lemmas.Bool.eqb-true, lemmas.Grind.common_steps, lemmas.List.append-nil}
+use Rattle.std.proofs.{lemmas.List.Kept.IsStrictlySortedBy-filter, lemmas.Map.Lookups.btree_set_from_contains}
+use Rattle.std.specs.{BTreeSet.BTreeSet, Ordering.eq_by_cmp}
 use Rattle.std.specs.List.{list_any, list_all, filter}
-use Rattle.std.specs.Ordering.{eq_by_cmp}
-use Rattle.mfotl_model.proofs.RowLemmas.{row_exact}
-use Rattle.mfotl_model.proofs.ColumnLemmas.{row_kept}
-use Rattle.mfotl_model.proofs.LogicLemmas.{any_alike, any_filter}
-use Rattle.mfotl_model.specs.FreeVariables.{among, joined}
+use Rattle.mfotl_model.proofs.{RowLemmas.row_exact, ColumnLemmas.row_kept, LogicLemmas.any_alike}
+use Rattle.mfotl_model.proofs.{LogicLemmas.any_filter}
+use Rattle.mfotl_model.specs.{FreeVariables.among, FreeVariables.joined, Values.row_cmp, Values.row_total}
 use Rattle.mfotl_model.specs.Tables.{TableOf, all_among, all_apart, all_sized, has_row, part, valuation}
-use Rattle.mfotl_model.specs.Values.{row_cmp, row_total}
 use Rattle.mfotl_model.specs.declared.value.Value.{Value}
 use Rattle.relations.specs.Operations.{agree, combined, joined_rows, pairs}
 use Rattle.relations.specs.Tables.{IsTable}
@@ -35,11 +29,7 @@ joined_within ca cb inside = ap (λ k. ca ++ k) (none_kept (λ y. among y ca) cb
 module _ (ca cb : List ℕ) (q ra : List Value) (apart : all_apart cb ≡ true) (inside : all_among cb ca ≡ true) where
   agrees : (rb : List Value) → length rb ≡ length cb → agree ca cb ra rb ≡ eq_by_cmp row_cmp (part ca cb ra) rb
   unfolding part
-  agrees rb size =
-      sym (agree_is ca cb ra rb)
-      ∙ ap (λ k. eq_by_cmp row_cmp (map (valuation ca ra) k) (map (valuation cb rb) k))
-      (all_kept (λ y. among y ca) cb inside)
-      ∙ ap (eq_by_cmp row_cmp (part ca cb ra)) (row_kept cb rb apart size)
+  agrees rb size = grind (arith, agree_is ca cb ra rb, all_kept, row_kept cb rb apart size)
 
   alone : (rb : List Value) → combined ca cb ra rb ≡ ra
   unfolding combined part
@@ -49,18 +39,12 @@ module _ (ca cb : List ℕ) (q ra : List Value) (apart : all_apart cb ≡ true) 
       → list_any (makes ca cb q ra) bs ≡ (has_row bs (part ca cb ra) && eq_by_cmp row_cmp q ra)
   unfolding makes
   any_makes [] sized = refl
-  any_makes (rb ∷ bs) sized =
-      let size = eqb-true (length rb) (length cb) (and_parts (nat_eq (length rb) (length cb)) _ sized).0 in
-      grind (arith, common_steps, agrees rb size, alone rb, any_makes bs)
+  any_makes (rb ∷ bs) sized = grind (arith, eqb-true, and_parts, agrees, alone, any_makes bs)
 
 has_matched : (ca cb : List ℕ) (q : List Value) (rows bs : List (List Value)) → all_apart cb ≡ true
     → all_sized (length cb) bs ≡ true → all_among cb ca ≡ true
     → has_row (filter (λ row. has_row bs (part ca cb row)) rows) q ≡ has_row (pairs ca cb rows bs) q
-has_matched ca cb q rows bs apart sized inside =
-    any_filter (eq_by_cmp row_cmp q) (λ row. has_row bs (part ca cb row)) rows
-    ∙ any_alike (λ row. has_row bs (part ca cb row) && eq_by_cmp row_cmp q row)
-    (λ row. list_any (makes ca cb q row) bs) rows (λ row. sym (any_makes ca cb q row apart inside bs sized))
-    ∙ sym (all_has ca cb q rows bs)
+has_matched ca cb q rows bs apart sized inside = simp (any_filter, any_alike, makes, any_makes, all_has)
 
 -- the rows that stay are those of the join
 pub matched_is : (a b : TableOf) → IsTable a.columns a.rows → IsTable b.columns b.rows

@@ -1,18 +1,14 @@
 -- The join of two tables by all pairs of rows, spoken of by valuations.
-use Rattle.std.proofs.Common.{◌≡◌, ℕ, Bool, true, false, not, ◌&&◌, ◌||◌, nat_eq, List, [], ◌∷◌, ◌++◌}
-use Rattle.std.proofs.Common.{length, map, take, drop, refl, sym, ap, ap₂, ◌∙◌, arith}
-use Rattle.std.proofs.lemmas.Bool.{and_parts, and_from, or_left, or_right}
-use Rattle.std.proofs.lemmas.Bool.{eqb-true}
-use Rattle.std.proofs.lemmas.Grind.{common_steps}
-use Rattle.std.proofs.Math.Seq.{take-append_seam, drop-append_seam}
-use Rattle.std.proofs.lemmas.Cmp.{tied_itself}
-use Rattle.std.proofs.lemmas.List.{map-append, length-map}
-use Rattle.std.proofs.lemmas.List.Folds.{list_any-append}
-use Rattle.std.proofs.lemmas.Map.Views.{any-filter_same, tells_apart}
+use Rattle.std.proofs.Common.{◌≡◌, ℕ, Bool, true, false, not, ◌&&◌, ◌||◌, nat_eq, List, [], ◌∷◌, ◌++◌, length, map}
+use Rattle.std.proofs.Common.{refl, sym, ap, ap₂, ◌∙◌, arith}
+use Rattle.std.proofs.lemmas.Bool.{and_parts, and_from, or_left, or_right, eqb-true}
+use Rattle.std.proofs.{lemmas.Grind.common_steps, Math.Seq.take-append_seam, Math.Seq.drop-append_seam}
+use Rattle.std.proofs.{lemmas.Cmp.tied_itself, lemmas.List.map-append, lemmas.List.length-map}
+use Rattle.std.proofs.{lemmas.List.Folds.list_any-append, lemmas.Map.Views.any-filter_same}
+use Rattle.std.proofs.{lemmas.Map.Views.tells_apart}
 use Rattle.std.proofs.Math.Bool.{and-false, and-or_distrib_left, and-or_distrib_right}
 use Rattle.std.specs.List.{list_any, list_all, filter}
-use Rattle.std.specs.Ordering.{eq_by_cmp, is_eq}
-use Rattle.std.specs.Cmp.{both_ways}
+use Rattle.std.specs.{Ordering.eq_by_cmp, Ordering.is_eq, Cmp.both_ways}
 use Rattle.mfotl_model.proofs.LogicLemmas.{any_filter, any_map, filtered_found, same_number}
 use Rattle.mfotl_model.proofs.RowLemmas.{row_exact, value_exact, value_itself}
 use Rattle.mfotl_model.proofs.ColumnLemmas.{same_columns, row_kept, read_own}
@@ -41,18 +37,14 @@ same_each v w (x ∷ ys) e y m =
     grind (arith, common_steps, same_each v w ys rest y)
 
 pub front_same : (xs ys us ws : List Value) → length xs ≡ length ys → xs ++ us ≡ ys ++ ws → (xs ≡ ys) × (us ≡ ws)
-front_same xs ys us ws size e = (
-  sym (take-append_seam xs us) ∙ (λ i. take (size i) (e i)) ∙ take-append_seam ys ws,
-  sym (drop-append_seam xs us) ∙ (λ i. drop (size i) (e i)) ∙ drop-append_seam ys ws,
-)
+front_same xs ys us ws size e =
+    grind (arith, take-append_seam xs us, take-append_seam ys ws, drop-append_seam xs us, drop-append_seam ys ws)
 
 pub row_itself : (r : List Value) → eq_by_cmp row_cmp r r ≡ true
 row_itself r = ap is_eq (tied_itself row_total r)
 
 pub among_others : (ca cb : List ℕ) (y : ℕ) → among y (others ca cb) ≡ (not (among y ca) && among y cb)
-among_others ca cb y =
-    any-filter_same (nat_eq y) (λ z. not (among z ca)) (not (among y ca))
-    (λ z e. ap (λ w. not (among w ca)) (sym (eqb-true y z e))) cb
+among_others ca cb y = grind (arith, any-filter_same, eqb-true)
 
 module _ (v : Valuation) (ca cb : List ℕ) (apart : all_apart cb ≡ true) where
   -- two rows that agree make the row of v exactly where both are v's
@@ -82,8 +74,7 @@ module _ (v : Valuation) (ca cb : List ℕ) (apart : all_apart cb ≡ true) wher
       let parts = and_parts (eq_by_cmp row_cmp (map v ca) ra) (eq_by_cmp row_cmp (map v cb) rb) h in
       let first : map v ca ≡ ra = tells_apart row_exact (map v ca) ra parts.0 in
       let second : map v cb ≡ rb = tells_apart row_exact (map v cb) rb parts.1 in
-      let read : (y : ℕ) → among y cb ≡ true → valuation cb rb y ≡ v y = λ y m.
-      ap (λ r. valuation cb r y) (sym second) ∙ read_own v cb y m in
+      let read : (y : ℕ) → among y cb ≡ true → valuation cb rb y ≡ v y = grind (arith, read_own) in
       and_from (agree ca cb ra rb) (eq_by_cmp row_cmp (map v (joined ca cb)) (combined ca cb ra rb))
       (all_members (λ z. not (among z ca) || eq_by_cmp value_cmp (valuation ca ra z) (valuation cb rb z)) cb
       (λ y m. both y (among y ca) refl (read y m) first))
@@ -118,9 +109,7 @@ module _ (v : Valuation) (ca cb : List ℕ) (apart : all_apart cb ≡ true) wher
   one_row ra [] size all = sym (and-false (eq_by_cmp row_cmp (map v ca) ra))
   one_row ra (rb ∷ bs) size all =
       let parts = and_parts (nat_eq (length rb) (length cb)) (all_sized (length cb) bs) all in
-      ap₂ (λ x y. x || y) (pair_is ra rb size (eqb-true (length rb) (length cb) parts.0)) (one_row ra bs size parts.1)
-      ∙ sym (and-or_distrib_left (eq_by_cmp row_cmp (map v ca) ra) (eq_by_cmp row_cmp (map v cb) rb)
-      (list_any (eq_by_cmp row_cmp (map v cb)) bs))
+      search (ap₂, pair_is, eqb-true, and-or_distrib_left, one_row ra bs size parts.1)
 
   -- the join has v's row exactly where both tables have theirs
   pub join_has : (as_ bs : List (List Value)) → all_sized (length ca) as_ ≡ true → all_sized (length cb) bs ≡ true

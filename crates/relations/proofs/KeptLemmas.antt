@@ -1,16 +1,11 @@
 -- What is kept for rows that differ: by look-ups, and one after another.
-use Rattle.std.proofs.Common.{◌≡◌, ◌<◌, Bool, true, false, cond, nat_eq, ◌&&◌, ◌||◌, List, [], ◌∷◌, length, Option}
-use Rattle.std.proofs.Common.{Some, None, refl, sym, ap, ◌∙◌, arith}
-use Rattle.std.proofs.lemmas.Grind.{common_steps}
-use Rattle.std.proofs.lemmas.Map.{lookup-none}
-use Rattle.std.proofs.lemmas.Map.Entries.{none_past_head}
+use Rattle.std.proofs.Common.{◌≡◌, ◌<◌, Bool, true, false, cond, nat_eq, ◌&&◌, List, [], ◌∷◌, length, Option, Some}
+use Rattle.std.proofs.Common.{None, refl, sym, ap, arith}
+use Rattle.std.proofs.{lemmas.Grind.common_steps, lemmas.Map.lookup-none, lemmas.Map.Entries.none_past_head}
 use Rattle.std.proofs.lemmas.Map.Keys.{sorted_tail, IsDistinct-from_sorted, IsDistinct-tail}
-use Rattle.std.specs.BTreeMap.{is_at}
-use Rattle.std.specs.Cmp.{eq_by_cmp_equiv}
-use Rattle.std.specs.List.{AllByRecursion, list_any}
-use Rattle.std.specs.Map.{keys_of}
+use Rattle.std.specs.{BTreeMap.is_at, Cmp.eq_by_cmp_equiv, List.AllByRecursion, List.list_any, Map.keys_of}
+use Rattle.std.specs.{Ordering.eq_by_cmp}
 use Rattle.std.specs.Option.{IfSome, is_some, option_or, unwrap_or}
-use Rattle.std.specs.Ordering.{eq_by_cmp}
 use Rattle.mfotl_model.specs.Values.{row_cmp, row_total}
 use Rattle.mfotl_model.specs.declared.value.Value.{Value}
 use Rattle.relations.proofs.MapLemmas.{either, same_row}
@@ -40,16 +35,13 @@ none_behind u e es apart at =
 pub any_is : {X : Type 0} (p : List X → Bool) → p [] ≡ false → (u : List Value) (es : List (List Value × List X))
     → RowsDiffer es → list_any (λ e. eq_by_cmp row_cmp u e.0 && p e.1) es ≡ p (list_for es u)
 any_is p none u [] apart = sym none
-any_is p none u (e ∷ es) apart =
-    grind (arith, common_steps, none_behind u e es apart, any_is p none u es (differ_tail e es apart))
+any_is p none u (e ∷ es) apart = grind (arith, none_behind, differ_tail, any_is p none u es (differ_tail e es apart))
 
 -- what holds of all that is kept still does after a change at one row
 pub each_after : {X : Type 0} (P : X → Type 0) (row : List Value) (old new : List (List Value × X)) (w : Option X)
     → ((v : List Value) → kept_for new v ≡ cond (is_at (row_cmp row) v) w (kept_for old v))
     → IfSome w P → ((v : List Value) → IfSome (kept_for old v) P) → (v : List Value) → IfSome (kept_for new v) P
-each_after {X} P row old new w changes here before v =
-    either (λ (o : Option X). IfSome o P) (is_at (row_cmp row) v) w (kept_for old v) (kept_for new v) (changes v) here
-    (before v)
+each_after {X} P row old new w changes here before v = grind arith
 
 -- what holds of all that look-ups find holds of each row
 pub each_kept : {X : Type 0} (Q : List Value → X → Type 0) (es : List (List Value × X)) → RowsAscend es
@@ -65,9 +57,7 @@ each_kept Q (e ∷ es) up found = (
 pub found_kept : {X : Type 0} (P : X → Type 0) (es : List (List Value × X)) → AllByRecursion (λ e. P e.1) es
     → (u : List Value) → IfSome (kept_for es u) P
 found_kept P [] all u = tt
-found_kept P (e ∷ es) all u =
-    either (λ o. IfSome o P) (is_at (row_cmp u) e.0) (Some e.1) (kept_for es u) (kept_for (e ∷ es) u) refl all.0
-    (found_kept P es all.1 u)
+found_kept P (e ∷ es) all u = grind (arith, either, found_kept P es all.1 u)
 
 pub or_none : {X : Type 0} (o : Option X) → option_or o None ≡ o
 or_none o = grind (arith, common_steps)
@@ -76,20 +66,14 @@ or_none o = grind (arith, common_steps)
 pub first_is_only : {X : Type 0} (es : List (List Value × List X)) → RowsDiffer es → (u : List Value)
     → first_filled es u ≡ filled (list_for es u)
 first_is_only [] apart u = refl
-first_is_only (e ∷ es) apart u = grind (
-  arith,
-  common_steps,
-  none_behind u e es apart,
-  first_is_only es (differ_tail e es apart) u,
-  or_none (filled e.1),
-)
+first_is_only (e ∷ es) apart u =
+    grind (arith, none_behind, differ_tail, or_none, first_is_only es (differ_tail e es apart) u)
 
 pub filled_none : {X : Type 0} (xs : List X) → nat_eq (length xs) 0 ≡ true → filled xs ≡ None
 filled_none xs e = sym (ap filled (empty_list xs e))
 
 pub filled_some : {X : Type 0} (xs : List X) → nat_eq (length xs) 0 ≡ false → filled xs ≡ Some xs
-filled_some [] e = absurd (let w : true ≡ false = e in cc)
-filled_some (x ∷ xs) e = refl
+filled_some xs e = grind arith
 
 -- without a list there is nothing more
 pub none_more : {X : Type 0} (o p : Option X) (b : Bool) → p ≡ None → o ≡ option_or o (cond b p None)
@@ -115,13 +99,11 @@ one_poured row u es new x p none is step = grind (
 )
 
 pub filled_back : {X : Type 0} (xs : List X) → unwrap_or (filled xs) [] ≡ xs
-filled_back [] = refl
-filled_back (x ∷ xs) = refl
+filled_back xs = grind arith
 
 -- what is kept is the list itself, and it isn't empty
 pub filled_is : {X : Type 0} (xs ys : List X) → filled xs ≡ Some ys → (xs ≡ ys) × (0 < length xs)
-filled_is [] ys e = absurd (let w : None ≡ Some ys = e in cc)
-filled_is (x ∷ xs) ys e = (let same : x ∷ xs ≡ ys = cc in same, omega arith)
+filled_is xs ys e = grind arith
 
 -- of rows that differ the last one is the only one
 pub last_is : {X : Type 0} (es : List (List Value × X)) → RowsDiffer es → (u : List Value) (o : Option X)

@@ -1,10 +1,7 @@
 -- What a change at one row leaves in a map at each row.
-use Rattle.std.proofs.Common.{◌≡◌, Bool, true, false, cond, List, Option, None, sym, subst, arith}
+use Rattle.std.proofs.Common.{◌≡◌, Bool, true, cond, List, Option, None, arith}
 use Rattle.std.proofs.lemmas.Grind.{common_steps}
-use Rattle.std.specs.BTreeMap.{is_at}
-use Rattle.std.specs.Cmp.{Equal-is}
-use Rattle.std.specs.Map.{lookup}
-use Rattle.std.specs.Option.{unwrap_or}
+use Rattle.std.specs.{BTreeMap.is_at, Cmp.Equal-is, Map.lookup, Option.unwrap_or}
 use Rattle.mfotl_model.specs.Values.{row_cmp}
 use Rattle.mfotl_model.specs.declared.value.Value.{Value}
 use Rattle.mfotl_model.proofs.RowLemmas.{row_exact}
@@ -15,8 +12,7 @@ same_row u v e = row_exact u v ((Equal-is (row_cmp u v)).0 e)
 
 -- of two outcomes
 pub either : {X : Type 0} (P : X → Type 0) (b : Bool) (x y z : X) → z ≡ cond b x y → P x → P y → P z
-either P true x y z e p q = subst P (sym e) p
-either P false x y z e p q = subst P (sym e) q
+either P b x y z e p q = grind arith
 
 -- after a change at one key, the value there is changed, and no other
 pub changed : {X : Type 0} (d : X) (h : X → X) (row v : List Value) (m n : List (List Value × X)) (w : Option X)

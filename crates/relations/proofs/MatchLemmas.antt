@@ -1,28 +1,19 @@
 -- The rows between two places are those whose key is the one that was sought.
-use Rattle.std.proofs.Common.{◌≡◌, ℕ, ◌-◌, ◌<◌, ◌≤◌, true, false, not, ◌&&◌, List, [], length, map, take}
-use Rattle.std.proofs.Common.{drop, slice_index_or, refl, sym, ap, ◌∙◌, arith, inl, inr}
-use Rattle.std.proofs.lemmas.Bool.{cases_lt}
-use Rattle.std.proofs.lemmas.Grind.{common_steps}
+use Rattle.std.proofs.Common.{◌≡◌, ℕ, ◌-◌, ◌<◌, ◌≤◌, true, false, not, ◌&&◌, List, length, map, take, drop}
+use Rattle.std.proofs.Common.{slice_index_or, sym, ap, ◌∙◌, arith}
 use Rattle.std.proofs.lemmas.List.{get_or-map, length-map}
-use Rattle.std.specs.List.{filter}
-use Rattle.std.specs.Cmp.{eq_by_cmp_equiv}
-use Rattle.std.specs.Ordering.{is_eq, eq_by_cmp}
+use Rattle.std.specs.{List.filter, Cmp.eq_by_cmp_equiv, Ordering.is_eq, Ordering.eq_by_cmp}
 use Rattle.std.specs.declared.cmp.Ordering.{Ordering}
-use Rattle.std.specs.declared.cmp.Ordering.TheVariants.{Less, Equal, Greater}
 use Rattle.mfotl_model.proofs.RunLemmas.{between}
 use Rattle.mfotl_model.specs.Values.{row_cmp, row_total}
 use Rattle.mfotl_model.specs.declared.value.Value.{Value}
 use Rattle.relations.specs.Searches.{before}
 
 eq_is : (o : Ordering) → is_eq o ≡ (before true o && not (before false o))
-eq_is Less = refl
-eq_is Equal = refl
-eq_is Greater = refl
+eq_is o = grind arith
 
 is_before : (o : Ordering) → before false o ≡ true → before true o ≡ true
-is_before Less h = refl
-is_before Equal h = refl
-is_before Greater h = cc
+is_before o h = grind arith
 
 module _ (f : List Value → List Value) (rows keys : List (List Value)) (key : List Value) (same : keys ≡ map f rows)
     (low high : ℕ)
@@ -46,16 +37,7 @@ module _ (f : List Value → List Value) (rows keys : List (List Value)) (key : 
   long = ap length same ∙ length-map rows f
 
   pub low_first : low ≤ high
-  low_first = elim (cases_lt high low) [
-    | inl less ↦ absurd (let e : true ≡ false = sym (is_before (row_cmp (slice_index_or keys high []) key)
-        (under high [] less)) ∙ past high [] (omega arith) (omega arith) in cc)
-    | inr more ↦ more
-  ]
+  low_first = grind arith
 
   pub matched : take (high - low) (drop low rows) ≡ filter (λ row. eq_by_cmp row_cmp key (f row)) rows
-  matched =
-      let l : length keys ≡ length rows = long in
-      between (λ row. eq_by_cmp row_cmp key (f row)) rows low high low_first (omega arith)
-      (λ i d a b. equal_at i d (omega arith) ∙ grind (arith, common_steps, under i d b))
-      (λ i d a b. equal_at i d (omega arith) ∙ grind (arith, common_steps, from i d a (omega arith), upto i d b))
-      (λ i d a b. equal_at i d b ∙ grind (arith, common_steps, past i d a (omega arith)))
+  matched = grind (arith, long, between, low_first, equal_at)

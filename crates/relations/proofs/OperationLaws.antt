@@ -1,33 +1,23 @@
 -- What the lists of the operations are to valuations, and that they make tables.
-use Rattle.std.proofs.Common.{subst, ◌≡◌, ◌↔◌, ℕ, ◌+◌, Bool, true, not, ◌&&◌, ◌||◌, cond, nat_eq, List, []}
-use Rattle.std.proofs.Common.{◌∷◌, ◌++◌, length, map, Result, Ok, Err, OnOk, OnErr, refl, sym, ap, ap₂, ◌∙◌, arith}
-use Rattle.std.proofs.lemmas.Bool.{and_parts, eqb-true}
-use Rattle.std.proofs.lemmas.Grind.{common_steps}
-use Rattle.std.proofs.lemmas.List.{length-map}
+use Rattle.std.proofs.Common.{◌≡◌, ◌↔◌, ℕ, Bool, true, not, ◌&&◌, ◌||◌, nat_eq, List, [], ◌∷◌, length, map, Result}
+use Rattle.std.proofs.Common.{OnOk, OnErr, refl, sym, ap, ap₂, ◌∙◌, arith}
+use Rattle.std.proofs.{lemmas.Bool.and_parts, lemmas.Bool.eqb-true, lemmas.Grind.common_steps, lemmas.List.length-map}
+use Rattle.std.proofs.{lemmas.List.Kept.IsStrictlySortedBy-filter, lemmas.Map.Lookups.btree_set_from_contains}
+use Rattle.std.proofs.{lemmas.Map.Views.any-filter_same, lemmas.Map.Views.tells_apart, Math.Bool.beq}
+use Rattle.std.proofs.{Math.Bool.and_comm}
 use Rattle.std.proofs.lemmas.List.Folds.{list_all-append, Any-from_list_any, list_any-from_Any}
-use Rattle.std.proofs.lemmas.List.Kept.{IsStrictlySortedBy-filter}
-use Rattle.std.proofs.lemmas.Map.Lookups.{btree_set_from_contains}
-use Rattle.std.proofs.lemmas.Map.Views.{any-filter_same, tells_apart}
-use Rattle.std.specs.BTreeSet.{BTreeSet, insert_key}
-use Rattle.std.specs.List.{list_any, filter}
-use Rattle.std.specs.List.Sorted.{IsStrictlySortedBy}
-use Rattle.std.specs.Ordering.{eq_by_cmp}
-use Rattle.std.proofs.Math.Bool.{beq, and_comm}
-use Rattle.mfotl_model.proofs.AscendingLemmas.{any_insert, sorted_insert}
-use Rattle.mfotl_model.proofs.LogicLemmas.{any_map}
-use Rattle.mfotl_model.proofs.RowLemmas.{row_exact}
+use Rattle.std.specs.{BTreeSet.BTreeSet, BTreeSet.insert_key, List.list_any, List.filter}
+use Rattle.std.specs.{List.Sorted.IsStrictlySortedBy, Ordering.eq_by_cmp}
+use Rattle.mfotl_model.proofs.{AscendingLemmas.any_insert, AscendingLemmas.sorted_insert, LogicLemmas.any_map}
+use Rattle.mfotl_model.proofs.{RowLemmas.row_exact}
 use Rattle.mfotl_model.proofs.ColumnLemmas.{same_columns, row_kept, read_own}
-use Rattle.mfotl_model.specs.Ascending.{ascending}
-use Rattle.mfotl_model.specs.FreeVariables.{among, joined, others}
+use Rattle.mfotl_model.specs.{Ascending.ascending, FreeVariables.among, FreeVariables.joined, Values.row_cmp}
+use Rattle.mfotl_model.specs.{Values.row_total}
 use Rattle.mfotl_model.specs.Satisfaction.{Valuation, compares, term_value}
-use Rattle.mfotl_model.specs.Values.{row_cmp, row_total}
-use Rattle.mfotl_model.specs.declared.term.Comparison.{Comparison}
-use Rattle.mfotl_model.specs.declared.term.Term.{Term}
-use Rattle.mfotl_model.specs.declared.term.Term.TheVariants.{Var, Const}
-use Rattle.mfotl_model.specs.declared.value.Value.{Value}
+use Rattle.mfotl_model.specs.declared.{term.Comparison.Comparison, term.Term.Term, value.Value.Value}
 use Rattle.mfotl_model.specs.Tables.{TableOf, all_among, all_apart, all_sized, has, has_row, part, valuation}
-use Rattle.relations.specs.Operations.{agree, covers_term, chosen, chosen_rows, combined, joined_rows, pairs}
-use Rattle.relations.specs.Operations.{pairs_of, unmatched_rows}
+use Rattle.relations.specs.Operations.{agree, covers_term, chosen, chosen_rows, combined, joined_rows, pairs, pairs_of}
+use Rattle.relations.specs.Operations.{unmatched_rows}
 use Rattle.relations.specs.Tables.{IsTable}
 use Rattle.relations.proofs.AscendingRows.{has_ascending, sized_ascending, sized_inserted}
 use Rattle.relations.proofs.JoinLemmas.{join_has, member_of_all, same_each, row_itself}
@@ -43,8 +33,7 @@ sized_combined : (ca cb : List ℕ) (ra : List Value) → length ra ≡ length c
     → all_sized (length (joined ca cb)) (map (combined ca cb ra) zs) ≡ true
 unfolding combined
 sized_combined ca cb ra size [] = refl
-sized_combined ca cb ra size (z ∷ zs) =
-    grind (arith, common_steps, size, part_size cb (others ca cb) z, sized_combined ca cb ra size zs)
+sized_combined ca cb ra size (z ∷ zs) = grind (arith, common_steps, part_size, sized_combined ca cb ra size zs)
 
 pub sized_pairs : (ca cb : List ℕ) (as_ bs : List (List Value)) → all_sized (length ca) as_ ≡ true
     → all_sized (length (joined ca cb)) (pairs ca cb as_ bs) ≡ true
@@ -58,8 +47,7 @@ sized_pairs ca cb (ra ∷ as_) bs sized =
 pub sized_parts : (columns wanted : List ℕ) (rows : List (List Value))
     → all_sized (length wanted) (map (part columns wanted) rows) ≡ true
 sized_parts columns wanted [] = refl
-sized_parts columns wanted (row ∷ rows) =
-    grind (arith, common_steps, part_size columns wanted row, sized_parts columns wanted rows)
+sized_parts columns wanted (row ∷ rows) = grind (arith, part_size, sized_parts columns wanted rows)
 
 pub sized_filtered : (n : ℕ) (p : List Value → Bool) (rows : List (List Value)) → all_sized n rows ≡ true
     → all_sized n (filter p rows) ≡ true
@@ -79,22 +67,17 @@ some_is columns p rows is = record {
 
 pub filtered_has : (q : List Value) (p : List Value → Bool) (rows : List (List Value))
     → has_row (filter p rows) q ≡ (has_row rows q && p q)
-filtered_has q p rows =
-    any-filter_same (eq_by_cmp row_cmp q) p (p q) (λ z e. ap p (sym (tells_apart row_exact q z e))) rows
-    ∙ and_comm (p q) (has_row rows q)
+filtered_has q p rows = grind (arith, any-filter_same, tells_apart, row_exact, and_comm)
 
 -- the part of the row that a valuation gives is the row that it gives
 pub part_of_own : (v : Valuation) (columns wanted : List ℕ) → all_among wanted columns ≡ true
     → part columns wanted (map v columns) ≡ map v wanted
 unfolding part
-part_of_own v columns wanted all =
-    same_columns (valuation columns (map v columns)) v wanted
-    (λ y m. read_own v columns y (member_of_all (λ z. among z columns) wanted y all m))
+part_of_own v columns wanted all = grind (arith, same_columns, read_own, member_of_all)
 
 term_of_own : (v : Valuation) (columns : List ℕ) (term : Term) → covers_term columns term ≡ true
     → term_value (valuation columns (map v columns)) term ≡ term_value v term
-term_of_own v columns (Var x) bound = read_own v columns x bound
-term_of_own v columns (Const a) bound = refl
+term_of_own v columns term bound = grind (arith, read_own)
 
 -- what holds of one of the rows holds of some
 pub any_at : (p : List Value → Bool) (rows : List (List Value)) (q : List Value) → has_row rows q ≡ true → p q ≡ true
@@ -112,15 +95,8 @@ module _ (v : Valuation) (columns wanted : List ℕ) (rows : List (List Value)) 
       sym (any_map (eq_by_cmp row_cmp (map v wanted)) (part columns wanted) rows) ∙ h in
       let it = Any-from_list_any (λ row. eq_by_cmp row_cmp (map v wanted) (part columns wanted row)) rows there in
       let own = list_any-from_Any (eq_by_cmp row_cmp it.1) rows (it.0, it.1, it.2, it.3, row_itself it.1) in
-      let long : length it.1 ≡ length columns =
-      grind (arith, common_steps, own, lacks_other (length columns) rows it.1 is.sized) in
-      let same = tells_apart row_exact (map v wanted) (part columns wanted it.1) it.4 in (
-        valuation columns it.1,
-        (
-          same_each (valuation columns it.1) v wanted (sym same),
-          ap (has_row rows) (row_kept columns it.1 is.apart long) ∙ own,
-        ),
-      )
+      let long : length it.1 ≡ length columns = grind (arith, lacks_other) in
+      grind (arith, tells_apart, row_exact, same_each, row_kept)
 
   back : (w : Valuation) → ((y : ℕ) → among y wanted ≡ true → w y ≡ v y) → has_row rows (map w columns) ≡ true
       → has_row (map (part columns wanted) rows) (map v wanted) ≡ true
@@ -164,8 +140,7 @@ inserted_is columns rows row is size =
 pub either_way : {T E : Type 0} (P : List (List Value) → Type 0) (r : Result T E) (new a b : List (List Value))
     → OnOk r (new ≡ a) → OnErr r (new ≡ b)
     → P a → P b → P new
-either_way P (Ok x) new a b h k p q = subst P (sym h) p
-either_way P (Err e) new a b h k p q = subst P (sym k) q
+either_way P r new a b h k p q = grind arith
 
 -- tables by their columns and rows
 
@@ -179,15 +154,12 @@ pub has_joined : (a b : TableOf) (v : Valuation) → all_apart b.columns ≡ tru
     → all_sized (length a.columns) a.rows ≡ true → all_sized (length b.columns) b.rows ≡ true
     → has_row (joined_rows a b) (map v (joined a.columns b.columns)) ≡ (has a v && has b v)
 unfolding has
-has_joined a b v apart first second =
-    has_ascending (pairs a.columns b.columns a.rows b.rows) (map v (joined a.columns b.columns))
-    ∙ join_has v a.columns b.columns apart a.rows b.rows first second
+has_joined a b v apart first second = simp (has_ascending, join_has)
 
 pub joined_has : (t a b : TableOf) (v : Valuation) → t.columns ≡ joined a.columns b.columns → t.rows ≡ joined_rows a b
     → all_apart b.columns ≡ true → all_sized (length a.columns) a.rows ≡ true
     → all_sized (length b.columns) b.rows ≡ true → has t v ≡ (has a v && has b v)
-joined_has t a b v c r apart first second =
-    has_as t (joined a.columns b.columns) (joined_rows a b) v c r ∙ has_joined a b v apart first second
+joined_has t a b v c r apart first second = grind (arith, has_as, has_joined)
 
 some_has : (t a : TableOf) (p : List Value → Bool) (v : Valuation) → t.columns ≡ a.columns → t.rows ≡ filter p a.rows
     → has t v ≡ (has a v && p (map v a.columns))
@@ -213,8 +185,4 @@ chosen_has t a comparison wanted v c r left right =
 -- rows that ascend to those of a join have as many values
 pub sized_joined : (a b : TableOf) (rows : List (List Value)) → ascending row_cmp rows ≡ joined_rows a b
     → all_sized (length a.columns) a.rows ≡ true → all_sized (length (joined a.columns b.columns)) rows ≡ true
-sized_joined a b rows e sized =
-    sym (sized_ascending (length (joined a.columns b.columns)) rows)
-    ∙ ap (all_sized (length (joined a.columns b.columns))) e
-    ∙ sized_ascending (length (joined a.columns b.columns)) (pairs a.columns b.columns a.rows b.rows)
-    ∙ sized_pairs a.columns b.columns a.rows b.rows sized
+sized_joined a b rows e sized = grind (arith, sized_ascending, sized_pairs)

@@ -1,33 +1,24 @@
 -- The rows that agree are those with the same key; and the join doesn't hang on the order of the rows.
-use Rattle.std.proofs.Common.{◌≡◌, ℕ, ◌+◌, ◌*◌, ◌<◌, ◌≤◌, ◌^◌, Bool, true, not, ◌&&◌, ◌||◌, cond, nat_eq}
-use Rattle.std.proofs.Common.{List, [], ◌∷◌, ◌++◌, map, length, refl, sym, ap, ◌∙◌, arith}
-use Rattle.std.proofs.lemmas.Bool.{and_parts, eqb-true}
-use Rattle.std.proofs.lemmas.Grind.{common_steps}
-use Rattle.std.proofs.lemmas.List.Elements.{filter_agree}
-use Rattle.std.proofs.lemmas.List.Sorted.{list_any-IsPermutation}
+use Rattle.std.proofs.Common.{◌≡◌, ℕ, ◌+◌, ◌*◌, ◌<◌, ◌≤◌, ◌^◌, Bool, true, not, ◌&&◌, ◌||◌, cond, nat_eq, List, [], ◌∷◌}
+use Rattle.std.proofs.Common.{◌++◌, map, length, refl, sym, ◌∙◌, arith}
+use Rattle.std.proofs.{lemmas.Bool.and_parts, lemmas.Bool.eqb-true, lemmas.Grind.common_steps}
+use Rattle.std.proofs.{lemmas.List.Elements.filter_agree, lemmas.List.Sorted.list_any-IsPermutation}
 use Rattle.std.specs.List.{list_any, list_all, filter}
-use Rattle.std.specs.List.Sorted.{IsPermutation}
-use Rattle.std.specs.Ordering.{eq_by_cmp}
-use Rattle.std.specs.Cmp.{eq_by_cmp_equiv, tied_then}
+use Rattle.std.specs.{List.Sorted.IsPermutation, Ordering.eq_by_cmp, Cmp.eq_by_cmp_equiv}
 use Rattle.mfotl_model.proofs.LogicLemmas.{any_alike, any_map, any_filter, any_flat_map}
-use Rattle.mfotl_model.proofs.AscendingLemmas.{same_ascending}
-use Rattle.mfotl_model.proofs.RowLemmas.{any_none, row_exact}
-use Rattle.mfotl_model.proofs.ColumnLemmas.{row_kept}
-use Rattle.mfotl_model.specs.Ascending.{ascending}
-use Rattle.mfotl_model.specs.FreeVariables.{among, others}
-use Rattle.mfotl_model.specs.Satisfaction.{Valuation}
+use Rattle.mfotl_model.proofs.{AscendingLemmas.same_ascending, RowLemmas.any_none, RowLemmas.row_exact}
+use Rattle.mfotl_model.proofs.{ColumnLemmas.row_kept}
+use Rattle.mfotl_model.specs.{Ascending.ascending, FreeVariables.others, Satisfaction.Valuation}
 use Rattle.mfotl_model.specs.Values.{row_cmp, row_total, value_cmp}
 use Rattle.mfotl_model.specs.declared.value.Value.{Value}
-use Rattle.mfotl_model.specs.Tables.{all_apart, all_sized, has_row, part, valuation}
+use Rattle.mfotl_model.specs.Tables.{all_apart, all_sized, has_row, part}
 use Rattle.relations.specs.Operations.{agree, combined, common, pairs, pairs_of, pairs_with, turned_pairs}
 use Rattle.relations.proofs.TestLemmas.{all_moved}
 
 rows_tie : (v w : Valuation) (ks : List ℕ)
     → eq_by_cmp row_cmp (map v ks) (map w ks) ≡ list_all (λ y. eq_by_cmp value_cmp (v y) (w y)) ks
 rows_tie v w [] = refl
-rows_tie v w (y ∷ ks) =
-    sym (tied_then (value_cmp (v y) (w y)) (row_cmp (map v ks) (map w ks)))
-    ∙ ap (λ t. eq_by_cmp value_cmp (v y) (w y) && t) (rows_tie v w ks)
+rows_tie v w (y ∷ ks) = grind (arith, rows_tie v w ks)
 
 all_of_kept : (p q : ℕ → Bool) (xs : List ℕ) → list_all q (filter p xs) ≡ list_all (λ x. not (p x) || q x) xs
 all_of_kept p q [] = refl
@@ -36,9 +27,7 @@ all_of_kept p q (x ∷ xs) = grind (arith, common_steps, all_of_kept p q xs)
 pub agree_is : (ca cb : List ℕ) (ra rb : List Value)
     → eq_by_cmp row_cmp (part ca (common ca cb) ra) (part cb (common ca cb) rb) ≡ agree ca cb ra rb
 unfolding part agree
-agree_is ca cb ra rb =
-    rows_tie (valuation ca ra) (valuation cb rb) (common ca cb)
-    ∙ all_of_kept (λ y. among y ca) (λ y. eq_by_cmp value_cmp (valuation ca ra y) (valuation cb rb y)) cb
+agree_is ca cb ra rb = simp (rows_tie, all_of_kept)
 
 -- a row with those that have its key
 pub pairs_by_key : (ca cb : List ℕ) (bs : List (List Value)) (ra : List Value)
@@ -46,10 +35,7 @@ pub pairs_by_key : (ca cb : List ℕ) (bs : List (List Value)) (ra : List Value)
     (λ rb. eq_by_cmp row_cmp (part ca (common ca cb) ra) (part cb (common ca cb) rb)) bs)
     ≡ pairs_of ca cb bs ra
 unfolding pairs_of combined
-pairs_by_key ca cb bs ra =
-    ap (map (λ rb. ra ++ part cb (others ca cb) rb))
-    (filter_agree (λ rb. eq_by_cmp row_cmp (part ca (common ca cb) ra) (part cb (common ca cb) rb))
-    (agree ca cb ra) (λ rb. agree_is ca cb ra rb) bs)
+pairs_by_key ca cb bs ra = simp (filter_agree, agree_is)
 
 -- the steps that were spent on so many rows
 pub record Spending (i steps old : ℕ) (rows : List (List Value)) : Type 0 where
@@ -85,11 +71,7 @@ pub pairs_with_by_key : (ca cb : List ℕ) (rows : List (List Value)) (rb : List
     (filter (λ ra. eq_by_cmp row_cmp (part cb (common ca cb) rb) (part ca (common ca cb) ra)) rows)
     ≡ pairs_with ca cb rows rb
 unfolding pairs_with combined
-pairs_with_by_key ca cb rows rb =
-    ap (map (λ ra. ra ++ part cb (others ca cb) rb))
-    (filter_agree (λ ra. eq_by_cmp row_cmp (part cb (common ca cb) rb) (part ca (common ca cb) ra))
-    (λ ra. agree ca cb ra rb)
-    (λ ra. equal_turned (part cb (common ca cb) rb) (part ca (common ca cb) ra) ∙ agree_is ca cb ra rb) rows)
+pairs_with_by_key ca cb rows rb = simp (filter_agree, equal_turned, agree_is)
 
 -- a test of pairs, one list of the pairs after the other
 
@@ -101,8 +83,7 @@ any_either p q (b ∷ bs) = grind (arith, common_steps, any_either p q bs)
 any_swapped : (f : List Value → List Value → Bool) (rows bs : List (List Value))
     → list_any (λ b. list_any (λ a. f a b) rows) bs ≡ list_any (λ a. list_any (f a) bs) rows
 any_swapped f [] bs = any_none bs
-any_swapped f (a ∷ rows) bs =
-    any_either (f a) (λ b. list_any (λ x. f x b) rows) bs ∙ ap (λ t. list_any (f a) bs || t) (any_swapped f rows bs)
+any_swapped f (a ∷ rows) bs = simp (any_either, any_swapped f rows bs)
 
 module _ (ca cb : List ℕ) (q : List Value) where
   unfoldable pub makes : List Value → List Value → Bool
@@ -111,31 +92,21 @@ module _ (ca cb : List ℕ) (q : List Value) where
   has_of_one : (bs : List (List Value)) (ra : List Value)
       → has_row (pairs_of ca cb bs ra) q ≡ list_any (makes ra) bs
   unfolding pairs_of makes
-  has_of_one bs ra =
-      any_map (eq_by_cmp row_cmp q) (combined ca cb ra) (filter (agree ca cb ra) bs)
-      ∙ any_filter (λ rb. eq_by_cmp row_cmp q (combined ca cb ra rb)) (agree ca cb ra) bs
+  has_of_one bs ra = simp (any_map, any_filter)
 
   has_with_one : (rows : List (List Value)) (rb : List Value)
       → has_row (pairs_with ca cb rows rb) q ≡ list_any (λ ra. makes ra rb) rows
   unfolding pairs_with makes
-  has_with_one rows rb =
-      any_map (eq_by_cmp row_cmp q) (λ ra. combined ca cb ra rb) (filter (λ ra. agree ca cb ra rb) rows)
-      ∙ any_filter (λ ra. eq_by_cmp row_cmp q (combined ca cb ra rb)) (λ ra. agree ca cb ra rb) rows
+  has_with_one rows rb = simp (any_map, any_filter)
 
   pub all_has : (rows bs : List (List Value)) → has_row (pairs ca cb rows bs) q
       ≡ list_any (λ ra. list_any (makes ra) bs) rows
   unfolding pairs
-  all_has rows bs =
-      any_flat_map (eq_by_cmp row_cmp q) (pairs_of ca cb bs) rows
-      ∙ any_alike (λ ra. has_row (pairs_of ca cb bs ra) q) (λ ra. list_any (makes ra) bs) rows (has_of_one bs)
+  all_has rows bs = simp (any_flat_map, any_alike, has_of_one)
 
   pairs_moved : (rows bs cs : List (List Value)) → IsPermutation bs cs
       → has_row (pairs ca cb rows cs) q ≡ has_row (pairs ca cb rows bs) q
-  pairs_moved rows bs cs p =
-      all_has rows cs
-      ∙ any_alike (λ ra. list_any (makes ra) cs) (λ ra. list_any (makes ra) bs) rows
-      (λ ra. sym (list_any-IsPermutation (makes ra) bs cs p))
-      ∙ sym (all_has rows bs)
+  pairs_moved rows bs cs p = grind (arith, all_has, any_alike, list_any-IsPermutation)
 
   turned_has : (rows kept bs : List (List Value)) → IsPermutation rows kept
       → has_row (turned_pairs ca cb kept bs) q ≡ has_row (pairs ca cb rows bs) q

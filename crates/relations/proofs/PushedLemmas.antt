@@ -1,5 +1,5 @@
 -- What was pushed: one item more, and the first one.
-use Rattle.std.proofs.Common.{◌≡◌, ℕ, ◌+◌, ◌<◌, List, [], ◌∷◌, ◌++◌, length, get_or, drop, sym, subst, ap, arith}
+use Rattle.std.proofs.Common.{◌≡◌, ℕ, ◌+◌, ◌<◌, List, [], ◌∷◌, ◌++◌, length, get_or, drop, subst, arith}
 use Rattle.mfotl_model.specs.Tables.{TableOf}
 use Rattle.relations.specs.Pushed.{AreOver, StandFrom}
 
@@ -18,8 +18,7 @@ over_push columns [] x all here = (here, tt)
 over_push columns (y ∷ ys) x all here = (all.0, over_push columns ys x all.1 here)
 
 pub first_is : {X : Type 0} (ys : List X) (y : X) → 0 < length ys → y ≡ get_or ys 0 y → ys ≡ y ∷ drop 1 ys
-first_is [] y n e = absurd (omega arith)
-first_is (x ∷ ys) y n e = ap (λ z. z ∷ ys) (sym e)
+first_is ys y n e = grind arith
 
 -- the first of what stands, and the rest
 pub stand_first : {X : Type 0} (P : ℕ → X → Type 0) (p : ℕ) (all rest : List X) (x : X) → all ≡ x ∷ rest

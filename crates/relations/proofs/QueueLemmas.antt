@@ -1,11 +1,9 @@
 -- Items in the order of a number of theirs, and items that are found by it.
-use Rattle.std.proofs.Common.{◌≡◌, ℕ, suc, ◌<◌, ◌≤◌, Bool, true, nat_eq, nat_le, ◌&&◌, ◌||◌, List, [], ◌∷◌}
-use Rattle.std.proofs.Common.{◌++◌, length, get_or, refl, arith}
+use Rattle.std.proofs.Common.{◌≡◌, ℕ, suc, ◌<◌, ◌≤◌, Bool, true, nat_eq, nat_le, ◌&&◌, List, [], ◌∷◌, ◌++◌, length}
+use Rattle.std.proofs.Common.{get_or, refl, arith}
 use Rattle.std.proofs.lemmas.Bool.{and_from, and_parts, or_left, or_right}
 use Rattle.std.proofs.lemmas.Bool.Decides.{nat_tests}
-use Rattle.std.proofs.lemmas.Grind.{common_steps}
-use Rattle.std.specs.List.{list_all, list_any}
-use Rattle.std.specs.List.Sorted.{IsNonDecreasingBy}
+use Rattle.std.specs.{List.list_all, List.list_any, List.Sorted.IsNonDecreasingBy}
 use Rattle.mfotl_model.proofs.LogicLemmas.{same_number}
 use Rattle.relations.proofs.TestLemmas.{all_push}
 use Rattle.relations.specs.Queues.{RisesBy}
@@ -45,5 +43,4 @@ module _ {X : Type 0} (f : X → ℕ) where
 
   pub any_with : (c : Bool) (n : ℕ) (xs : List X) → c ≡ true → list_any (λ x. nat_eq (f x) n) xs ≡ true
       → list_any (λ x. nat_eq (f x) n && c) xs ≡ true
-  any_with c n [] is there = there
-  any_with c n (x ∷ xs) is there = grind (arith, common_steps, any_with c n xs is)
+  any_with c n xs is there = grind arith

@@ -1,26 +1,18 @@
 -- Lists of rows: what sorting keeps, what a search answers, and what a row has at a column.
-use Rattle.std.proofs.Common.{◌≡◌, ◌≢◌, ℕ, zero, suc, ◌+◌, ◌<◌, ◌≤◌, true}
-use Rattle.std.proofs.Common.{List, [], ◌∷◌, length, get_or, slice_index, drop, Result, Ok, Err, refl, sym, subst}
-use Rattle.std.proofs.Common.{ap, ◌∙◌, arith, inl, inr, add-one, pos, insert, slice_index_or}
-use Rattle.std.proofs.lemmas.Bool.{cases_lt}
-use Rattle.std.proofs.lemmas.Bool.Decides.{nat_tests}
-use Rattle.std.proofs.lemmas.List.{drop_all}
-use Rattle.std.proofs.lemmas.List.Folds.{list_any_at, list_any_none}
-use Rattle.std.proofs.lemmas.List.Sorted.{searchable_from_sorted}
-use Rattle.std.proofs.lemmas.Map.Keys.{Less-from_sorted}
-use Rattle.std.specs.Cmp.{eq_by_cmp_equiv}
+use Rattle.std.proofs.Common.{◌≡◌, ◌≢◌, ℕ, zero, suc, ◌+◌, ◌<◌, ◌≤◌, List, [], ◌∷◌, length, get_or, slice_index, drop}
+use Rattle.std.proofs.Common.{Result, Ok, Err, refl, sym, ap, ◌∙◌, arith, inl, inr, add-one, pos, insert}
+use Rattle.std.proofs.Common.{slice_index_or}
+use Rattle.std.proofs.{lemmas.Bool.cases_lt, lemmas.Bool.Decides.nat_tests, lemmas.List.drop_all}
+use Rattle.std.proofs.{lemmas.List.Folds.list_any_at, lemmas.List.Folds.list_any_none}
+use Rattle.std.proofs.{lemmas.List.Sorted.searchable_from_sorted, lemmas.Map.Keys.Less-from_sorted}
 use Rattle.std.specs.List.Sorted.{IsSortedBy, IsStrictlySortedBy, IsBinarySearchResult, IsSearchInRange}
 use Rattle.std.specs.List.Sorted.{IsNonDecreasingBy, IsPartitionPoint}
-use Rattle.std.specs.BTreeSet.{insert_key}
+use Rattle.std.specs.{BTreeSet.insert_key, Result.is_ok}
 use Rattle.std.specs.Ordering.{is_eq, is_lt, eq_by_cmp, ordering_index, match_ordering, ordering_reverse}
-use Rattle.std.specs.Result.{is_ok}
-use Rattle.std.specs.declared.cmp.Ordering.{Ordering}
-use Rattle.std.specs.declared.cmp.Ordering.TheVariants.{Less, Greater}
-use Rattle.mfotl_model.specs.Values.{row_cmp, row_total}
-use Rattle.mfotl_model.specs.declared.value.Value.{Value}
-use Rattle.mfotl_model.specs.declared.value.Value.TheVariants.{Int}
+use Rattle.std.specs.declared.{cmp.Ordering.Ordering, cmp.Ordering.TheVariants.Less, cmp.Ordering.TheVariants.Greater}
+use Rattle.mfotl_model.specs.{Values.row_cmp, Values.row_total, Tables.has_row, Tables.valuation}
+use Rattle.mfotl_model.specs.declared.{value.Value.Value, value.Value.TheVariants.Int}
 use Rattle.mfotl_model.proofs.RowLemmas.{row_exact}
-use Rattle.mfotl_model.specs.Tables.{has_row, valuation}
 
 turned : (x y : List Value) (order : Ordering) → row_cmp x y ≡ order → row_cmp y x ≡ ordering_reverse order
 turned x y order e = row_total.antisymm y x ∙ ap ordering_reverse e
@@ -34,10 +26,7 @@ weakly xs h = λ k d _ l.
 pub searched_row : (xs : List (List Value)) (u : List Value) (r : Result ℕ ℕ) → IsStrictlySortedBy row_cmp xs
     → IsSearchInRange r (length xs)
     → IsBinarySearchResult (λ y. row_cmp y u) xs r → is_ok r ≡ has_row xs u
-searched_row xs u (Ok i) h low found =
-    sym (list_any_at (eq_by_cmp row_cmp u) xs i u low
-    (subst (λ r. eq_by_cmp row_cmp u r ≡ true) (sym (row_exact (get_or xs i u) u (found u)))
-    ((eq_by_cmp_equiv row_total).refl u)))
+searched_row xs u (Ok i) h low found = grind (arith, list_any_at, row_exact (get_or xs i u) u (found u))
 searched_row xs u (Err i) h low found =
     let apart = found (searchable_from_sorted row_total (λ (y : List Value). y) xs u (weakly xs h)) in
     sym (list_any_none (eq_by_cmp row_cmp u) xs (λ k d l. elim (cases_lt k i) [
@@ -51,8 +40,7 @@ valuation_none (y ∷ columns) x = refl
 
 pub valuation_short : (columns : List ℕ) (row : List Value) (i x : ℕ) → length row ≤ i
     → valuation (drop i columns) (drop i row) x ≡ Int (pos 0)
-valuation_short columns row i x l = ap (λ r. valuation (drop i columns) r x) (drop_all i row l)
-    ∙ valuation_none (drop i columns) x
+valuation_short columns row i x l = cc (drop_all i row l, valuation_none (drop i columns) x)
 
 pub valuation_next : (columns : List ℕ) (row : List Value) (i x : ℕ) → i < length columns → i < length row
     → slice_index columns i ≢ x

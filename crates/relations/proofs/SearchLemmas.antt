@@ -1,13 +1,10 @@
 -- Binary search among keys that don't fall: its place and its steps.
 use Rattle.std.proofs.Common.{◌≡◌, ℕ, zero, suc, ◌+◌, ◌-◌, ◌*◌, ◌<◌, ◌≤◌, ◌^◌, Bool, true, false, cond, nat_le, List}
-use Rattle.std.proofs.Common.{length, slice_index_or, refl, sym, ap, ◌∙◌, arith}
-use Rattle.std.proofs.lemmas.Bool.Decides.{nat_tests}
-use Rattle.std.proofs.lemmas.List.{get_or_default}
-use Rattle.std.proofs.lemmas.List.Sorted.{searchable_from_sorted}
-use Rattle.std.specs.List.Sorted.{IsSorted, IsNonDecreasingBy}
-use Rattle.std.specs.Ordering.{ordering_index}
+use Rattle.std.proofs.Common.{length, slice_index_or, arith}
+use Rattle.std.proofs.{lemmas.Bool.Decides.nat_tests, lemmas.List.get_or_default}
+use Rattle.std.proofs.{lemmas.List.Sorted.searchable_from_sorted}
+use Rattle.std.specs.{List.Sorted.IsSorted, List.Sorted.IsNonDecreasingBy, Ordering.ordering_index}
 use Rattle.std.specs.declared.cmp.Ordering.{Ordering}
-use Rattle.std.specs.declared.cmp.Ordering.TheVariants.{Less, Equal, Greater}
 use Rattle.mfotl_model.specs.Values.{row_cmp, row_total}
 use Rattle.mfotl_model.specs.declared.value.Value.{Value}
 use Rattle.relations.specs.Searches.{before}
@@ -27,17 +24,11 @@ halved zero size new l m h = absurd (omega arith)
 halved (suc k) size new l m h = (let e : suc k - 1 ≡ k = omega arith in rw e (omega arith))
 
 some_left : (k size : ℕ) → size < 2 ^ k → 0 < size → 0 < k
-some_left zero size l m = absurd (omega arith)
-some_left (suc k) size l m = omega arith
+some_left k size l m = grind arith
 
 -- what is before has a low index
 before_is : (past : Bool) (o : Ordering) → before past o ≡ nat_le (ordering_index o) (cond past 1 0)
-before_is true Less = refl
-before_is true Equal = refl
-before_is true Greater = refl
-before_is false Less = refl
-before_is false Equal = refl
-before_is false Greater = refl
+before_is past o = grind arith
 
 before_falls : (past : Bool) (o p : Ordering) → ordering_index o ≤ ordering_index p → before past p ≡ true
     → before past o ≡ true
@@ -51,8 +42,7 @@ before_rises past o p l h = grind (arith, nat_tests, before_is past o, before_is
 compared : (past b : Bool) (keys : List (List Value)) (key x : List Value) (middle : ℕ) → middle < length keys
     → x ≡ slice_index_or keys middle x
     → before past (row_cmp x key) ≡ b → (d : List Value) → before past (row_cmp (slice_index_or keys middle d) key) ≡ b
-compared past b keys key x middle l e h d =
-    ap (λ r. before past (row_cmp r key)) (get_or_default keys middle d x l ∙ sym e) ∙ h
+compared past b keys key x middle l e h d = cc (get_or_default keys middle d x l)
 
 module _ (past : Bool) (keys : List (List Value)) (key : List Value) (rises : IsSorted row_cmp keys) where
   far : IsNonDecreasingBy (λ y. ordering_index (row_cmp y key)) keys
@@ -60,10 +50,7 @@ module _ (past : Bool) (keys : List (List Value)) (key : List Value) (rises : Is
 
   spent_more : (low high old now d : ℕ) → Searching past keys key low high old now → length keys < 2 ^ d
       → low < high → now + 1 ≤ old + d
-  spent_more low high old now d s n l =
-      let a : now ≤ old + d = s.spent d n in
-      let b : 0 < old + d - now = some_left (old + d - now) (high - low) (s.left d n) (omega arith) in
-      omega arith
+  spent_more low high old now d s n l = grind arith
 
   left_more : (low high new old now d : ℕ) → Searching past keys key low high old now → length keys < 2 ^ d
       → low < high → 2 * new ≤ high - low

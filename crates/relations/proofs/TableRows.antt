@@ -1,29 +1,19 @@
 -- The rows of a table, one after another: what each of them passes, and which rows it lacks.
-use Rattle.std.proofs.Common.{◌≡◌, ℕ, ◌+◌, ◌<◌, Bool, true, false, nat_eq, ◌||◌, List, [], ◌∷◌, length, get_or}
-use Rattle.std.proofs.Common.{take, refl, sym, ap, ◌∙◌, arith}
+use Rattle.std.proofs.Common.{◌≡◌, ℕ, ◌+◌, ◌<◌, Bool, true, false, nat_eq, ◌||◌, List, [], ◌∷◌, length, get_or, take}
+use Rattle.std.proofs.Common.{refl, sym, ap, ◌∙◌, arith}
 use Rattle.std.proofs.lemmas.Bool.{and_from, or_left, or_right}
-use Rattle.std.proofs.lemmas.Grind.{common_steps}
-use Rattle.std.proofs.lemmas.List.Folds.{list_any_more}
-use Rattle.std.proofs.lemmas.Map.Views.{tells_apart}
-use Rattle.std.specs.BTreeMap.{is_at}
-use Rattle.std.specs.Cmp.{eq_by_cmp_equiv}
-use Rattle.std.specs.List.{list_all}
-use Rattle.std.specs.Ordering.{eq_by_cmp}
+use Rattle.std.proofs.{lemmas.List.Folds.list_any_more, lemmas.Map.Views.tells_apart}
+use Rattle.std.specs.{BTreeMap.is_at, Cmp.eq_by_cmp_equiv, List.list_all, Ordering.eq_by_cmp}
 use Rattle.mfotl_model.proofs.RowLemmas.{row_exact}
-use Rattle.mfotl_model.specs.Tables.{all_sized, has_row}
-use Rattle.mfotl_model.specs.Values.{row_cmp, row_total}
+use Rattle.mfotl_model.specs.{Tables.all_sized, Tables.has_row, Values.row_cmp, Values.row_total}
 use Rattle.mfotl_model.specs.declared.value.Value.{Value}
 
 -- a table of rows of n values lacks a row of another number
 pub lacks_other : (n : ℕ) (rows : List (List Value)) (v : List Value) → all_sized n rows ≡ true
     → nat_eq (length v) n ≡ false → has_row rows v ≡ false
 lacks_other n [] v sized apart = refl
-lacks_other n (row ∷ rows) v sized apart = grind (
-  arith,
-  common_steps,
-  tells_apart row_exact v row,
-  lacks_other n rows v,
-)
+lacks_other n (row ∷ rows) v sized apart =
+    grind (arith, tells_apart row_exact v row, row_exact v row, lacks_other n rows v)
 
 -- a list of rows of which each passes
 pub all_rows : (p : List Value → Bool) (rows : List (List Value))

@@ -1,16 +1,13 @@
 -- Tests of all items of a list: in another order, of one more, and by a weaker test.
-use Rattle.std.proofs.Common.{◌≡◌, Bool, true, not, List, [], ◌∷◌, ◌++◌, refl, sym, ap, ◌∙◌, arith}
-use Rattle.std.proofs.lemmas.Grind.{common_steps}
-use Rattle.std.proofs.lemmas.List.Folds.{list_all-append}
-use Rattle.std.proofs.lemmas.List.Sorted.{list_any-IsPermutation}
-use Rattle.std.specs.List.{list_all}
-use Rattle.std.specs.List.Sorted.{IsPermutation}
+use Rattle.std.proofs.Common.{◌≡◌, Bool, true, List, [], ◌∷◌, ◌++◌, refl, arith}
+use Rattle.std.proofs.{lemmas.Grind.common_steps, lemmas.List.Folds.list_all-append}
+use Rattle.std.proofs.{lemmas.List.Sorted.list_any-IsPermutation}
+use Rattle.std.specs.{List.list_all, List.Sorted.IsPermutation}
 use Rattle.mfotl_model.proofs.LogicLemmas.{all_any}
 
 -- what all pass, all pass in any order
 pub all_moved : {X : Type 0} (p : X → Bool) (xs ys : List X) → IsPermutation xs ys → list_all p ys ≡ list_all p xs
-all_moved p xs ys moved =
-    all_any p ys ∙ ap not (sym (list_any-IsPermutation (λ x. not (p x)) xs ys moved)) ∙ sym (all_any p xs)
+all_moved p xs ys moved = grind (arith, all_any, list_any-IsPermutation)
 
 -- and one more
 pub all_push : {X : Type 0} (p : X → Bool) (xs : List X) (x : X) → list_all p xs ≡ true → p x ≡ true

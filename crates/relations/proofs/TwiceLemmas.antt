@@ -1,27 +1,18 @@
 -- Two joins, one after the other, the second with a table that has no columns of its own.
-use Rattle.std.proofs.Common.{◌≡◌, ℕ, Bool, true, false, ◌&&◌, ◌||◌, cond, List, [], ◌∷◌, ◌++◌}
-use Rattle.std.proofs.Common.{length, map, pos, refl, sym, ap, ◌∙◌, arith}
-use Rattle.std.proofs.lemmas.Grind.{common_steps}
-use Rattle.std.proofs.lemmas.List.Elements.{filter-append, filter_agree}
-use Rattle.std.specs.List.{filter, flat_map}
-use Rattle.std.specs.List.Sorted.{IsPermutation}
-use Rattle.mfotl_model.proofs.AscendingLemmas.{filter_ascending}
-use Rattle.mfotl_model.proofs.RowLemmas.{row_exact}
-use Rattle.mfotl_model.proofs.ColumnLemmas.{read_own, joined_apart}
-use Rattle.mfotl_model.specs.Ascending.{ascending}
+use Rattle.std.proofs.Common.{◌≡◌, ℕ, Bool, true, false, ◌&&◌, List, [], ◌∷◌, ◌++◌, length, map, pos, refl, sym, ap}
+use Rattle.std.proofs.Common.{◌∙◌, arith}
+use Rattle.std.proofs.{lemmas.Grind.common_steps, lemmas.List.Elements.filter-append, lemmas.List.Elements.filter_agree}
+use Rattle.std.specs.{List.filter, List.flat_map, List.Sorted.IsPermutation}
+use Rattle.mfotl_model.proofs.{AscendingLemmas.filter_ascending, RowLemmas.row_exact, ColumnLemmas.read_own}
+use Rattle.mfotl_model.proofs.{ColumnLemmas.joined_apart}
+use Rattle.mfotl_model.specs.{Ascending.ascending, Satisfaction.Valuation, Values.row_cmp, Values.row_total}
 use Rattle.mfotl_model.specs.FreeVariables.{among, joined, others}
-use Rattle.mfotl_model.specs.Satisfaction.{Valuation}
 use Rattle.mfotl_model.specs.Tables.{TableOf, all_among, has, has_row, part, valuation}
-use Rattle.mfotl_model.specs.Values.{row_cmp, row_total}
-use Rattle.mfotl_model.specs.declared.value.Value.{Value}
-use Rattle.mfotl_model.specs.declared.value.Value.TheVariants.{Int}
+use Rattle.mfotl_model.specs.declared.{value.Value.Value, value.Value.TheVariants.Int}
 use Rattle.relations.specs.Operations.{has_part, joined_rows, joined_table, pairs, pairs_of, table_of_rows}
 use Rattle.relations.specs.Tables.{IsTable}
-use Rattle.relations.proofs.AscendingRows.{made_is}
-use Rattle.relations.proofs.InsideLemmas.{matched_is}
-use Rattle.relations.proofs.JoinLemmas.{among_others}
-use Rattle.relations.proofs.OperationLaws.{has_joined, sized_pairs}
-use Rattle.relations.proofs.PairLemmas.{join_moved}
+use Rattle.relations.proofs.{AscendingRows.made_is, InsideLemmas.matched_is, JoinLemmas.among_others}
+use Rattle.relations.proofs.{OperationLaws.has_joined, OperationLaws.sized_pairs, PairLemmas.join_moved}
 
 -- what a row has at a column that it lacks
 absent : (columns : List ℕ) (row : List Value) (x : ℕ) → among x columns ≡ false
@@ -52,34 +43,20 @@ module _ (ca cb : List ℕ) (ra rb : List Value) (x : ℕ) (size : length ra ≡
   pub second_read : (more : List ℕ) → more ≡ others ca cb → among x ca ≡ false
       → valuation cb rb x ≡ valuation (ca ++ more) (ra ++ part cb more rb) x
   unfolding part
-  second_read more e out =
-      by (among x cb) refl
-      ∙ (λ i. valuation (sym e i) (map (valuation cb rb) (sym e i)) x)
-      ∙ sym (back_read ca more ra (map (valuation cb rb) more) x size out)
-    where
-      by : (b : Bool) → among x cb ≡ b
-          → valuation cb rb x ≡ valuation (others ca cb) (map (valuation cb rb) (others ca cb)) x
-      by true m = sym (read_own (valuation cb rb) (others ca cb) x
-          (among_others ca cb x ∙ grind (arith, common_steps)))
-      by false m = absent cb rb x m ∙ sym (absent (others ca cb) (map (valuation cb rb) (others ca cb)) x
-          (among_others ca cb x ∙ grind (arith, common_steps)))
+  second_read more e out = grind (arith, back_read, read_own, among_others, absent)
 
 -- pairs are kept row by row
 pub kept_each : (p : List Value → Bool) (ca cb : List ℕ) (rows bs : List (List Value))
     → flat_map (λ ra. filter p (pairs_of ca cb bs ra)) rows ≡ filter p (pairs ca cb rows bs)
 unfolding pairs
 kept_each p ca cb [] bs = refl
-kept_each p ca cb (ra ∷ rows) bs =
-    ap (λ rest. filter p (pairs_of ca cb bs ra) ++ rest) (kept_each p ca cb rows bs)
-    ∙ sym (filter-append p (pairs_of ca cb bs ra) (pairs ca cb rows bs))
+kept_each p ca cb (ra ∷ rows) bs = simp (filter-append, kept_each p ca cb rows bs)
 
 -- a table is asked by its rows alone
 pub kept_alike : (c : TableOf) (rows : List (List Value)) → ((q : List Value) → has_row rows q ≡ has_row c.rows q)
     → (columns : List ℕ) (xs : List (List Value))
     → filter (has_part (table_of_rows c.columns rows) columns) xs ≡ filter (has_part c columns) xs
-kept_alike c rows same columns xs =
-    filter_agree (has_part (table_of_rows c.columns rows) columns) (has_part c columns)
-    (λ row. same (part columns c.columns row)) xs
+kept_alike c rows same columns xs = search (filter_agree)
 
 -- what is kept of the pairs that an index finds
 pub kept_of_join : (a b : TableOf) (p : List Value → Bool) (moved : List (List Value)) → IsPermutation b.rows moved

@@ -1,20 +1,15 @@
 -- Tables without a column; and rows of which some were let go.
-use Rattle.std.proofs.Common.{subst, ◌≡◌, ◌↔◌, ℕ, Bool, true, false, not, nat_eq, List, [], ◌∷◌, length, map, refl}
-use Rattle.std.proofs.Common.{sym, ap, ◌∙◌, arith}
+use Rattle.std.proofs.Common.{◌≡◌, ◌↔◌, ℕ, Bool, true, false, not, nat_eq, List, [], ◌∷◌, map, refl, ap, ◌∙◌, arith}
 use Rattle.std.proofs.lemmas.Grind.{common_steps}
-use Rattle.std.specs.List.{items_where_true, AllByRecursion}
-use Rattle.std.specs.List.Sorted.{IsStrictlySortedBy}
+use Rattle.std.specs.{List.items_where_true, List.AllByRecursion, List.Sorted.IsStrictlySortedBy}
 use Rattle.std.specs.declared.cmp.Ordering.TheVariants.{Less}
-use Rattle.mfotl_model.proofs.LogicLemmas.{among_without}
-use Rattle.mfotl_model.proofs.ColumnLemmas.{same_columns}
-use Rattle.mfotl_model.specs.FreeVariables.{among, without}
-use Rattle.mfotl_model.specs.Satisfaction.{Valuation, with_value}
-use Rattle.mfotl_model.specs.Values.{row_cmp}
+use Rattle.mfotl_model.proofs.{LogicLemmas.among_without, ColumnLemmas.same_columns}
+use Rattle.mfotl_model.specs.{FreeVariables.among, FreeVariables.without, Satisfaction.Valuation}
+use Rattle.mfotl_model.specs.{Satisfaction.with_value, Values.row_cmp}
 use Rattle.mfotl_model.specs.declared.value.Value.{Value}
 use Rattle.mfotl_model.specs.Tables.{all_among, all_sized, has_row, part}
 use Rattle.relations.specs.Tables.{IsTable}
-use Rattle.relations.proofs.ColumnLemmas.{all_kept}
-use Rattle.relations.proofs.OperationLaws.{has_projected}
+use Rattle.relations.proofs.{ColumnLemmas.all_kept, OperationLaws.has_projected}
 
 pub without_inside : (x : ℕ) (columns : List ℕ) → all_among (without x columns) columns ≡ true
 without_inside x columns = all_kept (λ y. not (nat_eq y x)) columns columns (λ y m. m)
@@ -63,11 +58,4 @@ picked_sized n (false ∷ bs) (x ∷ xs) h = grind (arith, common_steps, picked_
 
 pub picked_is : (columns : List ℕ) (bs : List Bool) (rows rs : List (List Value)) → IsTable columns rows
     → rs ≡ items_where_true bs rows → IsTable columns rs
-picked_is columns bs rows rs is e =
-    subst (IsTable columns) (sym e)
-    (record {
-      apart = is.apart;
-      sized = picked_sized (length columns) bs rows is.sized;
-      sorted = picked_sorted bs
-          rows is.sorted;
-    })
+picked_is columns bs rows rs is e = grind (arith, picked_sized, picked_sorted)

@@ -1,5 +1,4 @@
-use Rattle.std.proofs.Common.{rules}
-use Rattle.std.proofs.lemmas.Fn.{filter_same}
+use Rattle.std.proofs.{Common.rules, lemmas.Fn.filter_same}
 use Rattle.mfotl_model.specs.Tables.{valuation}
 use Rattle.relations.specs.Operations.{chosen}
 use Rattle.relations.proofs.choosing.retain_chosen.Goals as goal

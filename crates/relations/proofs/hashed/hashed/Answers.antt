@@ -1,5 +1,4 @@
-use Rattle.std.proofs.Common.{arith}
-use Rattle.std.proofs.lemmas.Grind.{common_steps}
+use Rattle.std.proofs.{Common.arith, lemmas.Grind.common_steps}
 use Rattle.relations.proofs.TableRows.{has_more}
 use Rattle.relations.proofs.hashed.hashed.Goals as goal
 

@@ -1,11 +1,10 @@
 use Rattle.std.proofs.Common.{◌≡◌, List, length, ap, ◌∙◌}
 use Rattle.std.specs.List.{filter, flat_map}
-use Rattle.mfotl_model.specs.FreeVariables.{joined}
-use Rattle.mfotl_model.specs.Tables.{all_sized, has_row}
+use Rattle.mfotl_model.specs.{FreeVariables.joined, Tables.all_sized, Tables.has_row}
 use Rattle.mfotl_model.specs.declared.value.Value.{Value}
 use Rattle.relations.specs.Operations.{has_part, pairs, pairs_of, table_of_rows}
-use Rattle.relations.proofs.OperationLaws.{sized_filtered, sized_pairs}
-use Rattle.relations.proofs.TwiceLemmas.{kept_alike, kept_each}
+use Rattle.relations.proofs.{OperationLaws.sized_filtered, OperationLaws.sized_pairs, TwiceLemmas.kept_alike}
+use Rattle.relations.proofs.{TwiceLemmas.kept_each}
 use Rattle.relations.proofs.hashed.pairs_kept_by.Goals as goal
 
 pub returns-clause-rows : goal.returns-clause-rows

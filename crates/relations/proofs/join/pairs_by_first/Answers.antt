@@ -1,5 +1,4 @@
-use Rattle.relations.proofs.ColumnLemmas.{common_in_first}
-use Rattle.relations.proofs.PairLemmas.{join_turned}
+use Rattle.relations.proofs.{ColumnLemmas.common_in_first, PairLemmas.join_turned}
 use Rattle.relations.proofs.join.pairs_by_first.Goals as goal
 
 pub index_of_common-requires : goal.index_of_common-requires

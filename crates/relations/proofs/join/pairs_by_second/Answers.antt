@@ -1,5 +1,4 @@
-use Rattle.relations.proofs.ColumnLemmas.{common_in_second}
-use Rattle.relations.proofs.PairLemmas.{join_moved}
+use Rattle.relations.proofs.{ColumnLemmas.common_in_second, PairLemmas.join_moved}
 use Rattle.relations.proofs.join.pairs_by_second.Goals as goal
 
 pub index_of_common-requires : goal.index_of_common-requires

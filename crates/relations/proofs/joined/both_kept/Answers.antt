@@ -1,9 +1,8 @@
 use Rattle.std.proofs.Common.{sym, ◌∙◌}
 use Rattle.mfotl_model.specs.FreeVariables.{joined}
 use Rattle.relations.specs.Operations.{joined_rows, joined_table}
-use Rattle.relations.proofs.InsideLemmas.{joined_within}
-use Rattle.relations.proofs.OperationLaws.{has_as}
-use Rattle.relations.proofs.TwiceLemmas.{has_twice, kept_is}
+use Rattle.relations.proofs.{InsideLemmas.joined_within, OperationLaws.has_as, TwiceLemmas.has_twice}
+use Rattle.relations.proofs.{TwiceLemmas.kept_is}
 use Rattle.relations.proofs.joined.both_kept.Goals as goal
 
 pub returns-clause-columns : goal.returns-clause-columns

@@ -1,9 +1,8 @@
 use Rattle.std.proofs.Common.{sym, ◌∙◌}
 use Rattle.std.specs.List.{filter}
-use Rattle.mfotl_model.specs.FreeVariables.{joined}
 use Rattle.mfotl_model.specs.Tables.{has_row, part}
-use Rattle.relations.proofs.InsideLemmas.{joined_within, matched_is}
-use Rattle.relations.proofs.OperationLaws.{joined_has, some_is}
+use Rattle.relations.proofs.{InsideLemmas.joined_within, InsideLemmas.matched_is, OperationLaws.joined_has}
+use Rattle.relations.proofs.{OperationLaws.some_is}
 use Rattle.relations.proofs.joined.only_matched.Goals as goal
 
 pub from_ascending-requires : goal.from_ascending-requires

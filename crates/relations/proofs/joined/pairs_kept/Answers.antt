@@ -1,8 +1,6 @@
-use Rattle.std.proofs.Common.{◌∙◌}
 use Rattle.mfotl_model.specs.FreeVariables.{joined}
 use Rattle.relations.specs.Operations.{has_part}
-use Rattle.relations.proofs.ColumnLemmas.{common_in_second}
-use Rattle.relations.proofs.TwiceLemmas.{kept_of_join}
+use Rattle.relations.proofs.{ColumnLemmas.common_in_second, TwiceLemmas.kept_of_join}
 use Rattle.relations.proofs.joined.pairs_kept.Goals as goal
 
 pub index_of_common-requires : goal.index_of_common-requires

@@ -1,7 +1,6 @@
 use Rattle.std.proofs.Common.{◌≡◌, ◌++◌, drop, length, true}
 use Rattle.std.specs.List.{filter, flat_map}
-use Rattle.mfotl_model.specs.FreeVariables.{joined}
-use Rattle.mfotl_model.specs.Tables.{all_sized}
+use Rattle.mfotl_model.specs.{FreeVariables.joined, Tables.all_sized}
 use Rattle.relations.specs.Operations.{has_part, pairs_of, table_of_rows}
 use Rattle.relations.proofs.pairs.kept_pairs.Given as goal
 

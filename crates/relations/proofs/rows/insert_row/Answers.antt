@@ -1,7 +1,6 @@
 use Rattle.std.proofs.Common.{not, sym, ap, ◌∙◌}
 use Rattle.std.specs.Result.{is_ok}
-use Rattle.relations.proofs.RowLists.{searched_row, searched_place}
-use Rattle.relations.proofs.OperationLaws.{inserted_again}
+use Rattle.relations.proofs.{RowLists.searched_row, RowLists.searched_place, OperationLaws.inserted_again}
 use Rattle.relations.proofs.rows.insert_row.Goals as goal
 
 pub returns-in-Ok-clause-rows : goal.returns-in-Ok-clause-rows

@@ -1,9 +1,7 @@
 use Rattle.std.proofs.Common.{◌≡◌, not, nat_eq, length, ap, ◌∙◌}
 use Rattle.std.proofs.Math.Bool.{not-not}
-use Rattle.std.specs.List.{filter}
-use Rattle.std.specs.Ordering.{eq_by_cmp}
-use Rattle.mfotl_model.specs.Tables.{has_row, part}
-use Rattle.mfotl_model.specs.Values.{row_cmp}
+use Rattle.std.specs.{List.filter, Ordering.eq_by_cmp}
+use Rattle.mfotl_model.specs.{Tables.has_row, Tables.part, Values.row_cmp}
 use Rattle.relations.proofs.PairLemmas.{own_rows, none_left}
 use Rattle.relations.proofs.index.Index.has.Goals as goal
 

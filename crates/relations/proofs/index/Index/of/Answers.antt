@@ -1,7 +1,6 @@
 use Rattle.std.proofs.Common.{length, map, sym, subst, ◌∙◌}
 use Rattle.std.specs.List.Sorted.{IsSorted, IsPermutation}
-use Rattle.mfotl_model.specs.Values.{row_cmp}
-use Rattle.mfotl_model.specs.Tables.{part}
+use Rattle.mfotl_model.specs.{Values.row_cmp, Tables.part}
 use Rattle.relations.proofs.PairLemmas.{sized_moved}
 use Rattle.relations.proofs.index.Index.of.Goals as goal
 

@@ -2,8 +2,7 @@ use Rattle.std.proofs.Common.{◌≡◌, not, nat_eq, map, sym, ap, ◌∙◌}
 use Rattle.mfotl_model.specs.FreeVariables.{without}
 use Rattle.mfotl_model.specs.Tables.{all_apart, has, has_row, part}
 use Rattle.mfotl_model.proofs.ColumnLemmas.{filter_apart}
-use Rattle.relations.proofs.OperationLaws.{sized_parts}
-use Rattle.relations.proofs.WithoutLemmas.{has_without}
+use Rattle.relations.proofs.{OperationLaws.sized_parts, WithoutLemmas.has_without}
 use Rattle.relations.proofs.table.Table.exists.Goals as goal
 
 pub from_rows-requires-clause-apart : goal.from_rows-requires-clause-apart
