@@ -3,27 +3,17 @@ use Rattle.std.proofs.Common.{◌≡◌, ℕ, ◌+◌, ◌<◌, Bool, true, fals
 use Rattle.std.proofs.Common.{get_or, length, take, Option, Some, None, refl, sym, ap, ◌∙◌, arith}
 use Rattle.std.proofs.lemmas.Bool.{and_parts, or_left, or_right}
 use Rattle.std.proofs.Math.Bool.{and-false, or-false}
-use Rattle.std.specs.BTreeMap.{is_at}
-use Rattle.std.specs.Cmp.{eq_by_cmp_equiv}
-use Rattle.std.specs.List.{list_all, list_any}
-use Rattle.std.specs.Map.{lookup}
+use Rattle.std.specs.{BTreeMap.is_at, Cmp.eq_by_cmp_equiv, List.list_all, List.list_any, Map.lookup, Ordering.eq_by_cmp}
 use Rattle.std.specs.Option.{IfSome, is_some, unwrap_or}
-use Rattle.std.specs.Ordering.{eq_by_cmp}
 use Rattle.mfotl_model.proofs.RowLemmas.{any_and_last}
-use Rattle.mfotl_model.specs.Tables.{has_row, part}
-use Rattle.mfotl_model.specs.Values.{row_cmp, row_total}
-use Rattle.mfotl_model.specs.declared.interval.Interval.{Interval}
-use Rattle.mfotl_model.specs.declared.value.Value.{Value}
+use Rattle.mfotl_model.specs.{Tables.has_row, Tables.part, Values.row_cmp, Values.row_total}
+use Rattle.mfotl_model.specs.declared.{interval.Interval.Interval, value.Value.Value}
 use Rattle.relations.specs.KeptRows.{list_for}
-use Rattle.relations.proofs.MapLemmas.{either, same_row}
-use Rattle.relations.proofs.OperationLaws.{any_at}
-use Rattle.relations.proofs.TableRows.{has_more}
+use Rattle.relations.proofs.{MapLemmas.either, MapLemmas.same_row, OperationLaws.any_at, TableRows.has_more}
 use Rattle.eval_until.specs.ByKey.{KeyedRows, Listed, is_listed}
 use Rattle.eval_until.specs.declared.entries.Entry.{Entry}
-use Rattle.eval_until.specs.Entries.{from_place, met_by}
-use Rattle.eval_until.specs.Rules.{NoneEmpty}
-use Rattle.eval_until.proofs.EntriesLemmas.{all_from_place}
-use Rattle.eval_until.proofs.RowsLemmas.{found_alike}
+use Rattle.eval_until.specs.{Entries.from_place, Entries.met_by, Rules.NoneEmpty}
+use Rattle.eval_until.proofs.{EntriesLemmas.all_from_place, RowsLemmas.found_alike}
 
 -- a change at one row of one set
 pub changed_set : (h : Bool → Bool) (key row q u : List Value) (old new : List (List Value × List (List Value)))
@@ -38,8 +28,7 @@ changed_set h key row q u old new g e w outer is was inner = grind (arith, found
 
 -- an empty set has no row to lose
 pub none_out : (b : Bool) → false ≡ cond b false false
-none_out true = refl
-none_out false = refl
+none_out b = grind arith
 
 pub or_cond : (a b : Bool) → (a || b) ≡ cond b true a
 or_cond a b = grind arith
@@ -127,39 +116,21 @@ pub listed_thinned : (right : List ℕ) (keyed : KeyedRows) (next : ℕ) (at : L
     (old new : List (List Value × List Entry))
     → ((u : List Value) → list_for new u ≡ cond (at u) (from_place next (list_for old u)) (list_for old u))
     → Listed right keyed old → Listed right keyed new
-listed_thinned right keyed next at old new step listed u =
-    either (λ es. list_all (λ e. is_listed right keyed u) es ≡ true) (at u) (from_place next (list_for old u))
-    (list_for old u) (list_for new u) (step u)
-    (all_from_place (λ e. is_listed right keyed u) next (list_for old u) (listed u)) (listed u)
+listed_thinned right keyed next at old new step listed u = grind (arith, either, all_from_place)
 
 -- after a row of which nothing is kept was taken out
 pub listed_without : (right : List ℕ) (old new : KeyedRows) (rows : List (List Value × List Entry)) (row : List Value)
     → list_for rows row ≡ []
     → ((u : List Value) → is_at (row_cmp row) u ≡ false → is_listed right new u ≡ is_listed right old u)
     → Listed right old rows → Listed right new rows
-listed_without right old new rows row none others listed u = by (is_at (row_cmp row) u) refl
-  where
-    by : (b : Bool) → is_at (row_cmp row) u ≡ b → list_all (λ e. is_listed right new u) (list_for rows u) ≡ true
-    by true at =
-        ap (list_all (λ e. is_listed right new u)) (ap (list_for rows) (sym (same_row row u at)) ∙ none)
-    by false at = ap (λ b. list_all (λ e. b) (list_for rows u)) (others u at) ∙ listed u
+listed_without right old new rows row none others listed u = grind (arith, same_row row u)
 
 -- a row of which nothing is kept needn't be listed
 pub listed_if_kept : (rows : List (List Value × List Entry)) (u : List Value) (b : Bool)
     → (list_any (λ e. eq_by_cmp row_cmp u e.0) rows ≡ true → b ≡ true)
     → list_all (λ e. b) (list_for rows u) ≡ true
 listed_if_kept [] u b if_kept = refl
-listed_if_kept (e ∷ es) u b if_kept = by (is_at (row_cmp u) e.0) refl (listed_if_kept es u b)
-  where
-    by : (c : Bool) → is_at (row_cmp u) e.0 ≡ c
-        → ((list_any (λ f. eq_by_cmp row_cmp u f.0) es ≡ true → b ≡ true)
-        → list_all (λ f. b) (list_for es u) ≡ true)
-        → list_all (λ f. b) (unwrap_or (cond c (Some e.1) (lookup (is_at (row_cmp u)) es)) []) ≡ true
-    by true at rest =
-        each_of b e.1 (if_kept (or_left (eq_by_cmp row_cmp u e.0) (list_any (λ f. eq_by_cmp row_cmp u f.0) es) at))
-    by false at rest =
-        rest (λ there. if_kept
-        (ap (λ c. c || list_any (λ f. eq_by_cmp row_cmp u f.0) es) at ∙ there))
+listed_if_kept (e ∷ es) u b if_kept = grind (arith, each_of, or_left, listed_if_kept es u b)
 
 -- one of the rows that are kept was listed
 pub list_next : (row u : List Value) (cur new rest : Bool) → new ≡ (cur || is_at (row_cmp row) u)

@@ -1,16 +1,15 @@
 -- When the next position of UNTIL is due.
-use Rattle.std.proofs.Common.{◌≡◌, ℕ, zero, suc, ◌+◌, ◌-◌, ◌<◌, ◌≤◌, Bool, true, false, ◌&&◌, ◌||◌, nat_lt, min, List}
-use Rattle.std.proofs.Common.{[], ◌∷◌, Option, Some, None, length, slice_index, refl, ap, ◌∙◌, arith, inl, inr, lt-ltb}
+use Rattle.std.proofs.Common.{◌≡◌, ℕ, zero, suc, ◌+◌, ◌-◌, ◌<◌, Bool, true, false, ◌&&◌, ◌||◌, nat_lt, min, List, []}
+use Rattle.std.proofs.Common.{◌∷◌, Option, Some, None, length, slice_index, refl, ap, ◌∙◌, arith, inl, inr, lt-ltb}
 use borrow.Author.Tests.{ltb-true}
 use Rattle.std.proofs.lemmas.Bool.{cases_lt, and_parts, and_from, or_cases, or_left, or_right}
 use Rattle.std.specs.Cmp.{both_ways}
 use Rattle.std.specs.List.{list_any, list_all, range_with_len}
-use Rattle.mfotl_model.specs.Satisfaction.{time_at}
-use Rattle.mfotl_model.specs.Settled.{until_settled}
-use Rattle.mfotl_model.specs.Times.{NeverFalls}
+use Rattle.mfotl_model.specs.{Satisfaction.time_at, Settled.until_settled, Times.NeverFalls}
 use Rattle.mfotl_model.proofs.LogicLemmas.{any_in, any_from, all_in, all_from}
 use Rattle.relations.specs.Pushed.{StandFrom}
 use Rattle.eval_until.specs.UntilView.{past_bound, UntilDueIsSettled}
+use Rattle.std.proofs.lemmas.Grind.{common_steps}
 
 -- the item at a place of those that stand from a position on
 pub stands_at : (t : List ℕ) (p : ℕ) (xs : List ℕ) (k : ℕ) → StandFrom (λ i x. x ≡ time_at t i) p xs
@@ -21,8 +20,7 @@ stands_at t p (x ∷ xs) (suc k) all l = let e : p + 1 + k ≡ p + suc k = omega
     stands_at t (p + 1) xs k all.1 (omega arith) ∙ ap (time_at t) e
 
 pub nonempty : (xs : List ℕ) (k hi : ℕ) → hi < slice_index xs k - slice_index xs 0 → 0 < length xs
-nonempty [] k hi l = absurd (omega arith)
-nonempty (y ∷ ys) k hi l = omega arith
+nonempty xs k hi l = grind (arith, common_steps)
 
 none_settled : (t : List ℕ) (q : ℕ → Bool) (i : ℕ) → false ≡ until_settled None t q i
 unfolding until_settled
@@ -47,9 +45,7 @@ module _ (t : List ℕ) (p hi : ℕ) (times : List ℕ) (l r : ℕ) (long : leng
       (any_from _ 0 (length t) (p + k) (omega arith) (omega arith) (lt-ltb _ _ x)))
       (all_from _ p (length t - p) (λ j a b. elim (cases_lt j (min l r)) [
         | inl below ↦ or_right _ _ (and_from _ _ (lt-ltb j l (omega arith)) (lt-ltb j r (omega arith)))
-        | inr above ↦
-            let g : time_at t (p + k) ≤ time_at t j = never (p + k) j (omega arith) (omega arith) in
-            or_left _ _ (lt-ltb (time_at t p + hi) (time_at t j) (omega arith))
+        | inr above ↦ grind (arith, or_left, lt-ltb)
       ]))
 
   far_from : until_settled (Some hi) t (λ j. nat_lt j l && nat_lt j r) p ≡ true
@@ -76,17 +72,10 @@ module _ (t : List ℕ) (p hi : ℕ) (times : List ℕ) (l r : ℕ) (long : leng
             elim (or_cases (nat_lt (time_at t p + hi) (time_at t (p + k))) (nat_lt (p + k) l && nat_lt (p + k) r)
             (all_in (λ j. nat_lt (time_at t p + hi) (time_at t j) || (nat_lt j l && nat_lt j r)) p (length t - p)
             (p + k) both.1 (omega arith) (omega arith))) [
-              | inl is ↦ let y : time_at t p + hi < time_at t (p + k) = ltb-true (time_at t p + hi)
-                  (time_at t (p + k)) is in omega (arith, f, at)
-              | inr is ↦
-                  let c = and_parts (nat_lt (p + k) l) (nat_lt (p + k) r) is in
-                  let d : p + k < l = ltb-true (p + k) l c.0 in
-                  let e : p + k < r = ltb-true (p + k) r c.1 in
-                  absurd (omega arith)
+              | inl is ↦ grind (arith, ltb-true)
+              | inr is ↦ grind (arith, and_parts, ltb-true)
             ]
-        | inr all ↦
-            let g : time_at t w.0 ≤ time_at t (p + k) = never w.0 (p + k) (omega arith) (omega arith) in
-            omega (arith, f, at)
+        | inr all ↦ grind arith
       ]
 
 pub until_due_settled : UntilDueIsSettled

@@ -1,15 +1,12 @@
 -- The entries of a row: one more behind the others, and those without what was pulled.
-use Rattle.std.proofs.Common.{◌≡◌, ℕ, ◌<◌, ◌≤◌, Bool, true, false, cond, nat_le, nat_lt, List, [], ◌∷◌, ◌++◌, drop}
-use Rattle.std.proofs.Common.{refl, sym, subst, ap, ◌∙◌, arith, inl, inr}
-use Rattle.std.proofs.lemmas.Bool.{and_parts}
-use Rattle.std.proofs.lemmas.Bool.Decides.{nat_tests}
+use Rattle.std.proofs.Common.{◌≡◌, ℕ, ◌<◌, ◌≤◌, Bool, true, cond, nat_lt, List, [], ◌∷◌, ◌++◌, drop, refl, arith}
+use Rattle.std.proofs.{lemmas.Bool.and_parts, lemmas.Bool.Decides.nat_tests}
 use Rattle.std.specs.List.{list_all}
 use Rattle.mfotl_model.specs.declared.interval.Interval.{Interval}
 use Rattle.relations.proofs.TestLemmas.{all_push}
 use Rattle.eval_until.specs.declared.entries.Entry.{Entry}
-use Rattle.eval_until.specs.Entries.{met_by, from_place}
-use Rattle.eval_until.specs.Keeping.{IsThinned}
-use Rattle.eval_until.specs.Rules.{PlacesAscend, all_before}
+use Rattle.eval_until.specs.{Entries.met_by, Entries.from_place, Keeping.IsThinned, Rules.PlacesAscend}
+use Rattle.eval_until.specs.{Rules.all_before}
 
 pub from_none : (next : ℕ) → from_place next [] ≡ []
 unfolding from_place
@@ -48,16 +45,10 @@ all_from_place p next (e ∷ es) all = grind (arith, nat_tests, all_from_place p
 pub ascend_from : (next : ℕ) (es : List Entry) → PlacesAscend es → PlacesAscend (from_place next es)
 unfolding from_place
 ascend_from next [] ascend = tt
-ascend_from next (e ∷ es) ascend = by (nat_le next e.place) (ascend_from next es ascend.1)
-  where
-    by : (b : Bool) → PlacesAscend (from_place next es)
-        → PlacesAscend (cond b (e ∷ from_place next es) (from_place next es))
-    by true rest = (all_from_place (λ f. nat_lt e.place f.place) next es ascend.0, rest)
-    by false rest = rest
+ascend_from next (e ∷ es) ascend = grind (arith, all_from_place, ascend_from next es ascend.1)
 
 pub ascend_rest : (es : List Entry) → PlacesAscend es → PlacesAscend (drop 1 es)
-ascend_rest [] ascend = tt
-ascend_rest (e ∷ es) ascend = ascend.1
+ascend_rest es ascend = grind arith
 
 -- a later entry at the end
 pub ascend_push : (es : List Entry) (e : Entry) → PlacesAscend es → all_before e.place es ≡ true
@@ -77,21 +68,17 @@ met_from interval i x next (e ∷ es) l = grind (arith, nat_tests, met_from inte
 -- of a list that may have been thinned
 pub met_thinned : (interval : Interval) (i x next : ℕ) (old new : List Entry) → next ≤ i → IsThinned next old new
     → met_by interval i x new ≡ met_by interval i x old
-met_thinned interval i x next old new l (inl same) = ap (met_by interval i x) same
-met_thinned interval i x next old new l (inr thin) = ap (met_by interval i x) thin ∙ met_from interval i x next old l
+met_thinned interval i x next old new l h = grind (arith, met_from)
 
 pub ascend_thinned : (next : ℕ) (old new : List Entry) → IsThinned next old new → PlacesAscend old → PlacesAscend new
-ascend_thinned next old new (inl same) ascend = subst PlacesAscend (sym same) ascend
-ascend_thinned next old new (inr thin) ascend = subst PlacesAscend (sym thin) (ascend_from next old ascend)
+ascend_thinned next old new h ascend = grind (arith, ascend_from)
 
 pub all_thinned : (p : Entry → Bool) (next : ℕ) (old new : List Entry) → IsThinned next old new
     → list_all p old ≡ true → list_all p new ≡ true
-all_thinned p next old new (inl same) all = ap (list_all p) same ∙ all
-all_thinned p next old new (inr thin) all = ap (list_all p) thin ∙ all_from_place p next old all
+all_thinned p next old new h all = grind (arith, all_from_place)
 
 pub none_thinned : (next : ℕ) (old new : List Entry) → IsThinned next old new → old ≡ [] → new ≡ []
-none_thinned next old new (inl same) none = same ∙ none
-none_thinned next old new (inr thin) none = thin ∙ ap (from_place next) none ∙ from_none next
+none_thinned next old new h none = grind (arith, from_none)
 
 -- one row more of a table whose entries are forgotten
 pub thin_more : (next : ℕ) (old cur new : List Entry) (b : Bool) → IsThinned next old cur

@@ -1,24 +1,16 @@
 -- The state of UNTIL: what a push, a position that is taken, and one that is pulled keep, and what it answers.
-use Rattle.std.proofs.Common.{◌≡◌, ℕ, zero, suc, ◌+◌, ◌-◌, ◌<◌, ◌≤◌, Bool, true, false, cond, ◌&&◌, ◌||◌, nat_le}
-use Rattle.std.proofs.Common.{nat_lt, min, List, [], ◌∷◌, ◌++◌, Option, Some, None, length, map, get_or, slice_index}
-use Rattle.std.proofs.Common.{refl, sym, ap, ap₂, ◌∙◌, arith, inl, inr}
+use Rattle.std.proofs.Common.{◌≡◌, ℕ, zero, ◌+◌, ◌-◌, ◌<◌, ◌≤◌, Bool, true, false, cond, ◌&&◌, ◌||◌, nat_le, min, List}
+use Rattle.std.proofs.Common.{[], ◌∷◌, ◌++◌, Option, Some, None, length, map, get_or, slice_index, refl, sym, ap, ap₂}
+use Rattle.std.proofs.Common.{◌∙◌, arith}
 use borrow.Author.Tests.{ltb-true}
-use Rattle.std.proofs.lemmas.Bool.{cases_lt, eqb-true}
-use Rattle.std.proofs.lemmas.Bool.Decides.{nat_tests}
-use Rattle.std.proofs.lemmas.List.{length_push}
-use Rattle.mfotl_model.specs.Intervals.{in_interval}
+use Rattle.std.proofs.{lemmas.Bool.cases_lt, lemmas.Bool.eqb-true, lemmas.List.length_push, lemmas.Grind.common_steps}
+use Rattle.mfotl_model.specs.{Intervals.in_interval, Times.NeverFalls}
 use Rattle.mfotl_model.specs.Satisfaction.{Valuation, time_at, truth_at, until}
 use Rattle.mfotl_model.specs.Tables.{TableOf, all_among, has, has_row, part}
-use Rattle.mfotl_model.specs.Times.{NeverFalls}
-use Rattle.mfotl_model.specs.declared.interval.Interval.{Interval}
-use Rattle.mfotl_model.specs.declared.value.Value.{Value}
-use Rattle.relations.specs.KeptRows.{list_for}
-use Rattle.relations.proofs.OperationLaws.{has_as, part_of_own}
-use Rattle.relations.proofs.PushedLemmas.{stand_push}
+use Rattle.mfotl_model.specs.declared.{interval.Interval.Interval, value.Value.Value}
+use Rattle.relations.proofs.{OperationLaws.has_as, OperationLaws.part_of_own, PushedLemmas.stand_push}
 use Rattle.relations.specs.Pushed.{StandFrom, left_holds, turned}
 use Rattle.eval_until.specs.AheadView.{AheadOf, met, run_start}
-use Rattle.eval_until.specs.Entries.{met_by}
-use Rattle.eval_until.specs.Starts.{start_of}
 use Rattle.eval_until.specs.UntilBefore.{until_before, start}
 use Rattle.eval_until.specs.UntilView.{Follows, FollowsLeft, UntilOf, due, past_bound, to_take, took_all}
 use Rattle.eval_until.proofs.DueLemmas.{nonempty, stands_at}
@@ -28,58 +20,19 @@ use Rattle.eval_until.proofs.UntilLemmas.{none_yet, one_more, past_the_bound, st
 pub left_begins : (k : AheadOf) (a : List Bool) (v : Valuation) → k.taken ≡ 0 → k.starts ≡ []
     → FollowsLeft (record { ahead = k; times = []; lefts = []; rights = [] }) a v
 unfolding start
-left_begins k a v taken starts = record {
-  lefts = tt;
-  runs = λ i low.
-      ap₂ (λ s p. nat_le (start_of k.negated p s (map v k.left)) i) starts taken
-      ∙ ap (λ s. nat_le s i) (by k.negated 0)
-      ∙ ap (λ p. nat_le (start a p) i) (sym taken);
-}
-  where
-    by : (b : Bool) (n : ℕ) → cond b n n ≡ n
-    by true n = refl
-    by false n = refl
+left_begins k a v taken starts = grind arith
 
 pub begins : (k : AheadOf) (t : List ℕ) (a b : List Bool) (v : Valuation) → k.pulled ≡ 0 → k.taken ≡ 0
     → k.starts ≡ [] → k.rows ≡ []
     → Follows (record { ahead = k; times = []; lefts = []; rights = [] }) t a b v
-begins k t a b v pulled taken starts rows = record {
-  left = left_begins k a v taken starts;
-  long = omega (arith, pulled);
-  times = tt;
-  rights = tt;
-  window = λ i low.
-      ap (λ es. met_by k.interval i (time_at t i) (list_for es (map v k.right))) rows
-      ∙ sym (ap (λ p. until_before k.interval t a b p i) taken ∙ none_yet k.interval t a b 0 i (omega arith));
-}
+begins k t a b v pulled taken starts rows = grind (arith, left_begins k a v taken starts, none_yet)
 
 -- one position more, whether the position asked lies below it or not
 more_anywhere : (interval : Interval) (t : List ℕ) (a b : List Bool) (p i : ℕ)
     → (until_before interval t a b p i
     || (truth_at b p && (nat_le (start a p) i && nat_le i p && in_interval interval (time_at t p - time_at t i))))
     ≡ until_before interval t a b (p + 1) i
-more_anywhere interval t a b p i = elim (cases_lt p i) [
-  | inl past ↦
-      let f : nat_le i p ≡ false = grind (arith, nat_tests) in
-      ap (λ c. until_before interval t a b p i || (truth_at b p && (nat_le (start a p) i && c
-      && in_interval interval (time_at t p - time_at t i)))) f
-      ∙ none (until_before interval t a b p i) (truth_at b p) (nat_le (start a p) i)
-      (in_interval interval (time_at t p - time_at t i))
-      ∙ none_yet interval t a b p i (omega arith) ∙ sym (none_yet interval t a b (p + 1) i (omega arith))
-  | inr low ↦
-      let f : nat_le i p ≡ true = grind (arith, nat_tests) in
-      ap (λ c. until_before interval t a b p i || (truth_at b p && (nat_le (start a p) i && c
-      && in_interval interval (time_at t p - time_at t i)))) f
-      ∙ ap (λ r. until_before interval t a b p i || r)
-      (turned_round (truth_at b p) (nat_le (start a p) i) (in_interval interval (time_at t p - time_at t i)))
-      ∙ sym (one_more interval t a b p i low)
-]
-  where
-    none : (m c s d : Bool) → (m || (c && (s && false && d))) ≡ m
-    none m c s d = grind arith
-
-    turned_round : (c s d : Bool) → (c && (s && true && d)) ≡ (d && c && s)
-    turned_round c s d = grind arith
+more_anywhere interval t a b p i = grind (arith, cases_lt, none_yet, one_more)
 
 -- one position is taken
 pub record Taken (k n : AheadOf) (ts : ℕ) (l r : TableOf) : Type 0 where
@@ -103,14 +56,7 @@ module _ {k n : AheadOf} {ts : ℕ} {times : List ℕ} {l r : TableOf} {ls rs : 
       → FollowsLeft (record { ahead = n; times = times; lefts = ls; rights = rs }) a v
   left_taken a v f = record {
     lefts = rw (j.taken, j.negated) f.lefts.1;
-    runs = λ i low.
-        let before = f.runs i (omega (arith, low, j.pulled)) in
-        ap (λ c. nat_le (run_start n (map v c)) i) j.left
-        ∙ ap (λ s. nat_le s i) (j.start (map v k.left))
-        ∙ ap (λ b. nat_le (cond b (run_start k (map v k.left)) (k.taken + 1)) i)
-        (ap (turned k.negated) (sym (has_as l k.left l.rows v j.lefts refl)) ∙ f.lefts.0)
-        ∙ by i (truth_at a k.taken) before
-        ∙ ap (λ s. nat_le s i) (sym (start_more a k.taken) ∙ ap (start a) (sym j.taken));
+    runs = grind (arith, has_as, start_more);
   }
     where
       by : (i : ℕ) (b : Bool) → nat_le (run_start k (map v k.left)) i ≡ nat_le (start a k.taken) i
@@ -156,12 +102,7 @@ module _ {k n : AheadOf} {x : ℕ} {times : List ℕ} {ls rs : List TableOf} (j 
       → FollowsLeft (record { ahead = n; times = times; lefts = ls; rights = rs }) a v
   left_pulled a v f = record {
     lefts = rw (j.taken, j.negated) f.lefts;
-    runs = λ i low.
-        let m : k.pulled + 1 ≤ i = omega (arith, low, j.pulled) in
-        ap (λ c. nat_le (run_start n (map v c)) i) j.left
-        ∙ j.start i (map v k.left) m
-        ∙ f.runs i (omega arith)
-        ∙ ap (λ p. nat_le (start a p) i) (sym j.taken);
+    runs = grind arith;
   }
 
   pub follows_pulled : (t : List ℕ) (a b : List Bool) (v : Valuation)
@@ -172,12 +113,7 @@ module _ {k n : AheadOf} {x : ℕ} {times : List ℕ} {ls rs : List TableOf} (j 
     long = omega (arith, f.long, j.pulled);
     times = rw j.pulled f.times.1;
     rights = rw j.taken f.rights;
-    window = λ i low.
-        let m : k.pulled + 1 ≤ i = omega (arith, low, j.pulled) in
-        ap (λ c. met n i (time_at t i) (map v c)) j.right
-        ∙ j.met i (time_at t i) (map v k.right) m
-        ∙ f.window i (omega arith)
-        ∙ ap₂ (λ (v : Interval) (p : ℕ). until_before v t a b p i) (sym j.interval) (sym j.taken);
+    window = grind (arith, ap₂);
   }
 
 -- where the bound is passed, what was taken decides
@@ -191,14 +127,9 @@ decided interval hi t a b next taken times e never low high long stands some pas
     let first = stands_at t next times 0 stands some in
     let at = stands_at t next times (min (taken - next) (length times - 1)) stands (omega arith) in
     let z : next + 0 ≡ next = omega arith in
-    let x : time_at t next + hi < time_at t (next + min (taken - next) (length times - 1)) = omega
-    (arith, first, at, ap (time_at t) z) in
+    let x : time_at t next + hi < time_at t (next + min (taken - next) (length times - 1)) = grind arith in
     let n : taken + (length t - taken) ≡ length t = omega arith in
-    sym (past_the_bound interval hi t a b next taken (length t - taken) e low
-    (λ j l m. let g : time_at t (next + min (taken - next) (length times - 1)) ≤ time_at t j = never
-    (next + min (taken - next) (length times - 1)) j (omega arith) (omega arith) in omega arith))
-    ∙ ap (λ q. until_before interval t a b q next) n
-    ∙ sym (until_is interval t a b next)
+    grind (arith, past_the_bound, until_is)
 
 -- where all were taken, the place that the due position asks is the last one taken, or past the times
 same_place : (pulled taken l r m : ℕ) → pulled ≤ taken → taken ≤ pulled + m
@@ -225,38 +156,30 @@ met_next {s} {x} t a b v f never is all times low high = by s.ahead.interval.hi 
         (length s.times) low high
         none in
         let past : hi < slice_index s.times (min (s.ahead.taken - s.ahead.pulled) (length s.times - 1))
-        - slice_index s.times 0 = ltb-true hi _
-        (sym (ap (λ k. nat_lt hi (slice_index s.times k - slice_index s.times 0)) same) ∙ h) in
+        - slice_index s.times 0 = grind (arith, slice_index, ltb-true) in
         let some = nonempty s.times (min (s.ahead.taken - s.ahead.pulled) (length s.times - 1)) hi past in
         let z : s.ahead.pulled + 0 ≡ s.ahead.pulled = omega arith in
-        let first : x ≡ time_at t s.ahead.pulled = sym (ap (λ (xs : List ℕ). slice_index xs 0) times)
-        ∙ stands_at t s.ahead.pulled s.times 0 f.times some ∙ ap (time_at t) z in
+        let first : x ≡ time_at t s.ahead.pulled = grind (arith, slice_index, stands_at) in
         ap (λ y. met s.ahead s.ahead.pulled y (map v s.ahead.right)) first
         ∙ f.window s.ahead.pulled (omega arith)
         ∙ decided s.ahead.interval hi t a b s.ahead.pulled s.ahead.taken s.times e never low high f.long f.times some
         past
 
 pub read_at : (xs : List ℕ) (k x : ℕ) → k < length xs → x ≡ get_or xs k x → x ≡ slice_index xs k
-read_at [] k x l e = absurd (omega arith)
-read_at (y ∷ ys) zero x l e = e
-read_at (y ∷ ys) (suc k) x l e = read_at ys k x (omega arith) e
+read_at xs k x l e = grind (arith, common_steps, zero)
 
 -- the time that is read at the place of the position to take
 pub time_taken : (t : List ℕ) (next taken : ℕ) (times : List ℕ) (x k : ℕ)
     → StandFrom (λ i y. y ≡ time_at t i) next times → k < length times → x ≡ get_or times k x → k ≡ taken - next
     → next ≤ taken → x ≡ time_at t taken
 time_taken t next taken times x k stands l e is low =
-    let p : next + k ≡ taken = omega arith in
-    read_at times k x l e ∙ stands_at t next times k stands l ∙ ap (time_at t) p
+    grind (arith, read_at times k x l e, stands_at t next times k stands l)
 
 pub left_pushed : (k : AheadOf) (ts : List ℕ) (ls rs : List TableOf) (l : TableOf) (a : List Bool) (v : Valuation)
     → FollowsLeft (record { ahead = k; times = ts; lefts = ls; rights = rs }) a v
     → left_holds k.negated l v ≡ truth_at a (k.taken + length ls)
     → FollowsLeft (record { ahead = k; times = ts; lefts = ls ++ l ∷ []; rights = rs }) a v
-left_pushed k ts ls rs l a v f e = record {
-  lefts = stand_push (λ i table. left_holds k.negated table v ≡ truth_at a i) k.taken ls l f.lefts e;
-  runs = f.runs;
-}
+left_pushed k ts ls rs l a v f e = search (stand_push)
 
 -- nothing of the left side hangs on the rest
 pub left_stays : (k : AheadOf) (ts us : List ℕ) (ls rs qs : List TableOf) (a : List Bool) (v : Valuation)
@@ -269,36 +192,18 @@ pub follows_left : (k : AheadOf) (ts : List ℕ) (ls rs : List TableOf) (l : Tab
     → Follows (record { ahead = k; times = ts; lefts = ls; rights = rs }) t a b v
     → left_holds k.negated l v ≡ truth_at a (k.taken + length ls)
     → Follows (record { ahead = k; times = ts; lefts = ls ++ l ∷ []; rights = rs }) t a b v
-follows_left k ts ls rs l t a b v f e = record {
-  left = left_pushed k ts ls rs l a v f.left e;
-  long = f.long;
-  times = f.times;
-  rights = f.rights;
-  window = f.window;
-}
+follows_left k ts ls rs l t a b v f e = search (left_pushed)
 
 pub follows_right : (k : AheadOf) (ts : List ℕ) (ls rs : List TableOf) (r : TableOf) (t : List ℕ) (a b : List Bool)
     (v : Valuation)
     → Follows (record { ahead = k; times = ts; lefts = ls; rights = rs }) t a b v
     → has r v ≡ truth_at b (k.taken + length rs)
     → Follows (record { ahead = k; times = ts; lefts = ls; rights = rs ++ r ∷ [] }) t a b v
-follows_right k ts ls rs r t a b v f e = record {
-  left = left_stays k ts ts ls rs (rs ++ r ∷ []) a v f.left;
-  long = f.long;
-  times = f.times;
-  rights = stand_push (λ i table. has table v ≡ truth_at b i) k.taken rs r f.rights e;
-  window = f.window;
-}
+follows_right k ts ls rs r t a b v f e = search (left_stays, stand_push)
 
 pub follows_time : (k : AheadOf) (ts : List ℕ) (x : ℕ) (ls rs : List TableOf) (t : List ℕ) (a b : List Bool)
     (v : Valuation)
     → Follows (record { ahead = k; times = ts; lefts = ls; rights = rs }) t a b v
     → x ≡ time_at t (k.pulled + length ts) → k.pulled + length ts < length t
     → Follows (record { ahead = k; times = ts ++ x ∷ []; lefts = ls; rights = rs }) t a b v
-follows_time k ts x ls rs t a b v f e l = record {
-  left = left_stays k ts (ts ++ x ∷ []) ls rs rs a v f.left;
-  long = omega (arith, length_push ts x);
-  times = stand_push (λ i y. y ≡ time_at t i) k.pulled ts x f.times e;
-  rights = f.rights;
-  window = f.window;
-}
+follows_time k ts x ls rs t a b v f e l = grind (arith, left_stays, length_push, stand_push)

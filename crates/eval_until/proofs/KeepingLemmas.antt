@@ -1,24 +1,17 @@
 -- What UNTIL keeps: one position is taken, one is pulled.
 use Rattle.std.proofs.Common.{◌≡◌, ℕ, ◌+◌, ◌<◌, ◌≤◌, Bool, true, false, cond, nat_eq, nat_le, nat_lt, ◌&&◌, ◌||◌, List}
 use Rattle.std.proofs.Common.{[], ◌∷◌, ◌++◌, Option, Some, None, length, refl, ap, ◌∙◌, arith, inl, inr}
-use Rattle.std.proofs.lemmas.Bool.Decides.{nat_tests}
-use Rattle.std.proofs.lemmas.List.Folds.{list_any-append}
-use Rattle.std.specs.List.{list_all}
-use Rattle.std.specs.Option.{IfSome, unwrap_or}
+use Rattle.std.proofs.{lemmas.Bool.Decides.nat_tests, lemmas.List.Folds.list_any-append}
+use Rattle.std.specs.{List.list_all, Option.IfSome, Option.unwrap_or}
 use Rattle.mfotl_model.specs.Tables.{all_sized, has_row, part}
-use Rattle.mfotl_model.specs.declared.interval.Interval.{Interval}
-use Rattle.mfotl_model.specs.declared.value.Value.{Value}
-use Rattle.relations.specs.KeptRows.{kept_for, list_for}
-use Rattle.relations.proofs.MapLemmas.{either}
-use Rattle.relations.proofs.TableRows.{all_rows, lacks_other}
-use Rattle.relations.proofs.TestLemmas.{all_push, all_weaker}
-use Rattle.relations.specs.Pushed.{turned}
-use Rattle.eval_until.specs.declared.contents.Taken.{Taken}
-use Rattle.eval_until.specs.declared.entries.Entry.{Entry}
-use Rattle.eval_until.specs.Entries.{meets, met_by}
+use Rattle.mfotl_model.specs.declared.{interval.Interval.Interval, value.Value.Value}
+use Rattle.relations.specs.{KeptRows.kept_for, KeptRows.list_for, Pushed.turned}
+use Rattle.relations.proofs.{MapLemmas.either, TableRows.all_rows, TableRows.lacks_other, TestLemmas.all_push}
+use Rattle.relations.proofs.{TestLemmas.all_weaker}
+use Rattle.eval_until.specs.declared.{contents.Taken.Taken, entries.Entry.Entry}
+use Rattle.eval_until.specs.{Entries.meets, Entries.met_by, Starts.start_of, Starts.start_taken}
 use Rattle.eval_until.specs.Keeping.{Below, IsLater, Keeps, Queues, Sized, breaks_before, names}
 use Rattle.eval_until.specs.Rules.{NoneEmpty, PlacesAscend, StartsAbove, Waiting, all_before}
-use Rattle.eval_until.specs.Starts.{start_of, start_taken}
 use Rattle.eval_until.proofs.EntriesLemmas.{ascend_push}
 use Rattle.eval_until.proofs.QueueLemmas.{after_push, breaks_last, breaks_push, broken_fresh, entries_waiting, all_kept}
 use Rattle.eval_until.proofs.QueueLemmas.{covered_kept, fresh_push, names_last, names_push, rising_kept, rising_push}

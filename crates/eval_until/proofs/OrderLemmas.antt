@@ -1,22 +1,15 @@
 -- Pairs by ascending rows have the look-ups of the pairs as they came, and no other list by ascending rows has them.
 use Rattle.std.proofs.Common.{◌≡◌, Bool, true, false, cond, List, [], ◌∷◌, Option, Some, None, refl, sym, subst, ap}
-use Rattle.std.proofs.Common.{◌∙◌}
+use Rattle.std.proofs.Common.{◌∙◌, arith}
 use Rattle.std.proofs.lemmas.Option.{same_Some}
-use Rattle.std.specs.BTreeMap.{insert_entry, is_at}
-use Rattle.std.specs.BTreeSet.{insert_key}
-use Rattle.std.specs.Cmp.{eq_by_cmp_equiv}
-use Rattle.std.specs.List.{AllByRecursion}
-use Rattle.std.specs.List.Sorted.{IsStrictlySortedBy}
-use Rattle.std.specs.Map.{keys_of}
-use Rattle.std.specs.Option.{unwrap_or}
+use Rattle.std.specs.{BTreeMap.insert_entry, BTreeMap.is_at, BTreeSet.insert_key, Cmp.eq_by_cmp_equiv}
+use Rattle.std.specs.{List.AllByRecursion, List.Sorted.IsStrictlySortedBy, Map.keys_of, Option.unwrap_or}
 use Rattle.std.specs.Ordering.{is_eq, match_ordering, ordering_reverse}
 use Rattle.std.specs.declared.cmp.Ordering.{Ordering}
 use Rattle.std.specs.declared.cmp.Ordering.TheVariants.{Less, Equal, Greater}
-use Rattle.mfotl_model.specs.Ascending.{ascending}
-use Rattle.mfotl_model.specs.Values.{row_cmp, row_total}
+use Rattle.mfotl_model.specs.{Ascending.ascending, Values.row_cmp, Values.row_total}
 use Rattle.mfotl_model.specs.declared.value.Value.{Value}
-use Rattle.mfotl_model.proofs.AscendingLemmas.{sorted_ascending}
-use Rattle.mfotl_model.proofs.RowLemmas.{row_exact}
+use Rattle.mfotl_model.proofs.{AscendingLemmas.sorted_ascending, RowLemmas.row_exact}
 use Rattle.relations.specs.KeptRows.{RowsAscend, RowsDiffer, kept_for, last_for, list_for}
 use Rattle.relations.proofs.KeptLemmas.{ascending_differ, last_is, none_behind, or_none}
 use Rattle.relations.proofs.MapLemmas.{same_row}
@@ -63,19 +56,11 @@ kept_in_order (e ∷ es) u = kept_put e.0 e.1 (in_order es) u
 rows_put : {X : Type 0} (k : List Value) (v : X) (es : List (List Value × X))
     → keys_of (insert_entry row_cmp es k v) ≡ insert_key row_cmp (keys_of es) k
 rows_put k v [] = refl
-rows_put {X} k v (e ∷ es) = by (row_cmp k e.0) (rows_put k v es)
-  where
-    by : (o : Ordering) → keys_of (insert_entry row_cmp es k v) ≡ insert_key row_cmp (keys_of es) k
-        → keys_of (match_ordering o ((k, v) ∷ e ∷ es) ((e.0, v) ∷ es) (e ∷ insert_entry row_cmp es k v))
-        ≡ match_ordering o (k ∷ e.0 ∷ keys_of es) (e.0 ∷ keys_of es) (e.0 ∷ insert_key row_cmp (keys_of es) k)
-    by Less rest = refl
-    by Equal rest = refl
-    by Greater rest = ap (λ rows. e.0 ∷ rows) rest
+rows_put {X} k v (e ∷ es) = grind (arith, rows_put k v es)
 
 rows_in_order : {X : Type 0} (es : List (List Value × X)) → keys_of (in_order es) ≡ ascending row_cmp (keys_of es)
 rows_in_order [] = refl
-rows_in_order (e ∷ es) = rows_put e.0 e.1 (in_order es)
-    ∙ ap (λ rows. insert_key row_cmp rows e.0) (rows_in_order es)
+rows_in_order (e ∷ es) = cc (rows_put e.0 e.1 (in_order es), rows_in_order es)
 
 pub in_order_ascends : {X : Type 0} (es : List (List Value × X)) → RowsAscend (in_order es)
 in_order_ascends es = subst (IsStrictlySortedBy row_cmp) (sym (rows_in_order es))
@@ -138,19 +123,16 @@ same_ascending {X} (x ∷ xs) (y ∷ ys) low high same =
 -- what a map in order has, once it was filled with the pairs of a map of hashes
 pub ordered_is : {X : Type 0} (es tree : List (List Value × X)) → RowsDiffer es → RowsAscend tree
     → ((u : List Value) → kept_for tree u ≡ last_for es u None) → tree ≡ in_order es
-ordered_is es tree apart up found = same_ascending tree (in_order es) up (in_order_ascends es) (λ u.
-    found u ∙ last_is es apart u None ∙ or_none (kept_for es u) ∙ sym (kept_in_order es u))
+ordered_is es tree apart up found = grind (arith, same_ascending, in_order_ascends, last_is, or_none, kept_in_order)
 
 -- a map of hashes, once it was filled with the pairs of a map in order
 pub hashed_finds : {X : Type 0} (tree map : List (List Value × X)) → RowsAscend tree
     → ((u : List Value) → kept_for map u ≡ last_for tree u None) → (u : List Value) → kept_for map u ≡ kept_for tree u
-hashed_finds tree map up found u =
-    found u ∙ last_is tree (ascending_differ tree up) u None ∙ or_none (kept_for tree u)
+hashed_finds tree map up found u = grind (arith, last_is, ascending_differ, or_none)
 
 pub hashed_is : {X : Type 0} (tree map : List (List Value × X)) → RowsAscend tree
     → ((u : List Value) → kept_for map u ≡ last_for tree u None) → in_order map ≡ tree
-hashed_is tree map up found = same_ascending (in_order map) tree (in_order_ascends map) up (λ u.
-    kept_in_order map u ∙ hashed_finds tree map up found u)
+hashed_is tree map up found = grind (arith, same_ascending, in_order_ascends, kept_in_order, hashed_finds)
 
 -- a map in order, once it was filled with pairs by ascending rows
 pub ascending_is : {X : Type 0} (es tree : List (List Value × X)) → RowsAscend es → RowsAscend tree

@@ -1,19 +1,15 @@
 -- The queue of the positions that were taken: one more, and what is pulled is forgotten by it.
 use Rattle.std.proofs.Common.{◌≡◌, ℕ, ◌+◌, ◌<◌, ◌≤◌, Bool, true, false, cond, nat_eq, nat_le, nat_lt, ◌&&◌, ◌||◌, List}
-use Rattle.std.proofs.Common.{[], ◌∷◌, ◌++◌, Option, Some, None, get_or, refl, arith}
-use Rattle.std.proofs.lemmas.Bool.Decides.{nat_tests}
-use Rattle.std.proofs.lemmas.List.Folds.{list_any-append, list_all-append}
-use Rattle.std.specs.List.{list_all}
-use Rattle.std.specs.Option.{IfSome}
+use Rattle.std.proofs.Common.{[], ◌∷◌, ◌++◌, Option, get_or, refl, arith}
+use Rattle.std.proofs.{lemmas.Bool.Decides.nat_tests, lemmas.List.Folds.list_any-append}
+use Rattle.std.proofs.{lemmas.List.Folds.list_all-append, lemmas.Grind.common_steps}
+use Rattle.std.specs.{List.list_all, Option.IfSome}
 use Rattle.mfotl_model.specs.Tables.{has_row}
 use Rattle.mfotl_model.specs.declared.value.Value.{Value}
-use Rattle.relations.proofs.QueueLemmas.{rises_push}
-use Rattle.relations.proofs.TestLemmas.{all_push, all_weaker}
-use Rattle.eval_until.specs.declared.contents.Taken.{Taken}
-use Rattle.eval_until.specs.declared.entries.Entry.{Entry}
-use Rattle.eval_until.specs.Entries.{from_place}
+use Rattle.relations.proofs.{QueueLemmas.rises_push, TestLemmas.all_push, TestLemmas.all_weaker}
+use Rattle.eval_until.specs.declared.{contents.Taken.Taken, entries.Entry.Entry}
+use Rattle.eval_until.specs.{Entries.from_place, Starts.later_start}
 use Rattle.eval_until.specs.Keeping.{Fresh, IsLater, NotAfter, Rising, breaks_before, names}
-use Rattle.eval_until.specs.Starts.{later_start}
 
 -- the entries that are left stand in the rest of the queue
 names_left : (next : ℕ) (q : Taken) (qs : List Taken) (u : List Value) (es : List Entry) → q.place < next
@@ -32,8 +28,7 @@ pub covered_more : (next : ℕ) (q : Taken) (qs : List Taken) (u : List Value) (
     → q.place < next → list_all (λ e. names (q ∷ qs) u e.place) cur ≡ true
     → new ≡ cond (has_row q.rights.items u) (from_place next cur) cur
     → list_all (λ e. names qs u e.place) new ≡ true
-covered_more next q qs u cur new low all step =
-    grind (arith, names_left next q qs u cur low, names_other q qs u cur)
+covered_more next q qs u cur new low all step = grind (arith, names_left, names_other)
 
 -- so do the starts that are left
 pub breaks_more : (negated : Bool) (next : ℕ) (q : Taken) (qs : List Taken) (w : List Value) (cur new : Option ℕ)
@@ -50,12 +45,7 @@ later_more negated next old cur new b later e = grind (arith, nat_tests)
 -- where the first position isn't below next, none is
 pub fresh_front : (next : ℕ) (queue : List Taken) (q : Taken) → q ≡ get_or queue 0 q → Rising queue
     → next ≤ q.place → Fresh next queue
-fresh_front next [] q e rising low = refl
-fresh_front next (r ∷ rs) q e rising low =
-    let first : next ≤ r.place = grind arith in
-    let rest = all_weaker (λ k. nat_le r.place k.place) (λ k. nat_le next k.place) rs
-    (λ k later. grind (arith, nat_tests)) rising.0 in
-    grind (arith, nat_tests)
+fresh_front next queue q e rising low = grind (arith, common_steps, all_weaker)
 
 pub front_before : (next : ℕ) (queue rest : List Taken) (q r : Taken) → queue ≡ r ∷ rest → q ≡ get_or queue 0 q
     → q.place < next → r.place < next
@@ -63,19 +53,14 @@ front_before next queue rest q r is e low = grind arith
 
 -- one position more
 pub after_push : (p : ℕ) (qs : List Taken) (q : Taken) → NotAfter p qs → q.place ≡ p → NotAfter (p + 1) (qs ++ q ∷ [])
-after_push p qs q all e =
-    all_push (λ r. nat_lt r.place (p + 1)) qs q
-    (all_weaker (λ r. nat_lt r.place p) (λ r. nat_lt r.place (p + 1)) qs (λ r before. grind (arith, nat_tests)) all)
-    (grind (arith, nat_tests))
+after_push p qs q all e = grind (arith, all_push, all_weaker)
 
 pub fresh_push : (next : ℕ) (qs : List Taken) (q : Taken) → Fresh next qs → next ≤ q.place → Fresh next (qs ++ q ∷ [])
 fresh_push next qs q fresh l = all_push (λ r. nat_le next r.place) qs q fresh (grind (arith, nat_tests))
 
 pub rising_push : (p : ℕ) (qs : List Taken) (q : Taken) → Rising qs → NotAfter p qs → q.place ≡ p
     → Rising (qs ++ q ∷ [])
-rising_push p qs q rising all e =
-    rises_push (λ (r : Taken). r.place) qs q rising (all_weaker (λ r. nat_lt r.place p) (λ r. nat_le r.place q.place) qs
-    (λ r before. grind (arith, nat_tests)) all)
+rising_push p qs q rising all e = grind (arith, rises_push, all_weaker)
 
 -- what a position more at the end names
 names_more : (qs : List Taken) (q : Taken) (u : List Value) (j : ℕ)
@@ -84,13 +69,11 @@ names_more qs q u j = grind (arith, list_any-append (λ r. nat_eq r.place j && h
 
 breaks_at : (qs : List Taken) (q : Taken) (w : List Value) (s : ℕ)
     → breaks_before (qs ++ q ∷ []) w s ≡ (breaks_before qs w s || (nat_eq (q.place + 1) s && has_row q.breaks.items w))
-breaks_at qs q w s =
-    grind (arith, list_any-append (λ r. nat_eq (r.place + 1) s && has_row r.breaks.items w) qs (q ∷ []))
+breaks_at qs q w s = grind (arith, list_any-append)
 
 -- of what is there, what is weaker
 pub some_weaker : (P Q : ℕ → Type 0) (o : Option ℕ) → ((s : ℕ) → P s → Q s) → IfSome o P → IfSome o Q
-some_weaker P Q None gives is = tt
-some_weaker P Q (Some s) gives is = gives s is
+some_weaker P Q o gives is = grind arith
 
 pub names_push : (qs : List Taken) (q : Taken) (u : List Value) (es : List Entry)
     → list_all (λ e. names qs u e.place) es ≡ true → list_all (λ e. names (qs ++ q ∷ []) u e.place) es ≡ true
@@ -102,9 +85,7 @@ names_last qs q u h = grind (arith, nat_tests, names_more qs q u q.place)
 
 pub breaks_push : (qs : List Taken) (q : Taken) (w : List Value) (o : Option ℕ)
     → IfSome o (λ s. breaks_before qs w s ≡ true) → IfSome o (λ s. breaks_before (qs ++ q ∷ []) w s ≡ true)
-breaks_push qs q w o =
-    some_weaker (λ s. breaks_before qs w s ≡ true) (λ s. breaks_before (qs ++ q ∷ []) w s ≡ true) o
-    (λ s named. grind (arith, breaks_at qs q w s))
+breaks_push qs q w o = grind (arith, some_weaker, breaks_at)
 
 pub breaks_last : (qs : List Taken) (q : Taken) (w : List Value) → has_row q.breaks.items w ≡ true
     → breaks_before (qs ++ q ∷ []) w (q.place + 1) ≡ true
@@ -138,9 +119,7 @@ module _ (queue : List Taken) (q : Taken) where
 
   pub starts_kept : q.breaks.items ≡ [] → (w : List Value) (o : Option ℕ)
       → IfSome o (λ s. breaks_before (queue ++ q ∷ []) w s ≡ true) → IfSome o (λ s. breaks_before queue w s ≡ true)
-  starts_kept none w o =
-      some_weaker (λ s. breaks_before (queue ++ q ∷ []) w s ≡ true) (λ s. breaks_before queue w s ≡ true) o
-      (λ s named. grind (arith, breaks_at queue q w s))
+  starts_kept none w o = grind (arith, some_weaker, breaks_at)
 
   pub all_kept : (test : Taken → Bool) → list_all test (queue ++ q ∷ []) ≡ true → list_all test queue ≡ true
   all_kept test all = grind (arith, list_all-append test queue (q ∷ []))

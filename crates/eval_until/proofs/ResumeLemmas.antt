@@ -1,23 +1,18 @@
 -- What UNTIL keeps with given starts and entries, and that maps with the same look-ups keep alike.
 use Rattle.std.proofs.Common.{◌≡◌, ℕ, ◌-◌, ◌<◌, ◌≤◌, Bool, true, false, cond, nat_eq, nat_le, nat_lt, ◌&&◌, ◌||◌, List}
-use Rattle.std.proofs.Common.{[], ◌∷◌, length, Option, Some, None, refl, sym, subst, ap, ◌∙◌, arith}
+use Rattle.std.proofs.Common.{[], ◌∷◌, length, Option, Some, refl, sym, subst, ap, ◌∙◌, arith}
 use Rattle.std.proofs.lemmas.Bool.{and_from, or_left, or_right}
 use Rattle.std.proofs.lemmas.Bool.Decides.{nat_tests}
-use Rattle.std.specs.BTreeMap.{is_at}
+use Rattle.std.specs.{BTreeMap.is_at, Option.IfSome, Option.unwrap_or}
 use Rattle.std.specs.List.{AllByRecursion, list_all, list_any}
-use Rattle.std.specs.Option.{IfSome, unwrap_or}
-use Rattle.mfotl_model.specs.Tables.{all_apart, has_row}
-use Rattle.mfotl_model.specs.Values.{row_cmp}
+use Rattle.mfotl_model.specs.{Tables.all_apart, Tables.has_row, Values.row_cmp}
 use Rattle.mfotl_model.specs.declared.value.Value.{Value}
 use Rattle.relations.specs.KeptRows.{RowsAscend, kept_for, list_for}
-use Rattle.relations.proofs.KeptLemmas.{each_kept}
-use Rattle.relations.proofs.QueueLemmas.{all_own, any_with}
-use Rattle.relations.proofs.TestLemmas.{all_weaker}
+use Rattle.relations.proofs.{KeptLemmas.each_kept, QueueLemmas.all_own, QueueLemmas.any_with, TestLemmas.all_weaker}
 use Rattle.eval_until.specs.Keeping.{Keeps, Rising, Sized, breaks_before, names}
 use Rattle.eval_until.specs.Recalled.{run_begins, is_recalled}
 use Rattle.eval_until.specs.Rules.{Ascending, NoneEmpty, PlacesAscend, StartsAbove, StartsBelow, Waiting}
-use Rattle.eval_until.specs.declared.contents.Taken.{Taken}
-use Rattle.eval_until.specs.declared.entries.Entry.{Entry}
+use Rattle.eval_until.specs.declared.{contents.Taken.Taken, entries.Entry.Entry}
 
 -- the rows name the position of each entry that is kept for a row
 named_own : (rows : List (List Value × List Entry)) (u : List Value)
@@ -63,8 +58,7 @@ starts_all p starts up all =
     (λ w s is. subst (λ (o : Option ℕ). IfSome o (λ s. p s ≡ true)) is (all w)))
 
 both_some : (P Q R : ℕ → Type 0) → ((s : ℕ) → P s → Q s → R s) → (o : Option ℕ) → IfSome o P → IfSome o Q → IfSome o R
-both_some P Q R gives None p q = tt
-both_some P Q R gives (Some s) p q = gives s p q
+both_some P Q R gives o p q = grind arith
 
 -- what is kept with these starts and entries
 pub keeps_resumed : (negated : Bool) (right : List ℕ) (pulled taken : ℕ) (starts : List (List Value × ℕ))
@@ -87,8 +81,7 @@ keeps_resumed negated right pulled taken starts rows queue apart sized some wait
       sized = sized;
       some = some;
       ascend = ascend;
-      below = λ u. all_weaker waits (λ e. nat_lt e.place taken && nat_le e.start e.place) (list_for rows u)
-          (λ e h. grind arith) (waiting u);
+      below = grind (arith, all_weaker);
       low = below;
       covered = λ u. all_weaker (λ e. is_recalled rows u e.place) (λ e. names queue u e.place) (list_for rows u)
           (λ e there. same u e.place ∙ there) (named_own rows u);
@@ -126,12 +119,7 @@ each_ascends rows up ascend = each_kept (λ u es. PlacesAscend es) rows up (λ u
 -- each row has an entry, by look-ups, and of all pairs
 pub some_found : (rows : List (List Value × List Entry)) → AllByRecursion (λ r. 0 < length r.1) rows → NoneEmpty rows
 some_found [] all u = tt
-some_found (r ∷ rs) all u = by (is_at (row_cmp u) r.0) all.0 (some_found rs all.1 u)
-  where
-    by : (b : Bool) → 0 < length r.1 → IfSome (kept_for rs u) (λ es. 0 < length es)
-        → IfSome (cond b (Some r.1) (kept_for rs u)) (λ es. 0 < length es)
-    by true here rest = here
-    by false here rest = rest
+some_found (r ∷ rs) all u = grind (arith, some_found rs all.1 u)
 
 pub each_some : (rows : List (List Value × List Entry)) → RowsAscend rows → NoneEmpty rows
     → AllByRecursion (λ r. 0 < length r.1) rows

@@ -1,22 +1,14 @@
 -- Entries of rows and starts of runs, one row of a table after another.
 use Rattle.std.proofs.Common.{◌≡◌, ℕ, zero, suc, ◌+◌, ◌<◌, ◌≤◌, Bool, true, false, cond, ◌||◌, List, [], ◌∷◌, ◌++◌}
 use Rattle.std.proofs.Common.{Option, Some, None, length, get_or, take, refl, ap, ap₂, ◌∙◌, arith}
-use Rattle.std.proofs.lemmas.Bool.Decides.{nat_tests}
-use Rattle.std.proofs.lemmas.List.{length_push}
-use Rattle.std.proofs.lemmas.Map.Keys.{IsDistinct-from_sorted}
-use Rattle.std.specs.BTreeMap.{is_at}
-use Rattle.std.specs.Cmp.{eq_by_cmp_equiv}
-use Rattle.std.specs.List.{AllByRecursion, IsDistinct}
-use Rattle.std.specs.List.Sorted.{IsStrictlySortedBy}
-use Rattle.std.specs.Map.{lookup}
-use Rattle.std.specs.Option.{unwrap_or}
-use Rattle.std.specs.Ordering.{eq_by_cmp}
-use Rattle.mfotl_model.specs.Tables.{has_row}
-use Rattle.mfotl_model.specs.Values.{row_cmp, row_total}
+use Rattle.std.proofs.{lemmas.Bool.Decides.nat_tests, lemmas.List.length_push, lemmas.Map.Keys.IsDistinct-from_sorted}
+use Rattle.std.proofs.{lemmas.Grind.common_steps}
+use Rattle.std.specs.{BTreeMap.is_at, Cmp.eq_by_cmp_equiv, List.AllByRecursion, List.IsDistinct}
+use Rattle.std.specs.{List.Sorted.IsStrictlySortedBy, Map.lookup, Ordering.eq_by_cmp}
+use Rattle.mfotl_model.specs.{Tables.has_row, Values.row_cmp, Values.row_total}
 use Rattle.mfotl_model.specs.declared.value.Value.{Value}
 use Rattle.relations.specs.KeptRows.{list_for}
-use Rattle.relations.proofs.MapLemmas.{same_row}
-use Rattle.relations.proofs.TableRows.{has_more}
+use Rattle.relations.proofs.{MapLemmas.same_row, TableRows.has_more}
 use Rattle.eval_until.specs.declared.entries.Entry.{Entry}
 use Rattle.eval_until.specs.Starts.{later_start}
 
@@ -24,9 +16,7 @@ use Rattle.eval_until.specs.Starts.{later_start}
 equals_one : (eq : List Value → List Value → Bool) (k : List Value) (rows : List (List Value)) (i : ℕ)
     (x : List Value) → AllByRecursion (λ y. eq k y ≡ false) rows → i < length rows → x ≡ get_or rows i x
     → eq k x ≡ false
-equals_one eq k [] i x none l e = absurd (omega arith)
-equals_one eq k (r ∷ rs) zero x none l e = ap (eq k) e ∙ none.0
-equals_one eq k (r ∷ rs) (suc i) x none l e = equals_one eq k rs i x none.1 (omega arith) e
+equals_one eq k rows i x none l e = grind (arith, common_steps, zero)
 
 -- of rows that are apart, those before a place lack the row there
 lacks_distinct : (rows : List (List Value)) (i : ℕ) (x : List Value) → IsDistinct (eq_by_cmp row_cmp) rows
@@ -42,8 +32,7 @@ lacks_distinct (r ∷ rs) (suc i) x apart l e =
 -- the next row of a table isn't among those before it
 pub next_lacks : (table : List (List Value)) (k : ℕ) (x : List Value) → IsStrictlySortedBy row_cmp table
     → k < length table → x ≡ get_or table k x → has_row (take k table) x ≡ false
-next_lacks table k x sorted l e =
-    lacks_distinct table k x (IsDistinct-from_sorted row_cmp table sorted) l e
+next_lacks table k x sorted l e = cc (lacks_distinct table k x (IsDistinct-from_sorted row_cmp table sorted) l e)
 
 -- one row more of the right operand's table
 pub added_more : (table : List (List Value)) (k : ℕ) (x u : List Value) (entry : List Value → Entry) (e : Entry)
@@ -67,8 +56,7 @@ pub changed_more : {X : Type 0} (h : X → X) → ((xs : X) → h (h xs) ≡ h x
     → cur ≡ cond (has_row (take k table) u) (h old) old
     → new ≡ cond (is_at (row_cmp x) u) (h cur) cur
     → new ≡ cond (has_row (take (k + 1) table) u) (h old) old
-changed_more h twice table k x u old cur new low is before step =
-    grind (arith, has_more table k x u low is, twice old)
+changed_more h twice table k x u old cur new low is before step = grind (arith, has_more table k x u low is)
 
 -- one row of a table whose items are changed, before the rest of it
 pub changed_rest : {X : Type 0} (h : X → X) → ((xs : X) → h (h xs) ≡ h xs)
@@ -130,5 +118,4 @@ some_pushed old new e is = omega (arith, ap length is, length_push old e)
 pub none_after : (row gone : List Value) (m n : List (List Value × List Entry)) → is_at (row_cmp row) gone ≡ true
     → lookup (is_at (row_cmp gone)) n ≡ cond (is_at (row_cmp row) gone) None (lookup (is_at (row_cmp gone)) m)
     → list_for n gone ≡ []
-none_after row gone m n at step =
-    ap (λ o. unwrap_or o []) (step ∙ ap (λ b. cond b None (lookup (is_at (row_cmp gone)) m)) at)
+none_after row gone m n at step = cc

@@ -1,12 +1,8 @@
 -- Sets of rows: one row more, and one row less.
 use Rattle.std.proofs.Common.{◌≡◌, Bool, true, false, cond, ◌&&◌, ◌||◌, List, [], ◌∷◌, ◌++◌, arith, ◌∙◌}
-use Rattle.std.proofs.lemmas.List.Folds.{list_any-append}
-use Rattle.std.proofs.Math.Bool.{or-false}
-use Rattle.std.specs.BTreeMap.{is_at}
-use Rattle.std.specs.Cmp.{eq_by_cmp_equiv}
-use Rattle.std.specs.Ordering.{eq_by_cmp}
-use Rattle.mfotl_model.specs.Tables.{has_row}
-use Rattle.mfotl_model.specs.Values.{row_cmp, row_total}
+use Rattle.std.proofs.{lemmas.List.Folds.list_any-append, Math.Bool.or-false}
+use Rattle.std.specs.{BTreeMap.is_at, Cmp.eq_by_cmp_equiv, Ordering.eq_by_cmp}
+use Rattle.mfotl_model.specs.{Tables.has_row, Values.row_cmp, Values.row_total}
 use Rattle.mfotl_model.specs.declared.value.Value.{Value}
 use Rattle.relations.proofs.MapLemmas.{same_row}
 
@@ -32,8 +28,7 @@ other_stays first row u apart = grind (arith, one_row first u, same_row row u)
 -- a row that passes was appended
 pub pass_pushed : (p : List Value → Bool) (out : List (List Value)) (row u : List Value) → p row ≡ true
     → has_row (out ++ row ∷ []) u ≡ (has_row out u || (is_at (row_cmp u) row && p u))
-pass_pushed p out row u passes =
-    grind (arith, list_any-append (eq_by_cmp row_cmp u) out (row ∷ []), same_row u row)
+pass_pushed p out row u passes = grind (arith, list_any-append, same_row)
 
 -- a row that doesn't pass wasn't
 pub fail_left : (p : List Value → Bool) (out : List (List Value)) (row u : List Value) → p row ≡ false

@@ -1,12 +1,8 @@
 -- Starts of runs where one has no others beside it.
 use Rattle.std.proofs.Common.{◌≡◌, ℕ, true, false, cond, List, [], ◌∷◌, Some, None, length, get_or, sym, ap, ◌∙◌, arith}
 use Rattle.std.proofs.Math.Bool.{or-false}
-use Rattle.std.specs.BTreeMap.{is_at}
-use Rattle.std.specs.Cmp.{eq_by_cmp_equiv}
-use Rattle.std.specs.List.{IsDistinct}
-use Rattle.std.specs.Option.{unwrap_or}
-use Rattle.mfotl_model.specs.Tables.{has_row}
-use Rattle.mfotl_model.specs.Values.{row_cmp, row_total}
+use Rattle.std.specs.{BTreeMap.is_at, Cmp.eq_by_cmp_equiv, List.IsDistinct, Option.unwrap_or}
+use Rattle.mfotl_model.specs.{Tables.has_row, Values.row_cmp, Values.row_total}
 use Rattle.mfotl_model.specs.declared.value.Value.{Value}
 use Rattle.relations.specs.KeptRows.{RowsDiffer, kept_for}
 use Rattle.relations.proofs.MapLemmas.{same_row}
@@ -24,8 +20,7 @@ one_found row w s = ap (λ b. cond b (Some s) None) ((eq_by_cmp_equiv row_total)
 -- the one start, put where there was none
 pub one_put : (row w : List Value) (s : ℕ) (none : List (List Value × ℕ)) → none ≡ []
     → kept_for ((row, s) ∷ []) w ≡ cond (is_at (row_cmp row) w) (Some s) (kept_for none w)
-one_put row w s none e = one_found row w s
-    ∙ ap (λ es. cond (is_at (row_cmp row) w) (Some s) (kept_for es w)) (sym e)
+one_put row w s none e = cc (one_found row w s)
 
 -- the one start, removed
 pub one_removed : (row lone w : List Value) (s : ℕ) (none : List (List Value × ℕ)) → none ≡ []

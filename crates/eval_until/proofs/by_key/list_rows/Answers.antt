@@ -1,11 +1,7 @@
 use Rattle.std.proofs.Common.{arith, take, ◌∙◌, ◌≡◌, true}
-use Rattle.std.specs.Option.{is_some}
-use Rattle.std.specs.BTreeMap.{is_at}
-use Rattle.std.specs.Map.{lookup}
-use Rattle.std.proofs.lemmas.Bool.{or_left}
-use Rattle.std.proofs.lemmas.Grind.{common_steps}
-use Rattle.mfotl_model.specs.Tables.{has_row}
-use Rattle.mfotl_model.specs.Values.{row_cmp}
+use Rattle.std.specs.{Option.is_some, BTreeMap.is_at, Map.lookup}
+use Rattle.std.proofs.{lemmas.Bool.or_left, lemmas.Grind.common_steps}
+use Rattle.mfotl_model.specs.{Tables.has_row, Values.row_cmp}
 use Rattle.eval_until.specs.ByKey.{is_listed}
 use Rattle.eval_until.proofs.ByKeyLemmas.{kept_listed, list_more, list_same}
 use Rattle.eval_until.proofs.by_key.list_rows.Goals as goal

@@ -1,9 +1,7 @@
 use Rattle.std.proofs.lemmas.Grind.{common_steps}
 use Rattle.std.proofs.Common.{Some, true, arith, refl, ap₂, ◌∙◌}
-use Rattle.std.specs.BTreeMap.{is_at}
-use Rattle.std.specs.Option.{unwrap_or}
-use Rattle.mfotl_model.specs.Tables.{has_row}
-use Rattle.mfotl_model.specs.Values.{row_cmp}
+use Rattle.std.specs.{BTreeMap.is_at, Option.unwrap_or}
+use Rattle.mfotl_model.specs.{Tables.has_row, Values.row_cmp}
 use Rattle.eval_until.proofs.ByKeyLemmas.{changed_set, or_cond}
 use Rattle.eval_until.proofs.by_key.put_in.Goals as goal
 

@@ -1,10 +1,7 @@
 use Rattle.std.proofs.Common.{◌≡◌, ◌||◌, ℕ, List, [], ◌∷◌, length, nat_eq, rules, sym, ap, ◌∙◌}
-use Rattle.std.proofs.lemmas.Bool.{or_left}
-use Rattle.std.proofs.Math.Bool.{or-false}
-use Rattle.std.specs.List.{list_any}
-use Rattle.std.specs.Ordering.{eq_by_cmp}
-use Rattle.mfotl_model.specs.Tables.{has_row, part}
-use Rattle.mfotl_model.specs.Values.{row_cmp}
+use Rattle.std.proofs.{lemmas.Bool.or_left, Math.Bool.or-false}
+use Rattle.std.specs.{List.list_any, Ordering.eq_by_cmp}
+use Rattle.mfotl_model.specs.{Tables.has_row, Tables.part, Values.row_cmp}
 use Rattle.mfotl_model.specs.declared.value.Value.{Value}
 use Rattle.relations.specs.KeptRows.{list_for}
 use Rattle.eval_until.specs.ByKey.{is_listed}

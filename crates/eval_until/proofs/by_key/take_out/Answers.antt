@@ -1,11 +1,8 @@
 use Rattle.std.proofs.lemmas.Grind.{common_steps}
 use Rattle.std.proofs.Common.{◌≡◌, [], Some, None, false, arith, refl, sym, ap, ◌∙◌}
-use Rattle.std.specs.BTreeMap.{is_at}
-use Rattle.std.specs.Map.{lookup}
-use Rattle.std.specs.Option.{unwrap_or}
+use Rattle.std.specs.{BTreeMap.is_at, Map.lookup, Option.unwrap_or}
 use Rattle.mfotl_model.specs.Values.{row_cmp}
-use Rattle.relations.proofs.KeptLemmas.{empty_list}
-use Rattle.relations.proofs.MapLemmas.{nothing_there}
+use Rattle.relations.proofs.{KeptLemmas.empty_list, MapLemmas.nothing_there}
 use Rattle.eval_until.proofs.ByKeyLemmas.{changed_set, none_out}
 use Rattle.eval_until.proofs.by_key.take_out.Goals as goal
 

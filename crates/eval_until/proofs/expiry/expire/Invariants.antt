@@ -1,9 +1,8 @@
 use Rattle.std.proofs.Common.{◌≡◌, ℕ, List, true, length}
 use Rattle.mfotl_model.specs.declared.value.Value.{Value}
 use Rattle.relations.specs.KeptRows.{kept_for, list_for}
-use Rattle.eval_until.specs.ByKey.{Listed}
+use Rattle.eval_until.specs.{ByKey.Listed, Rules.NoneEmpty}
 use Rattle.eval_until.specs.Keeping.{Covered, CoveredStarts, IsLater, IsThinned, NotAfter, Rising}
-use Rattle.eval_until.specs.Rules.{NoneEmpty}
 use Rattle.eval_until.proofs.expiry.expire.Given as goal
 
 abbrev pub invariant-loop-front : goal.invariant-loop-front

@@ -2,8 +2,7 @@ use Rattle.std.proofs.Common.{◌+◌, ◌&&◌, nat_eq, sym, rules}
 use Rattle.std.proofs.lemmas.List.Sorted.{IsNonDecreasingBy-from_sort_by_key, list_any-IsPermutation}
 use Rattle.mfotl_model.specs.Tables.{has_row}
 use Rattle.eval_until.specs.declared.contents.Taken.{Taken}
-use Rattle.relations.proofs.QueueLemmas.{rises_from}
-use Rattle.relations.proofs.TestLemmas.{all_moved}
+use Rattle.relations.proofs.{QueueLemmas.rises_from, TestLemmas.all_moved}
 use Rattle.eval_until.proofs.rebuild.in_order.Goals as goal
 
 pub returns-clause-names : goal.returns-clause-names

@@ -3,10 +3,8 @@ use Rattle.std.proofs.Math.Bool.{or_assoc, and_assoc, and-true}
 use Rattle.std.specs.List.{list_all, list_any}
 use Rattle.mfotl_model.specs.Tables.{has_row}
 use Rattle.mfotl_model.specs.declared.value.Value.{Value}
-use Rattle.eval_until.specs.Keeping.{names}
-use Rattle.eval_until.specs.Recalled.{is_recalled}
-use Rattle.eval_until.specs.declared.contents.Taken.{Taken}
-use Rattle.eval_until.specs.declared.entries.Entry.{Entry}
+use Rattle.eval_until.specs.{Keeping.names, Recalled.is_recalled}
+use Rattle.eval_until.specs.declared.{contents.Taken.Taken, entries.Entry.Entry}
 use Rattle.eval_until.proofs.rebuild.push_rows.Goals as goal
 
 pub loop-row-preserved : goal.loop-row-preserved

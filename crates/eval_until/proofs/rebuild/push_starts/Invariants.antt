@@ -1,8 +1,7 @@
 use Rattle.std.proofs.Common.{◌≡◌, ℕ, Bool, ◌&&◌, ◌||◌, ◌-◌, List}
 use Rattle.std.specs.List.{list_all}
 use Rattle.mfotl_model.specs.declared.value.Value.{Value}
-use Rattle.eval_until.specs.Keeping.{breaks_before, names}
-use Rattle.eval_until.specs.Recalled.{run_begins}
+use Rattle.eval_until.specs.{Keeping.breaks_before, Keeping.names, Recalled.run_begins}
 use Rattle.eval_until.specs.declared.contents.Taken.{Taken}
 use Rattle.eval_until.proofs.rebuild.push_starts.Given as goal
 

@@ -2,8 +2,7 @@ use Rattle.std.proofs.Common.{◌≡◌, List, None}
 use Rattle.std.specs.List.{AllByRecursion}
 use Rattle.mfotl_model.specs.declared.value.Value.{Value}
 use Rattle.relations.specs.KeptRows.{RowsAscend, kept_for, last_for}
-use Rattle.eval_until.specs.Recalled.{entries_kept}
-use Rattle.eval_until.specs.Rules.{PlacesAscend}
+use Rattle.eval_until.specs.{Recalled.entries_kept, Rules.PlacesAscend}
 use Rattle.eval_until.specs.declared.entries.Entry.{Entry}
 use Rattle.eval_until.proofs.rebuild.rows_map.Given as goal
 

@@ -1,8 +1,7 @@
 use Rattle.std.proofs.lemmas.Grind.{common_steps}
 use Rattle.std.proofs.Common.{arith, ◌<◌, [], ◌∷◌, ◌++◌, length, Some, List, ap, ap₂, ◌∙◌}
 use Rattle.std.specs.Option.{unwrap_or}
-use Rattle.relations.proofs.KeptLemmas.{each_after}
-use Rattle.relations.proofs.MapLemmas.{changed}
+use Rattle.relations.proofs.{KeptLemmas.each_after, MapLemmas.changed}
 use Rattle.eval_until.specs.declared.entries.Entry.{Entry}
 use Rattle.eval_until.proofs.RowsLemmas.{some_pushed}
 use Rattle.eval_until.proofs.row_entries.add_entry.Goals as goal

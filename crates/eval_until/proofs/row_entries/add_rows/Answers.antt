@@ -3,8 +3,7 @@ use Rattle.mfotl_model.specs.Tables.{part}
 use Rattle.mfotl_model.specs.declared.value.Value.{Value}
 use Rattle.relations.specs.KeptRows.{list_for}
 use Rattle.eval_until.specs.declared.entries.Entry.{Entry}
-use Rattle.eval_until.specs.Rules.{all_before}
-use Rattle.eval_until.specs.Starts.{start_of}
+use Rattle.eval_until.specs.{Rules.all_before, Starts.start_of}
 use Rattle.eval_until.proofs.RowsLemmas.{added_more, next_lacks, still_old}
 use Rattle.eval_until.proofs.row_entries.add_rows.Goals as goal
 

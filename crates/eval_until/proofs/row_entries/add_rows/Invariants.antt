@@ -2,8 +2,7 @@ use Rattle.std.proofs.Common.{◌≡◌, ◌∷◌, ◌++◌, [], List, cond, ta
 use Rattle.mfotl_model.specs.Tables.{has_row, part}
 use Rattle.mfotl_model.specs.declared.value.Value.{Value}
 use Rattle.relations.specs.KeptRows.{list_for}
-use Rattle.eval_until.specs.Rules.{NoneEmpty}
-use Rattle.eval_until.specs.Starts.{start_of}
+use Rattle.eval_until.specs.{Rules.NoneEmpty, Starts.start_of}
 use Rattle.eval_until.proofs.row_entries.add_rows.Given as goal
 
 abbrev pub invariant-loop-row : goal.invariant-loop-row

@@ -1,15 +1,12 @@
 use Rattle.std.proofs.lemmas.Grind.{common_steps}
 use Rattle.std.proofs.Common.{◌≡◌, ◌<◌, List, [], length, Some, None, true, arith, sym, ap, ◌∙◌}
-use Rattle.std.specs.Map.{lookup}
-use Rattle.std.specs.BTreeMap.{is_at}
-use Rattle.std.specs.Option.{unwrap_or}
+use Rattle.std.specs.{Map.lookup, BTreeMap.is_at, Option.unwrap_or}
 use Rattle.mfotl_model.specs.Values.{row_cmp}
 use Rattle.relations.proofs.KeptLemmas.{each_after, empty_list, not_empty}
 use Rattle.relations.proofs.MapLemmas.{changed, nothing_there}
 use Rattle.eval_until.specs.Entries.{from_place}
 use Rattle.eval_until.specs.declared.entries.Entry.{Entry}
-use Rattle.eval_until.proofs.EntriesLemmas.{from_none}
-use Rattle.eval_until.proofs.RowsLemmas.{none_after}
+use Rattle.eval_until.proofs.{EntriesLemmas.from_none, RowsLemmas.none_after}
 use Rattle.eval_until.proofs.row_entries.forget_row.Goals as goal
 
 pub returns-in-Err-clause-entries : goal.returns-in-Err-clause-entries

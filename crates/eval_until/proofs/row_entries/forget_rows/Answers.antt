@@ -1,12 +1,9 @@
 use Rattle.std.proofs.Common.{rules, ◌≡◌, ◌∷◌, cond, sym, ap, ◌∙◌}
-use Rattle.mfotl_model.specs.Tables.{has_row}
+use Rattle.mfotl_model.specs.{Tables.has_row, Values.row_cmp}
 use Rattle.eval_until.specs.Entries.{from_place}
 use Rattle.std.specs.BTreeMap.{is_at}
-use Rattle.mfotl_model.specs.Values.{row_cmp}
 use Rattle.relations.specs.KeptRows.{list_for}
-use Rattle.eval_until.proofs.ByKeyLemmas.{listed_thinned}
-use Rattle.eval_until.proofs.EntriesLemmas.{from_twice}
-use Rattle.eval_until.proofs.RowsLemmas.{changed_rest}
+use Rattle.eval_until.proofs.{ByKeyLemmas.listed_thinned, EntriesLemmas.from_twice, RowsLemmas.changed_rest}
 use Rattle.eval_until.proofs.row_entries.forget_rows.Goals as goal
 
 pub loop-row-preserved : goal.loop-row-preserved

@@ -2,9 +2,7 @@ use Rattle.std.proofs.Common.{◌≡◌, List, cond}
 use Rattle.mfotl_model.specs.Tables.{has_row}
 use Rattle.mfotl_model.specs.declared.value.Value.{Value}
 use Rattle.relations.specs.KeptRows.{list_for}
-use Rattle.eval_until.specs.ByKey.{Listed}
-use Rattle.eval_until.specs.Entries.{from_place}
-use Rattle.eval_until.specs.Rules.{NoneEmpty}
+use Rattle.eval_until.specs.{ByKey.Listed, Entries.from_place, Rules.NoneEmpty}
 use Rattle.eval_until.proofs.row_entries.forget_rows.Given as goal
 
 abbrev pub invariant-loop-row : goal.invariant-loop-row

@@ -1,8 +1,6 @@
 use Rattle.std.proofs.Common.{◌≡◌, ◌||◌, ◌&&◌, List}
-use Rattle.std.specs.List.{list_any}
-use Rattle.std.specs.Ordering.{eq_by_cmp}
-use Rattle.mfotl_model.specs.Tables.{has_row}
-use Rattle.mfotl_model.specs.Values.{row_cmp}
+use Rattle.std.specs.{List.list_any, Ordering.eq_by_cmp}
+use Rattle.mfotl_model.specs.{Tables.has_row, Values.row_cmp}
 use Rattle.mfotl_model.specs.declared.value.Value.{Value}
 use Rattle.eval_until.specs.Entries.{met_by}
 use Rattle.eval_until.proofs.row_entries.push_met.Given as goal

@@ -1,8 +1,6 @@
 use Rattle.std.proofs.Common.{◌≡◌, ◌||◌, ◌&&◌, List}
-use Rattle.std.specs.BTreeMap.{is_at}
-use Rattle.std.specs.List.{list_any}
-use Rattle.mfotl_model.specs.Tables.{has_row}
-use Rattle.mfotl_model.specs.Values.{row_cmp}
+use Rattle.std.specs.{BTreeMap.is_at, List.list_any}
+use Rattle.mfotl_model.specs.{Tables.has_row, Values.row_cmp}
 use Rattle.mfotl_model.specs.declared.value.Value.{Value}
 use Rattle.relations.specs.KeptRows.{list_for}
 use Rattle.eval_until.specs.Entries.{met_by}

@@ -1,6 +1,5 @@
 use Rattle.std.proofs.Common.{sym, subst, ap, ◌∙◌, drop}
-use Rattle.eval_until.specs.Entries.{from_place}
-use Rattle.eval_until.specs.Rules.{PlacesAscend}
+use Rattle.eval_until.specs.{Entries.from_place, Rules.PlacesAscend}
 use Rattle.eval_until.proofs.EntriesLemmas.{ascend_rest, from_front, from_here, from_none}
 use Rattle.eval_until.proofs.entries.Entries.forget.Goals as goal
 

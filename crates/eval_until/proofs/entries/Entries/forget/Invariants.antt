@@ -1,6 +1,5 @@
 use Rattle.std.proofs.Common.{◌≡◌, length}
-use Rattle.eval_until.specs.Entries.{from_place}
-use Rattle.eval_until.specs.Rules.{PlacesAscend}
+use Rattle.eval_until.specs.{Entries.from_place, Rules.PlacesAscend}
 use Rattle.eval_until.proofs.entries.Entries.forget.Given as goal
 
 abbrev pub invariant-loop-first : goal.invariant-loop-first

@@ -1,9 +1,7 @@
 use Rattle.std.proofs.Common.{◌≡◌, ◌&&◌, [], drop, sym, ap, ◌∙◌, arith}
-use Rattle.std.proofs.lemmas.List.{drop_all}
-use Rattle.std.proofs.Math.Bool.{and-true}
+use Rattle.std.proofs.{lemmas.List.drop_all, Math.Bool.and-true}
 use Rattle.std.specs.List.{list_all}
-use Rattle.eval_until.specs.declared.contents.Taken.{Taken}
-use Rattle.eval_until.specs.declared.entries.Entry.{Entry}
+use Rattle.eval_until.specs.declared.{contents.Taken.Taken, entries.Entry.Entry}
 use Rattle.eval_until.proofs.entries.Entries.push_taken.Goals as goal
 
 pub returns-clause-all : goal.returns-clause-all

@@ -3,8 +3,7 @@ use Rattle.std.specs.List.{list_all, list_any}
 use Rattle.mfotl_model.specs.Tables.{has_row}
 use Rattle.mfotl_model.specs.declared.value.Value.{Value}
 use Rattle.eval_until.specs.Keeping.{breaks_before, names}
-use Rattle.eval_until.specs.declared.contents.Taken.{Taken}
-use Rattle.eval_until.specs.declared.entries.Entry.{Entry}
+use Rattle.eval_until.specs.declared.{contents.Taken.Taken, entries.Entry.Entry}
 use Rattle.eval_until.proofs.entries.Entries.push_taken.Given as goal
 
 abbrev pub invariant-loop-k : goal.invariant-loop-k

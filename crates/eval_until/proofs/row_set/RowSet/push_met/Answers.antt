@@ -2,8 +2,7 @@ use Rattle.std.proofs.Common.{◌||◌, ap, ◌∙◌}
 use Rattle.std.proofs.lemmas.Result.{on_ok_weaker}
 use Rattle.std.specs.BTreeMap.{is_at}
 use Rattle.mfotl_model.proofs.RowLemmas.{any_and_last}
-use Rattle.mfotl_model.specs.Tables.{has_row}
-use Rattle.mfotl_model.specs.Values.{row_cmp}
+use Rattle.mfotl_model.specs.{Tables.has_row, Values.row_cmp}
 use Rattle.relations.specs.KeptRows.{list_for}
 use Rattle.eval_until.specs.Entries.{met_by}
 use Rattle.eval_until.proofs.row_set.RowSet.push_met.Goals as goal
