@@ -1,23 +1,18 @@
 -- The plain data of a state is right where the state is, and the state that is resumed from it where the data is.
-use Rattle.std.proofs.Common.{◌≡◌, ℕ, suc, ◌+◌, ◌-◌, ◌≤◌, Bool, true, List, [], ◌∷◌, length, map, Some, sym, subst}
-use Rattle.std.proofs.Common.{ap, ◌∙◌, slice_get, arith}
-use Rattle.mfotl_model.specs.Satisfaction.{Valuation, truth_at}
+use Rattle.std.proofs.Common.{◌≡◌, ℕ, suc, ◌+◌, ◌-◌, ◌≤◌, Bool, true, List, [], ◌∷◌, length, map, Some, sym, subst, ap}
+use Rattle.std.proofs.Common.{◌∙◌, slice_get, arith}
+use Rattle.mfotl_model.specs.{Satisfaction.Valuation, Satisfaction.truth_at, Times.Climbs}
 use Rattle.mfotl_model.specs.Tables.{TableOf, all_among, has, has_row, part}
-use Rattle.mfotl_model.specs.Times.{Climbs}
-use Rattle.mfotl_model.specs.declared.interval.Interval.{Interval}
-use Rattle.mfotl_model.specs.declared.value.Value.{Value}
+use Rattle.mfotl_model.specs.declared.{interval.Interval.Interval, value.Value.Value}
 use Rattle.relations.specs.KeptRows.{RowsAscend}
 use Rattle.relations.specs.Pushed.{AreOver, StandFrom, left_holds}
-use Rattle.eval_since.specs.LeftOperand.{left_has}
+use Rattle.eval_since.specs.{LeftOperand.left_has, SinceBefore.since_before, SinceView.Follows, SinceView.SinceOf}
+use Rattle.eval_since.specs.{Times.reaches}
 use Rattle.eval_since.specs.Recalled.{recalls, times_for, times_kept}
-use Rattle.eval_since.specs.SinceBefore.{since_before}
 use Rattle.eval_since.specs.SinceData.{FollowsData, newest_of, setting_of}
-use Rattle.eval_since.specs.SinceView.{Follows, SinceOf}
-use Rattle.eval_since.specs.Times.{reaches}
 use Rattle.eval_since.specs.WindowView.{WindowOf, kept_times, within}
 use Rattle.eval_since.specs.declared.recalled.SinceData.{SinceData}
-use Rattle.eval_since.proofs.FollowsLemmas.{left_of, right_of}
-use Rattle.eval_since.proofs.RecalledLemmas.{recalls_is}
+use Rattle.eval_since.proofs.{FollowsLemmas.left_of, FollowsLemmas.right_of, RecalledLemmas.recalls_is}
 
 -- the last time is the newest
 pub newest_is : (past : ℕ) (ts : List ℕ) (y : ℕ) → Some y ≡ slice_get ts (length ts - 1) → y ≡ newest_of past ts

@@ -1,17 +1,13 @@
 -- The queue made of the rows of plain data: it finds each of their times, the earliest first.
-use Rattle.std.proofs.Common.{◌≡◌, ℕ, suc, ◌≤◌, Bool, true, false, cond, nat_eq, nat_le, ◌&&◌, List, []}
-use Rattle.std.proofs.Common.{◌∷◌, Some, refl, arith}
-use Rattle.std.proofs.lemmas.Bool.{or_left, or_right}
-use Rattle.std.proofs.lemmas.Bool.Decides.{nat_tests}
-use Rattle.std.specs.BTreeMap.{is_at}
+use Rattle.std.proofs.Common.{◌≡◌, ℕ, suc, Bool, true, false, cond, nat_eq, nat_le, ◌&&◌, List, [], ◌∷◌, Some, refl}
+use Rattle.std.proofs.Common.{arith}
+use Rattle.std.proofs.{lemmas.Bool.or_left, lemmas.Bool.or_right, lemmas.Bool.Decides.nat_tests}
+use Rattle.std.specs.{BTreeMap.is_at, Option.unwrap_or}
 use Rattle.std.specs.List.{AllByRecursion, list_all, list_any}
-use Rattle.std.specs.Option.{unwrap_or}
-use Rattle.mfotl_model.specs.Tables.{has_row}
-use Rattle.mfotl_model.specs.Values.{row_cmp}
+use Rattle.mfotl_model.specs.{Tables.has_row, Values.row_cmp}
 use Rattle.mfotl_model.specs.declared.value.Value.{Value}
 use Rattle.relations.specs.KeptRows.{kept_for}
-use Rattle.relations.proofs.QueueLemmas.{all_own, any_with}
-use Rattle.relations.proofs.TestLemmas.{all_weaker}
+use Rattle.relations.proofs.{QueueLemmas.all_own, QueueLemmas.any_with, TestLemmas.all_weaker}
 use Rattle.eval_since.specs.Recalled.{is_recalled, times_for, times_kept}
 use Rattle.eval_since.specs.Times.{ArePast}
 use Rattle.eval_since.specs.declared.recalled.KeptRow.{KeptRow}

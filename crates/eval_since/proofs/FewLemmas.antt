@@ -1,16 +1,12 @@
 -- Rows that are looked at in turn: where one is found, and what a change at its place leaves.
-use Rattle.std.proofs.Common.{◌≡◌, ℕ, zero, suc, ◌+◌, ◌<◌, ◌≤◌, Bool, true, false, not, cond}
-use Rattle.std.proofs.Common.{List, [], ◌∷◌, ◌++◌, length, get_or, set}
-use Rattle.std.proofs.Common.{Option, Some, None, refl, sym, subst, ap, ◌∙◌, arith}
-use Rattle.std.proofs.lemmas.Grind.{common_steps}
+use Rattle.std.proofs.Common.{◌≡◌, ℕ, zero, suc, ◌+◌, ◌<◌, ◌≤◌, Bool, true, false, not, cond, List, [], ◌∷◌, ◌++◌}
+use Rattle.std.proofs.Common.{length, get_or, set, Some, None, refl, sym, subst, ap, ◌∙◌, arith}
+use Rattle.std.proofs.{lemmas.Grind.common_steps, lemmas.Map.Keys.IsDistinct-push}
 use Rattle.std.proofs.lemmas.Map.{lookup-remove_entry, lookup-set_value, keys-set_value}
-use Rattle.std.proofs.lemmas.Map.Keys.{IsDistinct-push}
-use Rattle.std.specs.BTreeMap.{is_at}
-use Rattle.std.specs.Cmp.{eq_by_cmp_equiv}
+use Rattle.std.specs.{BTreeMap.is_at, Cmp.eq_by_cmp_equiv, Ordering.eq_by_cmp}
 use Rattle.std.specs.List.{AllByRecursion, IsDistinct, list_any, position, position_or_len, remove}
 use Rattle.std.specs.Map.{keys_of, remove_entry, set_value}
 use Rattle.std.specs.Option.{IsSome, is_some, unwrap_or}
-use Rattle.std.specs.Ordering.{eq_by_cmp}
 use Rattle.mfotl_model.specs.Values.{row_cmp, row_total}
 use Rattle.mfotl_model.specs.declared.value.Value.{Value}
 use Rattle.relations.proofs.KeptLemmas.{differ_tail, each_after, none_behind}
@@ -39,8 +35,7 @@ module _ {X : Type 0} (row : List Value) where
       by : (b : Bool) → is_at (row_cmp row) e.0 ≡ b → P i
       by true is = subst P (sym (ap (λ c. cond (not c) (1 + position_or_len is_its es) 0) is) ∙ at.0) (here is)
       by false is =
-          let next : 1 + position_or_len is_its es ≡ i =
-          sym (ap (λ c. cond (not c) (1 + position_or_len is_its es) 0) is) ∙ at.0 in
+          let next : 1 + position_or_len is_its es ≡ i = cc in
           let p : suc (position_or_len is_its es) ≡ i = omega arith in
           let within : i < suc (length es) = at.1 in
           subst P p (behind is (position_or_len is_its es) (refl, omega arith))
@@ -69,11 +64,7 @@ module _ {X : Type 0} (row : List Value) where
 
   -- it has a place where something is kept for it
   pub placed : (es : List (List Value × X)) → is_some (position is_its es) ≡ is_some (kept_for es row)
-  placed es = by (position is_its es) refl
-    where
-      by : (o : Option ℕ) → position is_its es ≡ o → is_some o ≡ is_some (kept_for es row)
-      by None e = sym (ap is_some (absent es e))
-      by (Some i) e = sym (some_there es i (place_is es i e))
+  placed es = grind (arith, absent, some_there, place_is)
 
   -- ---- after another value at its place
   written_is : (es : List (List Value × X)) (i : ℕ) (d : List Value × X) (w : X) → IsPlace es i
@@ -96,9 +87,7 @@ module _ {X : Type 0} (row : List Value) where
 
   pub written_differ : (es : List (List Value × X)) (i : ℕ) (e : List Value × X) (w : X)
       → position is_its es ≡ Some i → e ≡ get_or es i e → RowsDiffer es → RowsDiffer (set es i (e.0, w))
-  written_differ es i e w at is =
-      subst (IsDistinct (eq_by_cmp row_cmp)) (sym (ap keys_of (as_written es i e w at is)
-      ∙ keys-set_value (is_at (row_cmp row)) es w))
+  written_differ es i e w at is = search (as_written, keys-set_value)
 
   -- ---- without it
   removed_is : (es : List (List Value × X)) (i : ℕ) → IsPlace es i
@@ -110,9 +99,7 @@ module _ {X : Type 0} (row : List Value) where
 
   -- what was written where it stood is gone too
   unwritten : (es : List (List Value × X)) (i : ℕ) (e : List Value × X) → remove (set es i e) i ≡ remove es i
-  unwritten [] i e = refl
-  unwritten (d ∷ es) zero e = refl
-  unwritten (d ∷ es) (suc i) e = ap (λ fs. d ∷ fs) (unwritten es i e)
+  unwritten es i e = grind (arith, common_steps, zero)
 
   removed : (es : List (List Value × X)) (i : ℕ) (e : List Value × X) → position is_its es ≡ Some i
       → RowsDiffer es → (v : List Value)
@@ -124,10 +111,7 @@ module _ {X : Type 0} (row : List Value) where
   each_left : (P : List Value → Type 0) (es : List (List Value × X)) → AllByRecursion P (keys_of es)
       → AllByRecursion P (keys_of (remove_entry (is_at (row_cmp row)) es))
   each_left P [] all = tt
-  each_left P (e ∷ es) all =
-      let rest = each_left P es all.1 in
-      either (λ fs. AllByRecursion P (keys_of fs)) (is_at (row_cmp row) e.0) es
-      (e ∷ remove_entry (is_at (row_cmp row)) es) (remove_entry (is_at (row_cmp row)) (e ∷ es)) refl all.1 (all.0, rest)
+  each_left P (e ∷ es) all = grind (arith, either, each_left P es all.1)
 
   differ_left : (es : List (List Value × X)) → RowsDiffer es → RowsDiffer (remove_entry (is_at (row_cmp row)) es)
   unfolding IsDistinct
@@ -140,8 +124,7 @@ module _ {X : Type 0} (row : List Value) where
 
   pub removed_differ : (es : List (List Value × X)) (i : ℕ) (e : List Value × X) → position is_its es ≡ Some i
       → RowsDiffer es → RowsDiffer (remove (set es i e) i)
-  removed_differ es i e at apart =
-      subst RowsDiffer (sym (unwritten es i e ∙ removed_is es i (place_is es i at))) (differ_left es apart)
+  removed_differ es i e at apart = search (unwritten, removed_is, place_is, differ_left)
 
   -- ---- with it behind the others, where it isn't there
   pushed : (es : List (List Value × X)) (w : X) → kept_for es row ≡ None → (v : List Value)
@@ -155,8 +138,7 @@ module _ {X : Type 0} (row : List Value) where
   none_equal (e ∷ es) none = grind (arith, none_equal es)
 
   keys_pushed : (es : List (List Value × X)) (w : X) → keys_of (es ++ (row, w) ∷ []) ≡ keys_of es ++ row ∷ []
-  keys_pushed [] w = refl
-  keys_pushed (e ∷ es) w = ap (λ ks. e.0 ∷ ks) (keys_pushed es w)
+  keys_pushed es w = grind (arith, common_steps)
 
   pub pushed_differ : (es : List (List Value × X)) (w : X) → position is_its es ≡ None → RowsDiffer es
       → RowsDiffer (es ++ (row, w) ∷ [])
@@ -176,39 +158,30 @@ module _ (row : List Value) where
   pub list_written : (h : List ℕ → List ℕ) (es : List (List Value × List ℕ)) (i : ℕ) (e : List Value × List ℕ)
       (w : List ℕ) → position (is_its row) es ≡ Some i → e ≡ get_or es i e → w ≡ h e.1 → (v : List Value)
       → list_for (set es i (e.0, w)) v ≡ cond (is_at (row_cmp row) v) (h (list_for es v)) (list_for es v)
-  list_written h es i e w at is gives v =
-      changed [] h row v es (set es i (e.0, w)) (Some w) (written row es i e w at is v)
-      (gives ∙ ap h (sym (own_list es i e at is)))
+  list_written h es i e w at is gives v = grind (arith, changed, written row es i e w, own_list es i e)
 
   pub some_written : (es : List (List Value × List ℕ)) (i : ℕ) (e : List Value × List ℕ) (w : List ℕ)
       → position (is_its row) es ≡ Some i → e ≡ get_or es i e → 0 < length w → HaveTimes es
       → HaveTimes (set es i (e.0, w))
-  some_written es i e w at is = each_after (λ ts. 0 < length ts) row es (set es i (e.0, w)) (Some w)
-      (written row es i e w at is)
+  some_written es i e w at is = grind (arith, each_after, written)
 
   pub list_removed : (h : List ℕ → List ℕ) (es : List (List Value × List ℕ)) (i : ℕ) (e d : List Value × List ℕ)
       → position (is_its row) es ≡ Some i → e ≡ get_or es i e → RowsDiffer es → [] ≡ h e.1 → (v : List Value)
       → list_for (remove (set es i d) i) v ≡ cond (is_at (row_cmp row) v) (h (list_for es v)) (list_for es v)
-  list_removed h es i e d at is apart gives v =
-      changed [] h row v es (remove (set es i d) i) None (removed row es i d at apart v)
-      (gives ∙ ap h (sym (own_list es i e at is)))
+  list_removed h es i e d at is apart gives v = grind (arith, changed, removed row es i d, own_list es i e)
 
   pub some_removed : (es : List (List Value × List ℕ)) (i : ℕ) (d : List Value × List ℕ)
       → position (is_its row) es ≡ Some i → RowsDiffer es → HaveTimes es → HaveTimes (remove (set es i d) i)
-  some_removed es i d at apart = each_after (λ ts. 0 < length ts) row es (remove (set es i d) i) None
-      (removed row es i d at apart) tt
+  some_removed es i d at apart = grind (arith, each_after, removed)
 
   pub list_pushed : (h : List ℕ → List ℕ) (es : List (List Value × List ℕ)) (w : List ℕ)
       → position (is_its row) es ≡ None → w ≡ h [] → (v : List Value)
       → list_for (es ++ (row, w) ∷ []) v ≡ cond (is_at (row_cmp row) v) (h (list_for es v)) (list_for es v)
-  list_pushed h es w none gives v =
-      changed [] h row v es (es ++ (row, w) ∷ []) (Some w) (pushed row es w (absent row es none) v)
-      (gives ∙ ap h (sym (no_list es none)))
+  list_pushed h es w none gives v = grind (arith, changed, pushed, absent, no_list)
 
   pub some_pushed : (es : List (List Value × List ℕ)) (w : List ℕ) → position (is_its row) es ≡ None → 0 < length w
       → HaveTimes es → HaveTimes (es ++ (row, w) ∷ [])
-  some_pushed es w none = each_after (λ ts. 0 < length ts) row es (es ++ (row, w) ∷ []) (Some w)
-      (pushed row es w (absent row es none))
+  some_pushed es w none = grind (arith, each_after, pushed, absent)
 
 -- a row alone
 pub one_differs : {X : Type 0} (row : List Value) (x : X) → RowsDiffer ((row, x) ∷ [])

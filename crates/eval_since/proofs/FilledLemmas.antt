@@ -1,19 +1,12 @@
 -- Each row that is kept has a time, and each group a row.
-use Rattle.std.proofs.Common.{◌≡◌, ℕ, ◌<◌, Bool, false, cond, nat_eq, List, [], ◌∷◌, ◌++◌, length}
-use Rattle.std.proofs.Common.{Option, Some, None, sym, subst, ap, ◌∙◌, arith}
-use Rattle.std.proofs.lemmas.Grind.{common_steps}
-use Rattle.std.proofs.lemmas.Map.Entries.{lookup-filter-keys}
-use Rattle.std.specs.BTreeMap.{is_at}
-use Rattle.std.specs.Cmp.{eq_by_cmp_equiv}
-use Rattle.std.specs.List.{filter}
-use Rattle.std.specs.Option.{IfSome}
-use Rattle.mfotl_model.specs.Tables.{has_row}
-use Rattle.mfotl_model.specs.Values.{row_cmp, row_total}
+use Rattle.std.proofs.Common.{◌≡◌, ℕ, ◌<◌, Bool, false, cond, nat_eq, List, [], ◌∷◌, length, None, sym, ap, ◌∙◌, arith}
+use Rattle.std.proofs.{lemmas.Grind.common_steps, lemmas.Map.Entries.lookup-filter-keys}
+use Rattle.std.specs.{BTreeMap.is_at, Cmp.eq_by_cmp_equiv, List.filter, Option.IfSome}
+use Rattle.mfotl_model.specs.{Tables.has_row, Values.row_cmp, Values.row_total}
 use Rattle.mfotl_model.specs.declared.value.Value.{Value}
 use Rattle.relations.specs.KeptRows.{kept_for, list_for}
-use Rattle.relations.proofs.MapLemmas.{either, same_row}
-use Rattle.eval_since.specs.Groups.{HaveTimes, NoneEmpty}
-use Rattle.eval_since.specs.Times.{added}
+use Rattle.relations.proofs.MapLemmas.{same_row}
+use Rattle.eval_since.specs.{Groups.HaveTimes, Groups.NoneEmpty, Times.added}
 
 -- a group has a row, and each of its rows a time
 abbrev pub IsFilled : List (List Value × List ℕ) → Type 0
@@ -23,14 +16,12 @@ IsFilled group = (0 < length group) × HaveTimes group
 pub each_left : {X : Type 0} (P : X → Type 0) (stays : List Value → Bool) (old new : List (List Value × X))
     → ((v : List Value) → kept_for new v ≡ cond (stays v) (kept_for old v) None)
     → ((v : List Value) → IfSome (kept_for old v) P) → (v : List Value) → IfSome (kept_for new v) P
-each_left {X} P stays old new is before v =
-    either (λ (o : Option X). IfSome o P) (stays v) (kept_for old v) None (kept_for new v) (is v) (before v) tt
+each_left {X} P stays old new is before v = grind arith
 
 pub each_gone : {X : Type 0} (P : X → Type 0) (goes : List Value → Bool) (old new : List (List Value × X))
     → ((v : List Value) → kept_for new v ≡ cond (goes v) None (kept_for old v))
     → ((v : List Value) → IfSome (kept_for old v) P) → (v : List Value) → IfSome (kept_for new v) P
-each_gone {X} P goes old new is before v =
-    either (λ (o : Option X). IfSome o P) (goes v) None (kept_for old v) (kept_for new v) (is v) tt (before v)
+each_gone {X} P goes old new is before v = grind arith
 
 -- where the groups of other parts are left out
 pub filled_where : (parts : List (List Value)) (old new : List (List Value × List (List Value × List ℕ)))
@@ -40,12 +31,6 @@ filled_where parts old new e =
     ∙ lookup-filter-keys (is_at (row_cmp q)) (has_row parts) (has_row parts q)
     (λ k at. ap (has_row parts) (sym (same_row q k at))) old)
 
--- the group that is found
-pub found_filled : (key : List Value) (groups : List (List Value × List (List Value × List ℕ)))
-    (group : List (List Value × List ℕ)) → Some group ≡ kept_for groups key → NoneEmpty groups → IsFilled group
-found_filled key groups group is all =
-    subst (λ (o : Option (List (List Value × List ℕ))). IfSome o IsFilled) (sym is) (all key)
-
 -- each row of the group at a part has a time, also where none is kept there
 pub had_times : (key : List Value) (groups : List (List Value × List (List Value × List ℕ)))
     (group : List (List Value × List ℕ)) → group ≡ list_for groups key → NoneEmpty groups → HaveTimes group
@@ -54,13 +39,11 @@ had_times key groups group is all v = grind (arith, all key)
 -- after one time more there are some
 pub some_added : (bounded : Bool) (ts : List ℕ) (x : ℕ) → 0 < length (added bounded ts x)
 unfolding added
-some_added bounded [] x = grind arith
-some_added bounded (t ∷ ts) x = grind (arith, common_steps)
+some_added bounded ts x = grind (arith, common_steps)
 
 -- a group that has times for a row has a row
 row_there : (group : List (List Value × List ℕ)) (v : List Value) → 0 < length (list_for group v) → 0 < length group
-row_there [] v some = grind arith
-row_there (e ∷ es) v some = omega arith
+row_there group v some = grind (arith, common_steps)
 
 -- a group has the row that it was given times for
 pub row_changed : (h : List ℕ → List ℕ) (row : List Value) (old new : List (List Value × List ℕ))

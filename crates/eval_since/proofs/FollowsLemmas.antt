@@ -1,22 +1,17 @@
 -- The state of SINCE: what a push and a pull keep.
-use Rattle.std.proofs.Common.{◌≡◌, ℕ, ◌+◌, ◌-◌, ◌<◌, ◌≤◌, Bool, true, ◌&&◌, ◌||◌, nat_lt, List, [], ◌∷◌}
-use Rattle.std.proofs.Common.{◌++◌, length, map, refl, sym, ap, ap₂, ◌∙◌, arith}
-use Rattle.mfotl_model.specs.Intervals.{in_interval}
+use Rattle.std.proofs.Common.{◌≡◌, ℕ, ◌+◌, ◌-◌, ◌<◌, ◌≤◌, Bool, true, ◌&&◌, ◌||◌, nat_lt, List, [], ◌∷◌, ◌++◌, length}
+use Rattle.std.proofs.Common.{map, refl, sym, ap, ap₂, ◌∙◌, arith}
+use Rattle.mfotl_model.specs.{Intervals.in_interval, Settled.since_settled, Times.Climbs}
 use Rattle.mfotl_model.specs.Satisfaction.{Valuation, time_at, truth_at, since}
 use Rattle.mfotl_model.specs.declared.value.Value.{Value}
-use Rattle.eval_since.specs.WindowView.{WindowOf, within}
-use Rattle.eval_since.specs.SinceBefore.{since_before}
-use Rattle.eval_since.specs.SinceView.{DueIsSettled, Follows, FollowsRow, SinceOf}
+use Rattle.eval_since.specs.{WindowView.WindowOf, WindowView.within, LeftOperand.left_has}
+use Rattle.eval_since.specs.SinceView.{DueIsSettled, FollowsRow, SinceOf}
 use Rattle.mfotl_model.specs.Tables.{TableOf, all_among, has, has_row, part}
-use Rattle.relations.specs.Pushed.{left_holds, turned}
-use Rattle.relations.proofs.PushedLemmas.{stand_push}
-use Rattle.eval_since.specs.LeftOperand.{left_has}
-use Rattle.relations.proofs.OperationLaws.{has_as, part_of_own}
+use Rattle.relations.specs.Pushed.{left_holds}
+use Rattle.relations.proofs.{PushedLemmas.stand_push, OperationLaws.has_as, OperationLaws.part_of_own}
 use Rattle.eval_since.proofs.SinceLemmas.{goes_on, since_is}
 use Rattle.std.proofs.lemmas.Bool.Decides.{nat_tests, same_from_decides}
 use Rattle.std.specs.List.{list_all, range_with_len}
-use Rattle.mfotl_model.specs.Settled.{since_settled}
-use Rattle.mfotl_model.specs.Times.{Climbs}
 use Rattle.mfotl_model.proofs.LogicLemmas.{all_in, all_from}
 
 -- a list of times that climbs does so without its first
@@ -30,44 +25,21 @@ climbs_without_first x all rest t y e climbs = climbs_behind x rest t y (rw e at
 module _ {s : SinceOf} {t : List ℕ} {a b : List Bool} {u : List Value} (f : FollowsRow s t a b u) where
   -- the table of the position that was pulled last
   pub table_is : 0 < s.pulled → within s.window s.window.last u ≡ since s.window.interval t a b (s.pulled - 1)
-  table_is some =
-      let e : s.pulled ≡ s.pulled - 1 + 1 = omega arith in
-      f.window s.window.last (λ _. omega arith)
-      ∙ ap₂ (λ p x. since_before s.window.interval t a b p x) e (f.last some)
-      ∙ sym (since_is s.window.interval t a b (s.pulled - 1))
+  table_is some = grind (arith, ap₂, since_is)
 
   -- one more table, or time, is pushed
   pub follows_left : (l : TableOf)
       → left_has s.negated l.rows (part s.window.right s.window.left u) ≡ truth_at a (s.pulled + length s.lefts)
       → FollowsRow (record s { lefts = s.lefts ++ l ∷ [] }) t a b u
-  follows_left l e = record {
-    last = f.last;
-    times = f.times;
-    lefts = stand_push (λ i table. left_has s.negated table.rows (part s.window.right s.window.left u)
-        ≡ truth_at a i) s.pulled s.lefts l f.lefts e;
-    rights = f.rights;
-    window = f.window;
-  }
+  follows_left l e = search (stand_push)
 
   pub follows_right : (r : TableOf) → has_row r.rows u ≡ truth_at b (s.pulled + length s.rights)
       → FollowsRow (record s { rights = s.rights ++ r ∷ [] }) t a b u
-  follows_right r e = record {
-    last = f.last;
-    times = f.times;
-    lefts = f.lefts;
-    rights = stand_push (λ i table. has_row table.rows u ≡ truth_at b i) s.pulled s.rights r f.rights e;
-    window = f.window;
-  }
+  follows_right r e = search (stand_push)
 
   pub follows_time : (x : ℕ) → x ≡ time_at t (s.pulled + length s.times)
       → FollowsRow (record s { newest = x; times = s.times ++ x ∷ [] }) t a b u
-  follows_time x e = record {
-    last = f.last;
-    times = stand_push (λ i y. y ≡ time_at t i) s.pulled s.times x f.times e;
-    lefts = f.lefts;
-    rights = f.rights;
-    window = f.window;
-  }
+  follows_time x e = search (stand_push)
 
   -- of lists whose first items are known
   module _ (t0 : ℕ) (ts : List ℕ) (l r : TableOf) (ls rs : List TableOf) (et : s.times ≡ t0 ∷ ts)
@@ -99,12 +71,7 @@ module _ {s : SinceOf} {t : List ℕ} {a b : List Bool} {u : List Value} (f : Fo
     -- what the next table has of a row, before it is pulled
     pub next_is : ((within s.window t0 u && left_has s.negated l.rows (part s.window.right s.window.left u))
         || (in_interval s.window.interval 0 && has_row r.rows u)) ≡ since s.window.interval t a b s.pulled
-    next_is =
-        let z : 0 ≡ time_at t s.pulled - time_at t s.pulled = omega arith in
-        let was = f.window t0 (λ _. (rw et at climbs).0) in
-        let more = goes_on s.window.interval t a b s.pulled (time_at t s.pulled) in
-        let whole = since_is s.window.interval t a b s.pulled in
-        cc (z, was, (rw et at f.times).0, (rw el at f.lefts).0, (rw er at f.rights).0, more, whole)
+    next_is = grind (arith, goes_on, since_is)
 
 -- a test holds up to a place where it does at each one
 ready_below : (p n m : ℕ) → (nat_lt 0 n && nat_lt 0 m)
@@ -118,9 +85,7 @@ ready_below p n m =
 
 pub due_settled : DueIsSettled
 unfolding since_settled
-due_settled s =
-    let ready = ready_below s.pulled (length s.lefts) (length s.rights) in
-    grind (arith, nat_tests)
+due_settled s = grind (arith, ready_below s.pulled (length s.lefts) (length s.rights))
 
 -- from valuations to rows
 
@@ -128,9 +93,7 @@ due_settled s =
 pub left_of : (table : TableOf) (left right : List ℕ) (negated : Bool) (v : Valuation) → all_among left right ≡ true
     → table.columns ≡ left
     → left_has negated table.rows (part right left (map v right)) ≡ left_holds negated table v
-left_of table left right negated v inside columns =
-    ap (turned negated) (ap (has_row table.rows) (part_of_own v right left inside)
-    ∙ sym (has_as table left table.rows v columns refl))
+left_of table left right negated v inside columns = grind (arith, part_of_own, has_as)
 
 pub right_of : (table : TableOf) (right : List ℕ) (v : Valuation) → table.columns ≡ right
     → has_row table.rows (map v right) ≡ has table v

@@ -1,20 +1,13 @@
 -- What is left where old times of a group's rows are forgotten.
-use Rattle.std.proofs.Common.{arith, ◌≡◌, ℕ, Bool, true, cond, ◌&&◌, nat_eq, List, [], length, Some, None, refl}
-use Rattle.std.proofs.Common.{subst, ap, ◌∙◌}
-use Rattle.std.specs.BTreeMap.{is_at}
-use Rattle.std.specs.Cmp.{eq_by_cmp_equiv}
-use Rattle.std.specs.HashMap.{HashMap, WritesThrough}
-use Rattle.std.specs.Map.{lookup}
-use Rattle.std.specs.Option.{IsSome, unwrap_or}
-use Rattle.std.specs.Ordering.{eq_by_cmp}
+use Rattle.std.proofs.Common.{arith, ◌≡◌, ℕ, Bool, true, cond, ◌&&◌, nat_eq, List, [], length, Some, None, refl, ap}
+use Rattle.std.specs.{BTreeMap.is_at, Cmp.eq_by_cmp_equiv, HashMap.HashMap, HashMap.WritesThrough, Map.lookup}
+use Rattle.std.specs.{Option.unwrap_or, Ordering.eq_by_cmp}
 use Rattle.mfotl_model.specs.Values.{row_cmp, row_total}
 use Rattle.mfotl_model.specs.declared.value.Value.{Value}
-use Rattle.relations.proofs.KeptLemmas.{empty_list, not_empty}
-use Rattle.relations.proofs.MapLemmas.{nothing_there, same_row}
+use Rattle.relations.proofs.{KeptLemmas.empty_list, MapLemmas.nothing_there, MapLemmas.same_row}
 use Rattle.relations.specs.KeptRows.{kept_for, list_for}
 use Rattle.eval_since.specs.Groups.{HaveTimes, NoneEmpty, NoneEmptyBut, times_at}
 use Rattle.eval_since.specs.Times.{recent}
-use Rattle.eval_since.proofs.FilledLemmas.{found_filled}
 use Rattle.eval_since.proofs.GroupLemmas.{nothing_recent, regrouped}
 
 -- in a group that isn't there
@@ -30,25 +23,20 @@ module _ {S : Type 0} (key : List Value) (m n : HashMap (List Value) (List (List
     (g e : List (List Value × List ℕ)) (is : Some e ≡ lookup (is_at (row_cmp key)) m.entries)
     (writes : WritesThrough (eq_by_cmp row_cmp) (eq_by_cmp row_cmp key) m g n) where
   changes : (q : List Value) → kept_for n.entries q ≡ cond (is_at (row_cmp key) q) (Some g) (kept_for m.entries q)
-  changes q =
-      let w : IsSome (lookup (is_at (row_cmp key)) m.entries) = subst IsSome is refl in
-      (writes.3 w).0 q
+  changes q = grind arith
 
   pub forgets : (hi x : ℕ) (q v : List Value) (meant : Bool)
       → list_for g v ≡ cond meant (recent hi x (list_for e v)) (list_for e v)
       → times_at n.entries q v
       ≡ cond (is_at (row_cmp key) q && meant) (recent hi x (times_at m.entries q v)) (times_at m.entries q v)
-  forgets hi x q v meant inner = regrouped (recent hi x) key q v meant m.entries n.entries g e (Some g) (changes q) refl
-      (ap (λ o. unwrap_or o []) is) inner
+  forgets hi x q v meant inner = grind (arith, regrouped, changes)
 
   pub leaves_none : nat_eq (length g) 0 ≡ true → list_for n.entries key ≡ []
   leaves_none none = grind (arith, changes key, (eq_by_cmp_equiv row_total).refl key, empty_list g none)
 
   pub leaves_filled : (HaveTimes e → HaveTimes g) → NoneEmpty m.entries
       → NoneEmptyBut (nat_eq (length g) 0) key n.entries
-  leaves_filled stay all q =
-      let filled = found_filled key m.entries e is all in
-      grind (arith, changes q, all q, not_empty g, stay filled.1)
+  leaves_filled stay all q = grind arith
 
 -- where a group without rows goes, each row keeps its times
 pub none_lost : (key q v : List Value) (old new : List (List Value × List (List Value × List ℕ)))

@@ -1,22 +1,13 @@
 -- What a change at one row leaves at each row.
-use Rattle.std.proofs.Common.{arith, ◌≡◌, ℕ, ◌+◌, ◌<◌, Bool, true, false, cond, ◌&&◌, ◌||◌, List, [], ◌∷◌}
-use Rattle.std.proofs.Common.{length, get_or, take, Option, Some, None, refl, sym, ap, ◌∙◌}
-use Rattle.std.specs.BTreeMap.{is_at}
-use Rattle.std.specs.List.{list_any, filter}
-use Rattle.std.specs.Map.{lookup}
-use Rattle.std.specs.Option.{unwrap_or}
-use Rattle.mfotl_model.specs.Values.{row_cmp, row_total}
-use Rattle.mfotl_model.specs.declared.value.Value.{Value}
-use Rattle.std.proofs.lemmas.Map.Entries.{lookup-filter-keys}
-use Rattle.std.specs.Cmp.{eq_by_cmp_equiv}
-use Rattle.mfotl_model.specs.declared.interval.Interval.{Interval}
-use Rattle.mfotl_model.specs.Tables.{has_row}
+use Rattle.std.proofs.Common.{arith, ◌≡◌, ℕ, ◌+◌, ◌<◌, Bool, true, false, cond, ◌&&◌, List, [], ◌∷◌, length, get_or}
+use Rattle.std.proofs.Common.{take, Option, Some, None, refl, sym, ap}
+use Rattle.std.specs.{BTreeMap.is_at, List.list_any, List.filter, Map.lookup, Option.unwrap_or, Cmp.eq_by_cmp_equiv}
+use Rattle.mfotl_model.specs.{Values.row_cmp, Values.row_total, Tables.has_row}
+use Rattle.mfotl_model.specs.declared.{value.Value.Value, interval.Interval.Interval}
+use Rattle.std.proofs.{lemmas.Map.Entries.lookup-filter-keys, lemmas.Grind.common_steps}
 use Rattle.relations.specs.KeptRows.{RowsDiffer, list_for}
-use Rattle.relations.proofs.KeptLemmas.{differ_tail, none_behind}
-use Rattle.relations.proofs.MapLemmas.{same_row}
-use Rattle.relations.proofs.TableRows.{has_more}
-use Rattle.eval_since.specs.Groups.{times_at}
-use Rattle.eval_since.specs.Times.{reaches, recent}
+use Rattle.relations.proofs.{KeptLemmas.differ_tail, KeptLemmas.none_behind, MapLemmas.same_row, TableRows.has_more}
+use Rattle.eval_since.specs.{Groups.times_at, Times.reaches, Times.recent}
 
 pub recent_none : (hi x : ℕ) → recent hi x [] ≡ []
 unfolding recent
@@ -38,8 +29,7 @@ pub gone_more : {X : Type 0} (parts : List (List Value)) (i : ℕ) (x : List Val
     → ((q : List Value) → lookup (is_at (row_cmp q)) new
     ≡ cond (is_at (row_cmp x) q) None (lookup (is_at (row_cmp q)) cur))
     → AreGone (take (i + 1) parts) old new
-gone_more parts i x old cur new low e before step q =
-    grind (arith, has_more parts i x q low e, before q, step q)
+gone_more parts i x old cur new low e before step q = grind (arith, has_more)
 
 -- where nothing is found
 pub kept_none : {X : Type 0} (parts : List (List Value)) (i : ℕ) (x : List Value)
@@ -48,8 +38,7 @@ pub kept_none : {X : Type 0} (parts : List (List Value)) (i : ℕ) (x : List Val
     → AreKept (take i parts) old kept
     → None ≡ lookup (is_at (row_cmp x)) cur
     → AreKept (take (i + 1) parts) old kept
-kept_none parts i x old cur kept low e gone before none q =
-    grind (arith, has_more parts i x q low e, before q, gone q, same_row x q)
+kept_none parts i x old cur kept low e gone before none q = grind (arith, common_steps, has_more, same_row)
 
 -- where a group is found and moved
 pub kept_some : {X : Type 0} (parts : List (List Value)) (i : ℕ) (x key : List Value)
@@ -94,8 +83,7 @@ pub ungrouped : (h : List ℕ → List ℕ) (key q v : List Value) (meant : Bool
     → e ≡ list_for old key
     → list_for g v ≡ cond meant (h (list_for e v)) (list_for e v)
     → times_at new q v ≡ cond (is_at (row_cmp []) q && meant) (h (times_at old q v)) (times_at old q v)
-ungrouped h key q v meant old new g e w none outer is was inner =
-    rw none at (regrouped h key q v meant old new g e w outer is was inner)
+ungrouped h key q v meant old new g e w none outer is was inner = grind arith
 
 -- an empty group has no times to forget
 pub nothing_recent : (hi x : ℕ) (v : List Value) (b : Bool)

@@ -1,15 +1,11 @@
 -- Changes of a group's rows, one after another.
-use Rattle.std.proofs.Common.{arith, ◌≡◌, ℕ, ◌+◌, ◌<◌, Bool, true, cond, ◌&&◌, ◌||◌, nat_eq, List, [], ◌∷◌, length}
-use Rattle.std.proofs.Common.{get_or, take, Result, sym, ap, ◌∙◌}
+use Rattle.std.proofs.Common.{arith, ◌≡◌, ℕ, ◌+◌, ◌<◌, Bool, true, cond, ◌&&◌, nat_eq, List, [], ◌∷◌, length, get_or}
+use Rattle.std.proofs.Common.{take, Result, ap}
 use Rattle.std.proofs.lemmas.Result.{on_ok_weaker}
-use Rattle.std.specs.BTreeMap.{is_at}
-use Rattle.std.specs.Cmp.{eq_by_cmp_equiv}
-use Rattle.std.specs.Result.{OnOk}
-use Rattle.mfotl_model.specs.Tables.{has_row, part}
-use Rattle.mfotl_model.specs.Values.{row_cmp, row_total}
+use Rattle.std.specs.{BTreeMap.is_at, Cmp.eq_by_cmp_equiv, Result.OnOk}
+use Rattle.mfotl_model.specs.{Tables.has_row, Tables.part, Values.row_cmp, Values.row_total}
 use Rattle.mfotl_model.specs.declared.value.Value.{Value}
-use Rattle.relations.proofs.KeptLemmas.{empty_list}
-use Rattle.relations.proofs.TableRows.{has_more}
+use Rattle.relations.proofs.{KeptLemmas.empty_list, TableRows.has_more}
 use Rattle.eval_since.specs.Groups.{times_at}
 
 -- the part at no columns is the empty row
@@ -25,8 +21,7 @@ pub all_together : {T E : Type 0} (result : Result T E) (right left : List ℕ) 
     ≡ cond (is_at (row_cmp []) q && has_row rows v) (h (times_at old q v)) (times_at old q v))
     → OnOk result ((q v : List Value) → times_at new q v
     ≡ cond (is_at (row_cmp (part right left v)) q && has_row rows v) (h (times_at old q v)) (times_at old q v))
-all_together result right left h rows old new none =
-    on_ok_weaker result (λ times q v. rw (← no_part right left v none) (times q v))
+all_together result right left h rows old new none = grind (arith, on_ok_weaker, no_part)
 
 -- no rows change nothing
 pub no_rows : (rows : List (List Value)) (v : List Value) (b : Bool) (more old : List ℕ) → nat_eq (length rows) 0 ≡ true

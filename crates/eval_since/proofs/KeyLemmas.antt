@@ -1,19 +1,14 @@
 -- Rows that are looked for by a part of them.
-use Rattle.std.proofs.Common.{arith, ◌≡◌, ℕ, Bool, false, ◌&&◌, ◌||◌, nat_eq, length, List, [], ◌∷◌, refl, sym}
-use Rattle.std.proofs.Common.{ap, ◌∙◌}
+use Rattle.std.proofs.Common.{arith, ◌≡◌, ℕ, Bool, ◌&&◌, nat_eq, length, List, [], ◌∷◌, refl, sym, ap, ◌∙◌}
 use Rattle.std.proofs.Math.Bool.{and-false}
 use Rattle.std.specs.List.{list_any}
 use Rattle.mfotl_model.specs.Tables.{has_row, part}
-use Rattle.mfotl_model.specs.declared.interval.Interval.{Interval}
-use Rattle.mfotl_model.specs.declared.value.Value.{Value}
+use Rattle.mfotl_model.specs.declared.{interval.Interval.Interval, value.Value.Value}
 use Rattle.mfotl_model.proofs.RowLemmas.{any_and_last}
-use Rattle.relations.proofs.KeptLemmas.{any_is, empty_list}
-use Rattle.relations.proofs.MapLemmas.{same_row}
+use Rattle.relations.proofs.{KeptLemmas.any_is, KeptLemmas.empty_list, MapLemmas.same_row}
 use Rattle.relations.specs.KeptRows.{RowsDiffer, list_for}
 use Rattle.eval_since.proofs.GroupLemmas.{StandsIn, group_is}
-use Rattle.eval_since.specs.LeftOperand.{grouping, lead}
-use Rattle.eval_since.specs.Groups.{hit, times_at}
-use Rattle.eval_since.specs.Times.{reaches}
+use Rattle.eval_since.specs.{LeftOperand.grouping, LeftOperand.lead, Groups.hit, Groups.times_at, Times.reaches}
 
 -- of a group's rows those that are wanted
 pub matches_are : (interval : Interval) (x : ℕ) (u : List Value) (wanted : List Value → Bool)
@@ -42,8 +37,7 @@ pub found_at : (interval : Interval) (x : ℕ) (k u : List Value) (keys : List (
     → list_any (λ q. reaches interval (times_at es q u) x) keys
     ≡ (reaches interval (times_at es k u) x && has_row keys k)
 found_at interval x k u [] es stands = sym (and-false (reaches interval (times_at es k u) x))
-found_at interval x k u (q ∷ keys) es stands =
-    grind (arith, same_row k q, stands q, found_at interval x k u keys es stands)
+found_at interval x k u (q ∷ keys) es stands = grind (arith, same_row k q, found_at interval x k u keys es stands)
 
 -- what the left operand speaks of, read off a group's values
 pub lead_is : (left keys right : List ℕ) (u : List Value)

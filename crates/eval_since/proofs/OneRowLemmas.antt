@@ -2,14 +2,9 @@
 use Rattle.std.proofs.Common.{arith, ◌≡◌, ℕ, Bool, true, false, cond, ◌&&◌, ◌||◌, List, [], ◌∷◌, ◌++◌, Option, None}
 use Rattle.std.proofs.Common.{sym, ap, ◌∙◌}
 use Rattle.std.proofs.lemmas.List.Folds.{list_any-append}
-use Rattle.std.specs.BTreeMap.{is_at}
-use Rattle.std.specs.Cmp.{eq_by_cmp_equiv}
-use Rattle.std.specs.Option.{option_or}
-use Rattle.std.specs.Ordering.{eq_by_cmp}
-use Rattle.mfotl_model.specs.Tables.{has_row}
-use Rattle.mfotl_model.specs.Values.{row_cmp, row_total}
-use Rattle.mfotl_model.specs.declared.interval.Interval.{Interval}
-use Rattle.mfotl_model.specs.declared.value.Value.{Value}
+use Rattle.std.specs.{BTreeMap.is_at, Cmp.eq_by_cmp_equiv, Option.option_or}
+use Rattle.mfotl_model.specs.{Tables.has_row, Values.row_cmp, Values.row_total}
+use Rattle.mfotl_model.specs.declared.{interval.Interval.Interval, value.Value.Value}
 use Rattle.relations.proofs.MapLemmas.{same_row}
 use Rattle.relations.specs.KeptRows.{filled, list_for}
 use Rattle.eval_since.specs.Times.{reaches}
@@ -51,24 +46,14 @@ module _ (first : List Value) where
   pub one_more : (interval : Interval) (ts : List ℕ) (x : ℕ) (rows : List (List Value)) (u : List Value)
       → reaches interval ts x ≡ true
       → has_row (rows ++ first ∷ []) u ≡ (has_row rows u || reaches interval (list_for ((first, ts) ∷ []) u) x)
-  one_more interval ts x rows u hits =
-      let pushed = list_any-append (eq_by_cmp row_cmp u) rows (first ∷ []) in
-      grind (arith, times_one ts u, (eq_by_cmp_equiv row_total).symm u first, pushed)
-
-  -- where it doesn't, nothing is
-  pub no_more : (interval : Interval) (ts : List ℕ) (x : ℕ) (rows : List (List Value)) (u : List Value)
-      → reaches interval ts x ≡ false
-      → has_row rows u ≡ (has_row rows u || reaches interval (list_for ((first, ts) ∷ []) u) x)
-  no_more interval ts x rows u misses = grind (arith, times_one ts u)
+  one_more interval ts x rows u hits = grind (arith, list_any-append, times_one)
 
   -- the same of the rows that are wanted
   pub one_match : (interval : Interval) (ts : List ℕ) (x : ℕ) (wanted : List Value → Bool) (rows : List (List Value))
       (u : List Value) → reaches interval ts x ≡ true → wanted first ≡ true
       → has_row (rows ++ first ∷ []) u
       ≡ (has_row rows u || (reaches interval (list_for ((first, ts) ∷ []) u) x && wanted u))
-  one_match interval ts x wanted rows u hits is =
-      let pushed = list_any-append (eq_by_cmp row_cmp u) rows (first ∷ []) in
-      grind (arith, times_one ts u, (eq_by_cmp_equiv row_total).symm u first, same_row first u, pushed)
+  one_match interval ts x wanted rows u hits is = grind (arith, list_any-append, times_one, same_row)
 
   pub no_match : (interval : Interval) (ts : List ℕ) (x : ℕ) (wanted : List Value → Bool) (rows : List (List Value))
       (u : List Value) → (reaches interval ts x && wanted first) ≡ false

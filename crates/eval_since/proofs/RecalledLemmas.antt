@@ -1,25 +1,17 @@
 -- The rows of plain data: what the groups give for them, and what is put into groups.
-use Rattle.std.proofs.Common.{◌≡◌, ℕ, true, false, cond, nat_eq, ◌&&◌, ◌||◌, ◌<◌, List, [], ◌∷◌, length, map}
-use Rattle.std.proofs.Common.{None, refl, sym, subst, ap, ◌∙◌, arith}
-use Rattle.std.proofs.lemmas.Bool.{and_from}
-use Rattle.std.proofs.lemmas.Map.Keys.{sorted_tail}
-use Rattle.std.specs.BTreeMap.{is_at}
-use Rattle.std.specs.Cmp.{eq_by_cmp_equiv}
-use Rattle.std.specs.List.{AllByRecursion, list_any}
-use Rattle.std.specs.Map.{keys_of}
-use Rattle.std.specs.Option.{unwrap_or}
-use Rattle.std.specs.Ordering.{eq_by_cmp}
-use Rattle.mfotl_model.specs.Tables.{all_sized, part}
-use Rattle.mfotl_model.specs.Values.{row_cmp, row_total}
-use Rattle.mfotl_model.specs.declared.interval.Interval.{Interval}
-use Rattle.mfotl_model.specs.declared.value.Value.{Value}
+use Rattle.std.proofs.Common.{◌≡◌, ℕ, true, false, cond, nat_eq, ◌&&◌, ◌||◌, ◌<◌, List, [], ◌∷◌, length, map, None}
+use Rattle.std.proofs.Common.{refl, sym, subst, ap, ◌∙◌, arith}
+use Rattle.std.proofs.{lemmas.Bool.and_from, lemmas.Map.Keys.sorted_tail}
+use Rattle.std.specs.{BTreeMap.is_at, Cmp.eq_by_cmp_equiv, List.AllByRecursion, List.list_any, Map.keys_of}
+use Rattle.std.specs.{Option.unwrap_or, Ordering.eq_by_cmp}
+use Rattle.mfotl_model.specs.{Tables.all_sized, Tables.part, Values.row_cmp, Values.row_total}
+use Rattle.mfotl_model.specs.declared.{interval.Interval.Interval, value.Value.Value}
 use Rattle.relations.specs.KeptRows.{RowsAscend, RowsDiffer, filled, kept_for}
 use Rattle.relations.proofs.KeptLemmas.{any_is, ascending_differ, differ_tail, each_kept, filled_back, filled_is}
 use Rattle.relations.proofs.KeptLemmas.{none_behind}
 use Rattle.relations.proofs.MapLemmas.{same_row}
-use Rattle.eval_since.specs.Groups.{hit, times_at}
+use Rattle.eval_since.specs.{Groups.hit, Groups.times_at, Times.reaches}
 use Rattle.eval_since.specs.Recalled.{first_times, put_times, recalls, times_for, times_kept}
-use Rattle.eval_since.specs.Times.{reaches}
 use Rattle.eval_since.specs.declared.recalled.KeptRow.{KeptRow}
 use Rattle.eval_since.proofs.GroupLemmas.{StandsIn, stands_tail}
 

@@ -1,27 +1,20 @@
 -- What a window keeps, from the rows of plain data, and what the data keeps, from a window.
 use Rattle.std.proofs.Common.{◌≡◌, ℕ, ◌-◌, ◌<◌, ◌≤◌, Bool, true, false, cond, nat_le, List, [], ◌∷◌, length, map}
 use Rattle.std.proofs.Common.{Option, Some, None, refl, ap, ◌∙◌, arith}
-use Rattle.std.specs.BTreeMap.{is_at}
-use Rattle.std.specs.List.{AllByRecursion, list_all}
-use Rattle.std.specs.List.Sorted.{IsStrictlyIncreasing}
-use Rattle.std.specs.Option.{IfSome, is_some}
+use Rattle.std.specs.{BTreeMap.is_at, List.AllByRecursion, List.list_all, List.Sorted.IsStrictlyIncreasing}
+use Rattle.std.specs.{Option.IfSome, Option.is_some}
 use Rattle.mfotl_model.specs.Tables.{all_apart, all_sized, part}
 use Rattle.mfotl_model.specs.Values.{row_cmp}
 use Rattle.mfotl_model.specs.declared.value.Value.{Value}
 use Rattle.relations.specs.KeptRows.{RowsAscend, filled, kept_for}
-use Rattle.eval_since.specs.Groups.{NoneEmpty, times_at}
+use Rattle.eval_since.specs.{Groups.NoneEmpty, Groups.times_at, SinceData.KeepsTimes, Times.ArePast}
 use Rattle.eval_since.specs.Recalled.{is_recalled, put_times, times_for, times_kept}
-use Rattle.eval_since.specs.SinceData.{KeepsTimes}
-use Rattle.eval_since.specs.Times.{ArePast}
 use Rattle.eval_since.specs.Windows.{FindsOldTimes, Keeps, Rising, names}
-use Rattle.eval_since.specs.declared.recalled.KeptRow.{KeptRow}
-use Rattle.eval_since.specs.declared.contents.Dated.{Dated}
-use Rattle.relations.proofs.MapLemmas.{either}
-use Rattle.relations.proofs.TestLemmas.{all_weaker}
+use Rattle.eval_since.specs.declared.{recalled.KeptRow.KeptRow, contents.Dated.Dated}
+use Rattle.relations.proofs.{MapLemmas.either, TestLemmas.all_weaker}
 use Rattle.eval_since.proofs.DatedLemmas.{all_each, names_own, past_all}
-use Rattle.eval_since.proofs.ExpireLemmas.{bounded_is}
+use Rattle.eval_since.proofs.{ExpireLemmas.bounded_is, RuleLemmas.increasing_none}
 use Rattle.eval_since.proofs.RecalledLemmas.{each_row, put_is, times_each, times_sized}
-use Rattle.eval_since.proofs.RuleLemmas.{increasing_none}
 
 -- each row of a window's data keeps what the window keeps
 pub window_keeps : (hi : Option ℕ) (right left : List ℕ) (last : ℕ)
@@ -57,8 +50,7 @@ in_groups : (P : List ℕ → Type 0) (right left : List ℕ) (rows : List KeptR
     (groups : List (List Value × List (List Value × List ℕ)))
     → ((q v : List Value) → times_at groups q v ≡ cond (is_at (row_cmp (part right left v)) q) (times_for rows v) [])
     → P [] → ((u : List Value) → P (times_for rows u)) → (q v : List Value) → P (times_at groups q v)
-in_groups P right left rows groups is none all q v =
-    either P (is_at (row_cmp (part right left v)) q) (times_for rows v) [] (times_at groups q v) (is q v) (all v) none
+in_groups P right left rows groups is none all q v = grind arith
 
 each_times : (P : List ℕ → Type 0) (hi : Option ℕ) (last : ℕ) (rows : List KeptRow)
     → AllByRecursion (λ k. KeepsTimes hi last k.times.items) rows
@@ -81,8 +73,7 @@ each_some hi last rows all = each_times (λ (ts : List ℕ). 0 < length ts) hi l
 -- without a greatest distance there is nothing to find
 pub finds_none : (hi : Option ℕ) (last : ℕ) (groups : List (List Value × List (List Value × List ℕ)))
     (queue : List Dated) → is_some hi ≡ false → FindsOldTimes hi last groups queue
-finds_none None last groups queue none = tt
-finds_none (Some h) last groups queue none = cc
+finds_none hi last groups queue none = grind arith
 
 -- the queue of the rows' times finds them
 pub finds_rows : (hi : Option ℕ) (right left : List ℕ) (last : ℕ) (rows : List KeptRow)

@@ -1,18 +1,11 @@
 -- What is kept for a key is kept for the row that it stands for.
 use Rattle.std.proofs.Common.{arith, ◌≡◌, ℕ, ℤ, ◌<◌, Bool, true, false, cond, List, [], ◌∷◌, length, Option, Some, None}
 use Rattle.std.proofs.Common.{refl, sym, subst, ap, ap₂, ◌∙◌}
-use Rattle.std.specs.BTreeMap.{is_at}
-use Rattle.std.specs.List.{AllByRecursion, IsDistinct}
-use Rattle.std.specs.Map.{keys_of, lookup}
-use Rattle.std.specs.Option.{IfSome, unwrap_or}
-use Rattle.std.specs.Ordering.{int_cmp, is_eq, ordering_then}
-use Rattle.std.specs.declared.cmp.Ordering.{Ordering}
-use Rattle.std.specs.declared.cmp.Ordering.TheVariants.{Less, Equal, Greater}
+use Rattle.std.specs.{BTreeMap.is_at, List.AllByRecursion, List.IsDistinct, Map.keys_of, Map.lookup, Option.IfSome}
+use Rattle.std.specs.{Option.unwrap_or}
 use Rattle.mfotl_model.specs.Values.{row_cmp}
 use Rattle.mfotl_model.specs.declared.value.Value.{Value}
-use Rattle.mfotl_model.specs.declared.value.Value.TheVariants.{Int, Text}
-use Rattle.relations.proofs.KeptLemmas.{each_after}
-use Rattle.relations.proofs.MapLemmas.{changed, same_row}
+use Rattle.relations.proofs.{KeptLemmas.each_after, MapLemmas.changed, MapLemmas.same_row}
 use Rattle.relations.specs.KeptRows.{RowsDiffer, kept_for, list_for}
 use Rattle.eval_since.specs.Groups.{HaveTimes}
 use Rattle.eval_since.specs.RowKeys.{by_rows, is_int, itself, one_int}
@@ -35,13 +28,7 @@ module _ {K X : Type 0} (eq : K → K → Bool) (row_of : K → List Value)
   either : (P : Type 0) (v : List Value) (es : List (K × X))
       → ((q : K) → row_of q ≡ v → P) → (lookup (is_at (row_cmp v)) (by_rows row_of es) ≡ None → P) → P
   either P v [] found none = none refl
-  either P v (e ∷ es) found none = by (is_at (row_cmp v) (row_of e.0)) refl none (either P v es found)
-    where
-      by : (b : Bool) → is_at (row_cmp v) (row_of e.0) ≡ b
-          → (cond b (Some e.1) (lookup (is_at (row_cmp v)) (by_rows row_of es)) ≡ None → P)
-          → ((lookup (is_at (row_cmp v)) (by_rows row_of es) ≡ None → P) → P) → P
-      by true at missing rest = found e.0 (sym (same_row v (row_of e.0) at))
-      by false at missing rest = rest missing
+  either P v (e ∷ es) found none = grind (arith, either P v es found, same_row v (row_of e.0))
 
   -- a change at one key is one at its row
   pub key_changed : (k : K) (m n : List (K × X)) (w : Option X)
@@ -87,40 +74,28 @@ module _ {K : Type 0} (eq : K → K → Bool) (row_of : K → List Value)
       → (v : List Value) → list_for (by_rows row_of n) v
       ≡ cond (is_at (row_cmp (row_of k)) v) (h (list_for (by_rows row_of m) v)) (list_for (by_rows row_of m) v)
   times_changed h k m n w step is v =
-      changed [] h (row_of k) v (by_rows row_of m) (by_rows row_of n) w (key_changed eq row_of same k m n w step v)
-      (is ∙ ap (λ o. h (unwrap_or o [])) (sym (key_found eq row_of same k m)))
+      grind (arith, changed, key_changed eq row_of same k m n w step v, key_found eq row_of same k m)
 
   -- each row still has a time after it
   pub times_stay : (k : K) (m n : List (K × List ℕ)) (w : Option (List ℕ))
       → ((q : K) → lookup (eq q) n ≡ cond (eq k q) w (lookup (eq q) m))
       → IfSome w (λ times. 0 < length times) → HaveTimes (by_rows row_of m) → HaveTimes (by_rows row_of n)
-  times_stay k m n w step =
-      each_after (λ times. 0 < length times) (row_of k) (by_rows row_of m) (by_rows row_of n) w
-      (key_changed eq row_of same k m n w step)
+  times_stay k m n w step = grind (arith, each_after, key_changed eq row_of same k m n w step)
 
 -- rows stand for themselves
 pub by_themselves : {X : Type 0} (es : List (List Value × X)) → by_rows itself es ≡ es
 by_themselves [] = refl
 by_themselves (e ∷ es) = ap (λ fs. e ∷ fs) (by_themselves es)
 
-then_greater : (o : Ordering) → is_eq (ordering_then o Greater) ≡ false
-then_greater Less = refl
-then_greater Equal = refl
-then_greater Greater = refl
-
 -- a row of other values isn't equal to one of one integer
 not_from : (v : List Value) (m : ℤ) → is_int v ≡ false → is_at (row_cmp v) (one_int m) ≡ false
-not_from [] m e = refl
-not_from (Int n ∷ []) m e = cc
-not_from (Int n ∷ w ∷ ws) m e = then_greater (int_cmp n m)
-not_from (Text t ∷ ws) m e = refl
+not_from v m e = grind arith
 
 -- among rows of one integer nothing is found for another row
 others_none : (v : List Value) (es : List (ℤ × List ℕ)) → is_int v ≡ false
     → lookup (is_at (row_cmp v)) (by_rows one_int es) ≡ None
 others_none v [] other = refl
-others_none v (e ∷ es) other =
-    ap₂ (λ b o. cond b (Some e.1) o) (not_from v e.0 other) (others_none v es other)
+others_none v (e ∷ es) other = simp (ap₂, not_from, others_none v es other)
 
 pub no_times : (v : List Value) (es : List (ℤ × List ℕ)) → is_int v ≡ false → list_for (by_rows one_int es) v ≡ []
 no_times v es other = ap (λ o. unwrap_or o []) (others_none v es other)

@@ -1,9 +1,6 @@
 -- The times of a row ascend, and without an upper end there is one at most.
-use Rattle.std.proofs.Common.{◌≡◌, ℕ, ◌-◌, ◌≤◌, Bool, false, cond, ◌&&◌, ◌||◌, not, List, [], ◌∷◌}
-use Rattle.std.proofs.Common.{◌++◌, length, sym, subst, ◌∙◌, arith, inl, inr}
-use Rattle.std.proofs.lemmas.Bool.{cases_lt}
-use Rattle.std.proofs.lemmas.Bool.Decides.{nat_tests}
-use Rattle.std.proofs.lemmas.List.{length_push}
+use Rattle.std.proofs.Common.{◌≡◌, ℕ, ◌-◌, ◌≤◌, Bool, false, List, [], ◌∷◌, length, sym, subst, arith, inl, inr}
+use Rattle.std.proofs.{lemmas.Bool.cases_lt, lemmas.Bool.Decides.nat_tests, lemmas.List.length_push}
 use Rattle.std.specs.List.Sorted.{IsStrictlyIncreasing}
 use Rattle.eval_since.specs.Times.{ArePast, added, recent}
 use Rattle.eval_since.specs.Windows.{IsThinned}
@@ -17,15 +14,13 @@ increasing_recent : (hi x : ℕ) (ys : List ℕ) → IsStrictlyIncreasing ys →
 unfolding recent
 increasing_recent hi x [] h = h
 increasing_recent hi x (y ∷ ys) h = elim (cases_lt hi (x - y)) [
-  | inl far ↦ subst IsStrictlyIncreasing (sym (recent_front hi x y ys far))
-      (increasing_recent hi x ys (increasing_tail y ys h))
+  | inl far ↦ grind (arith, recent_front, increasing_tail, increasing_recent hi x ys (increasing_tail y ys h))
   | inr near ↦ subst IsStrictlyIncreasing (sym (recent_all hi x (y ∷ ys) h (λ _. near))) h
 ]
 
 pub increasing_thinned : (hi x : ℕ) (old new : List ℕ) → IsThinned hi x old new → IsStrictlyIncreasing old
     → IsStrictlyIncreasing new
-increasing_thinned hi x old new (inl same) h = subst IsStrictlyIncreasing (sym same) h
-increasing_thinned hi x old new (inr thin) h = subst IsStrictlyIncreasing (sym thin) (increasing_recent hi x old h)
+increasing_thinned hi x old new h k = grind (arith, increasing_recent)
 
 -- with one more
 pub increasing_more : (bounded : Bool) (ys : List ℕ) (x : ℕ) → IsStrictlyIncreasing ys → ArePast x ys

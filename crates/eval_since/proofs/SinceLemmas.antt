@@ -1,6 +1,6 @@
 -- The recursive law of SINCE.
-use Rattle.std.proofs.Common.{◌≡◌, ℕ, ◌+◌, ◌-◌, ◌<◌, Bool, true, false, ◌&&◌, ◌||◌, List, [], ◌∷◌, refl, sym, ap}
-use Rattle.std.proofs.Common.{ap₂, ◌∙◌, arith}
+use Rattle.std.proofs.Common.{◌≡◌, ℕ, ◌+◌, ◌-◌, ◌<◌, Bool, true, false, ◌&&◌, ◌||◌, List, [], ◌∷◌, refl, sym, ap, ap₂}
+use Rattle.std.proofs.Common.{◌∙◌, arith}
 use Rattle.std.proofs.lemmas.List.Folds.{list_any-append, list_all-append}
 use Rattle.std.proofs.Math.Bool.{and-true, or-false, and_assoc}
 use Rattle.std.specs.List.{list_any, list_all, range_with_len}
@@ -19,15 +19,10 @@ begins_false interval times a b x = refl
 all_more : (a : List Bool) (j p : ℕ) → j < p
     → list_all (truth_at a) (range_with_len (j + 1) (p + 1 - (j + 1)))
     ≡ (list_all (truth_at a) (range_with_len (j + 1) (p - (j + 1))) && truth_at a p)
-all_more a j p low =
-    let one : p + 1 - (j + 1) ≡ p - (j + 1) + 1 = omega arith in
-    let last : j + 1 + (p - (j + 1)) ≡ p = omega arith in
-    let both = list_all-append (truth_at a) (range_with_len (j + 1) (p - (j + 1))) ((j + 1 + (p - (j + 1))) ∷ []) in
-    rw (one, range_suc (j + 1) (p - (j + 1)), both, last) (grind arith)
+all_more a j p low = grind (arith, list_all-append, range_suc)
 
 all_none : (a : List Bool) (p : ℕ) → list_all (truth_at a) (range_with_len (p + 1) (p + 1 - (p + 1))) ≡ true
-all_none a p = let none : p + 1 - (p + 1) ≡ 0 = omega arith in ap
-    (λ n. list_all (truth_at a) (range_with_len (p + 1) n)) none
+all_none a p = grind arith
 
 pub goes_on : SinceRecurrence
 unfolding since_before
@@ -47,27 +42,10 @@ goes_on interval times a b p x =
 
 pub since_is : SinceIs
 unfolding since since_before
-since_is interval times a b i =
-    any_same
-    (λ j. in_interval interval (time_at times i - time_at times j) && truth_at b j
-    && list_all (truth_at a) (range_with_len (j + 1) (i - j)))
-    (λ j. in_interval interval (time_at times i - time_at times j) && truth_at b j
-    && list_all (truth_at a) (range_with_len (j + 1) (i + 1 - (j + 1))))
-    0 (i + 1)
-    (λ j low high. ap (λ n. in_interval interval (time_at times i - time_at times j) && truth_at b j
-    && list_all (truth_at a) (range_with_len (j + 1) n)) (let same : i - j ≡ i + 1 - (j + 1) = omega arith in same))
+since_is interval times a b i = grind arith
 
 pub decided_below : DecidedBelow
 unfolding since_before
-decided_below interval t u a b c d p x times left right =
-    any_same
-    (λ j. in_interval interval (x - time_at t j) && truth_at b j
-    && list_all (truth_at a) (range_with_len (j + 1) (p - (j + 1))))
-    (λ j. in_interval interval (x - time_at u j) && truth_at d j
-    && list_all (truth_at c) (range_with_len (j + 1) (p - (j + 1))))
-    0 p
-    (λ j low high. ap₂ (λ e f. e && f)
-    (ap₂ (λ e f. e && f) (ap (λ n. in_interval interval (x - n)) (times j (omega arith))) (right j (omega arith)))
-    (all_same (truth_at a) (truth_at c) (j + 1) (p - (j + 1)) (λ k l h. left k (omega arith))))
+decided_below interval t u a b c d p x times left right = grind (arith, any_same, ap₂, all_same)
 
 pub ruleset position_by_position = (begins_false, goes_on, since_is, decided_below)

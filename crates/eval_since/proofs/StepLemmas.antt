@@ -1,27 +1,19 @@
 -- One position more: the left operand's table, the right operand's, and the old times forgotten.
-use Rattle.std.proofs.Common.{◌≡◌, ℕ, ◌-◌, ◌≤◌, Bool, true, cond, nat_eq, ◌&&◌, ◌||◌, List, [], ◌∷◌, ◌++◌}
-use Rattle.std.proofs.Common.{Option, Some, None, length, sym, ap, ◌∙◌, arith}
-use Rattle.std.specs.BTreeMap.{is_at}
-use Rattle.std.specs.Option.{is_some}
-use Rattle.mfotl_model.specs.Intervals.{in_interval}
-use Rattle.mfotl_model.specs.Values.{row_cmp}
-use Rattle.mfotl_model.specs.declared.interval.Interval.{Interval}
-use Rattle.mfotl_model.specs.declared.value.Value.{Value}
-use Rattle.eval_since.specs.PackedRows.{packed_rows}
-use Rattle.eval_since.specs.declared.contents.Dated.{Dated}
-use Rattle.eval_since.specs.declared.packed.PackedRows.{PackedRows}
-use Rattle.eval_since.specs.Groups.{NoneEmpty, times_at}
+use Rattle.std.proofs.Common.{◌≡◌, ℕ, ◌-◌, ◌≤◌, Bool, true, cond, ◌&&◌, ◌||◌, List, [], ◌∷◌, ◌++◌, Option, Some, None}
+use Rattle.std.proofs.Common.{length, sym, ◌∙◌, arith}
+use Rattle.std.specs.{BTreeMap.is_at, Option.is_some, List.Sorted.IsStrictlyIncreasing}
+use Rattle.mfotl_model.specs.{Intervals.in_interval, Values.row_cmp}
+use Rattle.mfotl_model.specs.declared.{interval.Interval.Interval, value.Value.Value}
+use Rattle.eval_since.specs.{PackedRows.packed_rows, Groups.NoneEmpty, Groups.times_at}
+use Rattle.eval_since.specs.declared.{contents.Dated.Dated, packed.PackedRows.PackedRows}
 use Rattle.mfotl_model.specs.Tables.{all_sized, has_row, part}
 use Rattle.eval_since.specs.Times.{ArePast, added, reaches}
-use Rattle.eval_since.specs.Windows.{Alone, Ascending, Sized, Placed, Past, IsThinned, Covered, Rising, NotAfter}
-use Rattle.eval_since.specs.Windows.{Fresh, Keeps}
-use Rattle.eval_since.proofs.ExpireLemmas.{past_held, past_joined, past_thinned, placed_thinned}
-use Rattle.relations.proofs.QueueLemmas.{rises_push}
-use Rattle.eval_since.proofs.ExpireLemmas.{covered_push, not_after_later, not_after_push}
-use Rattle.std.specs.List.Sorted.{IsStrictlyIncreasing}
+use Rattle.eval_since.specs.Windows.{Alone, Ascending, Sized, Placed, Past, IsThinned, Covered, Rising, NotAfter, Fresh}
+use Rattle.eval_since.specs.Windows.{Keeps}
+use Rattle.eval_since.proofs.ExpireLemmas.{past_held, past_joined, past_thinned, placed_thinned, covered_push}
+use Rattle.eval_since.proofs.ExpireLemmas.{not_after_later, not_after_push}
+use Rattle.relations.proofs.{QueueLemmas.rises_push, TableRows.all_rows, TableRows.lacks_other}
 use Rattle.eval_since.proofs.RuleLemmas.{increasing_more, increasing_none, increasing_thinned, one_more}
-use Rattle.relations.proofs.MapLemmas.{either}
-use Rattle.relations.proofs.TableRows.{all_rows, lacks_other}
 use Rattle.eval_since.proofs.WithinLemmas.{reaches_step, reaches_thinned}
 
 -- the left operand's table was applied, and the right operand's rows were added, at the time `now`
@@ -51,8 +43,7 @@ pub joined : (interval : Interval) (goes : List Value → Bool) (rows : List (Li
     → ((q v : List Value) → times_at new q v ≡ cond (is_at (row_cmp (part right left v)) q && has_row rows v)
     (added (is_some interval.hi) (times_at held q v) now) (times_at held q v))
     → NoneEmpty new → Joined interval right left goes rows last now old held new queue
-joined interval goes rows now held new kept rises sized first second some =
-    record { rises = rises; sized = sized; kept = kept; first = first; second = second; some = some }
+joined interval goes rows now held new kept rises sized first second some = assumption
 
 module _ {interval : Interval} {right left : List ℕ} {goes : List Value → Bool} {rows : List (List Value)}
     {last now : ℕ} {old held new : List (List Value × List (List Value × List ℕ))} {queue : List Dated}
@@ -64,12 +55,7 @@ module _ {interval : Interval} {right left : List ℕ} {goes : List Value → Bo
   each_joined : (P : List ℕ → Type 0) → ((q v : List Value) → P (times_at old q v)) → P []
       → ((ts : List ℕ) → ArePast now ts → P ts → P (added (is_some interval.hi) ts now))
       → (q v : List Value) → P (times_at new q v)
-  each_joined P was none more q v =
-      let kept : P (times_at held q v) =
-      either P (goes q) (times_at old q v) [] (times_at held q v) (j.first q v) (was q v) none in
-      either P (is_at (row_cmp (part right left v)) q && has_row rows v)
-      (added (is_some interval.hi) (times_at held q v) now) (times_at held q v) (times_at new q v) (j.second q v)
-      (more (times_at held q v) (past_held_now q v) kept) kept
+  each_joined P was none more q v = grind arith
 
   past_after : Past now new
   past_after q v =
@@ -84,13 +70,10 @@ module _ {interval : Interval} {right left : List ℕ} {goes : List Value → Bo
       (λ ts past up. increasing_more (is_some interval.hi) ts now up past)
 
   alone_after : interval.hi ≡ None → Alone new
-  alone_after e = each_joined (λ ts. length ts ≤ 1) (j.kept.alone e) (omega arith)
-      (λ ts past one. one_more (is_some interval.hi) ts now (ap is_some e) one)
+  alone_after e = grind (arith, each_joined, one_more)
 
   sized_after : Sized (length right) new
-  sized_after q v apart =
-      let lacks = lacks_other (length right) rows v j.sized apart in
-      grind (arith, j.first q v, j.second q v, j.kept.sized q v apart)
+  sized_after q v apart = grind (arith, lacks_other)
 
   pub within_after : (x : ℕ) (u : List Value) → reaches interval (times_at new (part right left u) u) x
       ≡ ((reaches interval (times_at old (part right left u) u) x && goes (part right left u))
@@ -147,12 +130,7 @@ module _ {interval : Interval} {right left : List ℕ} {goes : List Value → Bo
         placed = λ q v apart. placed_thinned hi now (times_at new q v) (times_at thin q v) (thins q v)
             (placed_after q v apart);
         past = λ q v. past_thinned hi now now (times_at new q v) (times_at thin q v) (thins q v) (past_after q v);
-        finds = rw e (
-          covered,
-          rising,
-          after now (not_after_push now queue (record { ts = now; rows = packed }) not_later (omega arith)),
-          fresh,
-        );
+        finds = grind (arith, not_after_push, not_later);
       }
 
       pub within_bounded : (x : ℕ) (u : List Value) → now ≤ x
@@ -170,6 +148,4 @@ pub sized_reached : (interval : Interval) (x : ℕ) (right left : List ℕ)
     → Sized (length right) groups → ((u : List Value) → has_row rows u ≡ true
     → reaches interval (times_at groups (part right left u) u) x ≡ true)
     → all_sized (length right) rows ≡ true
-sized_reached interval x right left groups rows sized reached =
-    all_rows (λ row. nat_eq (length row) (length right)) rows
-    (λ row there. grind (arith, sized (part right left row) row, reached row there))
+sized_reached interval x right left groups rows sized reached = grind (arith, all_rows)

@@ -1,9 +1,8 @@
 -- Ascending times: one more at the end, the old ones dropped, and what they reach.
-use Rattle.std.proofs.Common.{◌≡◌, ℕ, zero, suc, ◌+◌, ◌-◌, ◌<◌, ◌≤◌, Bool, true, false, cond, ◌&&◌, ◌||◌}
-use Rattle.std.proofs.Common.{List, [], ◌∷◌, ◌++◌, length, slice_index, drop, get_or, refl, sym, ap}
-use Rattle.std.proofs.Common.{◌∙◌, arith, add-one}
+use Rattle.std.proofs.Common.{◌≡◌, ℕ, zero, suc, ◌+◌, ◌-◌, ◌<◌, ◌≤◌, Bool, true, false, cond, List, [], ◌∷◌, ◌++◌}
+use Rattle.std.proofs.Common.{length, slice_index, drop, get_or, refl, sym, ap, arith, add-one}
 use native.Mathlib.Numerals.{unary_clauses}
-use Rattle.std.proofs.lemmas.Bool.Decides.{nat_tests}
+use Rattle.std.proofs.{lemmas.Bool.Decides.nat_tests, lemmas.Grind.common_steps}
 use Rattle.std.specs.List.Sorted.{IsStrictlyIncreasing}
 use Rattle.mfotl_model.specs.Intervals.{in_interval}
 use Rattle.mfotl_model.specs.declared.interval.Interval.{Interval}
@@ -15,9 +14,7 @@ increasing_tail y ys h = λ k l. let s : suc k + 1 < length (y ∷ ys) = omega a
 
 increasing_cons : (y z : ℕ) (zs : List ℕ) → y < z → IsStrictlyIncreasing (z ∷ zs) → IsStrictlyIncreasing (y ∷ z ∷ zs)
 increasing_cons y z zs low h zero l = low
-increasing_cons y z zs low h (suc k) l =
-    let s : k + 1 < length (z ∷ zs) = omega arith in
-    rw add-one (rw add-one at (h k s))
+increasing_cons y z zs low h (suc k) l = grind arith
 
 pub increasing_drop : (ys : List ℕ) → IsStrictlyIncreasing ys → IsStrictlyIncreasing (drop 1 ys)
 increasing_drop [] h = h
@@ -30,11 +27,7 @@ last_step y z zs x h = simp unary_clauses (simp unary_clauses at h)
 -- a later time at the end
 pub increasing_push : (ys : List ℕ) (x : ℕ) → IsStrictlyIncreasing ys
     → (0 < length ys → slice_index ys (length ys - 1) < x) → IsStrictlyIncreasing (ys ++ x ∷ [])
-increasing_push [] x h last = λ k l. absurd (omega arith)
-increasing_push (y ∷ []) x h last = increasing_cons y x [] (last (omega arith)) (λ k l. absurd (omega arith))
-increasing_push (y ∷ z ∷ zs) x h last =
-    increasing_cons y z (zs ++ x ∷ []) (h zero (omega arith))
-    (increasing_push (z ∷ zs) x (increasing_tail y (z ∷ zs) h) (λ n. last_step y z zs x (last (omega arith))))
+increasing_push ys x h last = grind (arith, common_steps, increasing_cons, zero, increasing_tail, last_step)
 
 -- what is old at the front is dropped
 pub recent_front : (hi x y : ℕ) (ys : List ℕ) → hi < x - y → recent hi x (y ∷ ys) ≡ recent hi x ys
@@ -69,9 +62,7 @@ reaches_none interval x (y ∷ z ∷ zs) h near =
 -- one more time, no earlier than those kept, keeps them ascending
 pub increasing_added : (bounded : Bool) (ys : List ℕ) (x : ℕ) → IsStrictlyIncreasing ys → ArePast x ys
     → is_new bounded ys x ≡ true → IsStrictlyIncreasing (ys ++ x ∷ [])
-increasing_added bounded ys x h past new =
-    increasing_push ys x h (λ n. let p : slice_index ys (length ys - 1) ≤ x = past (length ys - 1) (omega arith) in
-    grind (arith, nat_tests))
+increasing_added bounded ys x h past new = grind (arith, increasing_push, slice_index)
 
 pub added_yes : (bounded : Bool) (ys : List ℕ) (x : ℕ) → is_new bounded ys x ≡ true → ys ++ x ∷ [] ≡ added bounded ys x
 unfolding added
@@ -83,8 +74,7 @@ added_no bounded ys x e = sym (ap (λ b. cond b (ys ++ x ∷ []) ys) e)
 
 -- the list that is left without its first one
 pub recent_pop : (hi x : ℕ) (ys : List ℕ) → hi < x - slice_index ys 0 → recent hi x (drop 1 ys) ≡ recent hi x ys
-recent_pop hi x [] far = refl
-recent_pop hi x (y ∷ ys) far = sym (recent_front hi x y ys far)
+recent_pop hi x ys far = grind (arith, recent_front)
 
 -- where the time at a place is too near, none from there on reaches
 pub reaches_none_at : (interval : Interval) (x : ℕ) (ys : List ℕ) (i y : ℕ) → IsStrictlyIncreasing ys

@@ -1,20 +1,14 @@
 -- Adding and forgetting a table's rows, one after another; what is kept of each row.
-use Rattle.std.proofs.Common.{◌≡◌, ℕ, ◌+◌, ◌-◌, ◌<◌, ◌≤◌, Bool, false, not, cond, nat_le, ◌&&◌, ◌||◌}
-use Rattle.std.proofs.Common.{List, [], ◌∷◌, ◌++◌, length, get_or, slice_index, take, refl, sym, ap}
-use Rattle.std.proofs.Common.{◌∙◌, arith, inl, inr}
-use Rattle.std.proofs.lemmas.Bool.{cases_lt}
-use Rattle.std.proofs.lemmas.Bool.Decides.{nat_tests}
+use Rattle.std.proofs.Common.{◌≡◌, ℕ, ◌+◌, ◌-◌, ◌<◌, Bool, false, cond, nat_le, ◌&&◌, List, [], ◌∷◌, ◌++◌, length}
+use Rattle.std.proofs.Common.{get_or, slice_index, take, refl, arith}
+use Rattle.std.proofs.{lemmas.Bool.cases_lt, lemmas.Bool.Decides.nat_tests}
 use Rattle.std.proofs.lemmas.List.{get_or_append_left, get_or_push, length_push}
-use Rattle.std.specs.BTreeMap.{is_at}
-use Rattle.std.specs.Cmp.{eq_by_cmp_equiv}
-use Rattle.std.specs.List.{filter}
-use Rattle.mfotl_model.specs.Values.{row_cmp, row_total}
+use Rattle.std.specs.{BTreeMap.is_at, Cmp.eq_by_cmp_equiv, List.filter}
+use Rattle.mfotl_model.specs.{Values.row_cmp, Values.row_total, Tables.has_row, Tables.part}
 use Rattle.mfotl_model.specs.declared.value.Value.{Value}
 use Rattle.eval_since.specs.Groups.{times_at}
-use Rattle.mfotl_model.specs.Tables.{has_row, part}
 use Rattle.eval_since.specs.Times.{ArePast, is_new, added, recent}
-use Rattle.relations.proofs.MapLemmas.{either, same_row}
-use Rattle.relations.proofs.TableRows.{has_more}
+use Rattle.relations.proofs.{MapLemmas.either, MapLemmas.same_row, TableRows.has_more}
 
 -- one row of a table, before the rest of it
 pub rows_rest : (h : List ℕ → List ℕ) → ((ts : List ℕ) → h (h ts) ≡ h ts)
@@ -47,22 +41,14 @@ rows_more h twice right left rows i x key q v old cur new low e is before step =
     grind (arith, twice, same_row x v, has_more rows i x v low e)
 
 past_push : (ys : List ℕ) (x : ℕ) → ArePast x ys → ArePast x (ys ++ x ∷ [])
-past_push ys x past = λ k l. elim (cases_lt k (length ys)) [
-  | inl low ↦ let e : slice_index (ys ++ x ∷ []) k
-      ≡ slice_index ys k = get_or_append_left ys (x ∷ []) 0 k low in let p : slice_index ys k ≤ x = past k low
-      in omega (arith, e)
-  | inr high ↦ let n : length (ys ++ x ∷ []) ≡ length ys + 1 = length_push ys x in let m : length ys
-      ≡ k = omega arith in let e : slice_index (ys ++ x ∷ []) k ≡ x = get_or_push ys x 0 k m in omega (arith, e)
-]
+past_push ys x past = grind (arith, cases_lt, slice_index, get_or_append_left, length_push, get_or_push)
 
 pub past_added : (bounded : Bool) (ys : List ℕ) (x : ℕ) → ArePast x ys → ArePast x (added bounded ys x)
 unfolding added
-past_added bounded ys x past =
-    either (ArePast x) (is_new bounded ys x) (ys ++ x ∷ []) ys (added bounded ys x) refl (past_push ys x past) past
+past_added bounded ys x past = grind (arith, either, past_push)
 
 last_is : (ys : List ℕ) (x : ℕ) → slice_index (ys ++ x ∷ []) (length (ys ++ x ∷ []) - 1) ≡ x
-last_is ys x = let n : length (ys ++ x ∷ []) ≡ length ys + 1 = length_push ys x in get_or_push ys x 0
-    (length (ys ++ x ∷ []) - 1) (omega arith)
+last_is ys x = grind (arith, length_push, get_or_push)
 
 not_new : (bounded : Bool) (ys : List ℕ) (x : ℕ) → is_new bounded (ys ++ x ∷ []) x ≡ false
 not_new bounded ys x = grind (arith, nat_tests, last_is ys x, length_push ys x)

@@ -1,10 +1,8 @@
 use Rattle.std.proofs.Common.{◌&&◌, ap, sym, arith, take, ◌∙◌}
 use Rattle.std.specs.BTreeMap.{is_at}
-use Rattle.mfotl_model.specs.Values.{row_cmp}
-use Rattle.eval_since.specs.Groups.{times_at}
-use Rattle.mfotl_model.specs.Tables.{has_row, part}
+use Rattle.mfotl_model.specs.{Values.row_cmp, Tables.has_row, Tables.part}
+use Rattle.eval_since.specs.{Groups.times_at, Times.added, Times.ArePast}
 use Rattle.relations.proofs.MapLemmas.{either}
-use Rattle.eval_since.specs.Times.{added, ArePast}
 use Rattle.eval_since.proofs.GroupRowLemmas.{all_together}
 use Rattle.eval_since.proofs.WindowLemmas.{rows_more, added_twice, past_added}
 use Rattle.eval_since.proofs.contents.add_rows.Goals as goal

@@ -1,5 +1,5 @@
-use Rattle.eval_since.proofs.StepLemmas.{covered_after, joined, kept_bounded, kept_unbounded, past_before}
-use Rattle.eval_since.proofs.StepLemmas.{placed_after, rising_after, within_after, within_bounded}
+use Rattle.eval_since.proofs.StepLemmas.{covered_after, joined, kept_bounded, kept_unbounded, past_before, placed_after}
+use Rattle.eval_since.proofs.StepLemmas.{rising_after, within_after, within_bounded}
 use Rattle.eval_since.specs.LeftOperand.{lead, left_has}
 use Rattle.eval_since.proofs.contents.step.Goals as goal
 

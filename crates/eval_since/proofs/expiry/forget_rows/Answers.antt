@@ -1,7 +1,6 @@
-use Rattle.std.proofs.Common.{rules, ◌≡◌, ◌∷◌, ◌&&◌, refl, ◌∙◌}
+use Rattle.std.proofs.Common.{rules, ◌≡◌, ◌∷◌, refl, ◌∙◌}
 use Rattle.mfotl_model.specs.Tables.{part}
-use Rattle.eval_since.specs.Groups.{times_at}
-use Rattle.eval_since.specs.Times.{recent}
+use Rattle.eval_since.specs.{Groups.times_at, Times.recent}
 use Rattle.eval_since.proofs.WindowLemmas.{rows_rest, recent_twice}
 use Rattle.eval_since.proofs.expiry.forget_rows.Goals as goal
 

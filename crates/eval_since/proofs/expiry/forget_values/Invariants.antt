@@ -1,11 +1,8 @@
 use Rattle.std.proofs.Common.{◌≡◌, ◌&&◌, List, cond}
 use Rattle.std.specs.BTreeMap.{is_at}
-use Rattle.mfotl_model.specs.Values.{row_cmp}
+use Rattle.mfotl_model.specs.{Values.row_cmp, Tables.has_row, Tables.part}
 use Rattle.mfotl_model.specs.declared.value.Value.{Value}
-use Rattle.eval_since.specs.Groups.{NoneEmpty, times_at}
-use Rattle.mfotl_model.specs.Tables.{has_row, part}
-use Rattle.eval_since.specs.PackedRows.{alone}
-use Rattle.eval_since.specs.Times.{recent}
+use Rattle.eval_since.specs.{Groups.NoneEmpty, Groups.times_at, PackedRows.alone, Times.recent}
 use Rattle.eval_since.proofs.expiry.forget_values.Given as goal
 
 -- once what is left is forgotten

@@ -1,6 +1,5 @@
 use Rattle.eval_since.specs.Times.{recent}
-use Rattle.eval_since.proofs.GroupLemmas.{recent_none}
-use Rattle.eval_since.proofs.RowKeyLemmas.{others_stay}
+use Rattle.eval_since.proofs.{GroupLemmas.recent_none, RowKeyLemmas.others_stay}
 use Rattle.eval_since.proofs.hashed.forget_int.Goals as goal
 
 pub returns-in-None-clause-times : goal.returns-in-None-clause-times

@@ -1,4 +1,3 @@
-use Rattle.std.proofs.Common.{◌∙◌}
 use Rattle.eval_since.proofs.hashed.wide_put.Goals as goal
 
 pub returns-clause-times : goal.returns-clause-times

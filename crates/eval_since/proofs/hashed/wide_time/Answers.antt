@@ -1,4 +1,3 @@
-use Rattle.std.proofs.Common.{◌∙◌}
 use Rattle.eval_since.proofs.hashed.wide_time.Goals as goal
 
 pub add-requires : goal.add-requires

@@ -1,8 +1,7 @@
-use Rattle.std.proofs.Common.{◌<◌, [], cond, ap, ◌∙◌}
+use Rattle.std.proofs.Common.{[], cond, ap, ◌∙◌}
 use Rattle.std.specs.BTreeMap.{is_at}
 use Rattle.mfotl_model.specs.Values.{row_cmp}
-use Rattle.eval_since.proofs.FilledLemmas.{one_has, some_added}
-use Rattle.eval_since.proofs.OneRowLemmas.{times_one}
+use Rattle.eval_since.proofs.{FilledLemmas.one_has, FilledLemmas.some_added, OneRowLemmas.times_one}
 use Rattle.eval_since.proofs.held.first_time.Goals as goal
 
 pub returns-clause-times : goal.returns-clause-times

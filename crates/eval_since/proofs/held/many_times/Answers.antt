@@ -1,4 +1,3 @@
-use Rattle.std.proofs.Common.{◌∙◌}
 use Rattle.eval_since.proofs.held.many_times.Goals as goal
 
 pub add-requires : goal.add-requires

@@ -1,7 +1,7 @@
-use Rattle.std.proofs.Common.{◌<◌, sym, subst, ◌∙◌}
+use Rattle.std.proofs.Common.{sym, subst, ◌∙◌}
 use Rattle.eval_since.specs.Times.{ArePast, added}
-use Rattle.eval_since.proofs.FilledLemmas.{one_has, some_added}
-use Rattle.eval_since.proofs.OneRowLemmas.{one_changed, own_times}
+use Rattle.eval_since.proofs.{FilledLemmas.one_has, FilledLemmas.some_added, OneRowLemmas.one_changed}
+use Rattle.eval_since.proofs.{OneRowLemmas.own_times}
 use Rattle.eval_since.proofs.held.next_time.Goals as goal
 
 pub add-requires : goal.add-requires

@@ -1,7 +1,6 @@
 use Rattle.std.proofs.Common.{refl, sym, ◌∙◌}
 use Rattle.eval_since.specs.Times.{recent}
-use Rattle.eval_since.proofs.GroupLemmas.{recent_none}
-use Rattle.eval_since.proofs.OneRowLemmas.{one_apart, one_changed}
+use Rattle.eval_since.proofs.{GroupLemmas.recent_none, OneRowLemmas.one_apart, OneRowLemmas.one_changed}
 use Rattle.eval_since.proofs.held.one_recent.Goals as goal
 
 pub returns-then-eq-clause-times : goal.returns-then-eq-clause-times

@@ -1,8 +1,7 @@
 use Rattle.std.proofs.Common.{◌∷◌, [], sym, ap, ◌∙◌}
 use Rattle.relations.proofs.KeptLemmas.{empty_list, not_empty}
 use Rattle.relations.specs.KeptRows.{list_for}
-use Rattle.eval_since.proofs.FilledLemmas.{one_has}
-use Rattle.eval_since.proofs.OneRowLemmas.{none_left}
+use Rattle.eval_since.proofs.{FilledLemmas.one_has, OneRowLemmas.none_left}
 use Rattle.eval_since.proofs.held.same_recent.Goals as goal
 
 pub returns-then-is_empty-clause-times : goal.returns-then-is_empty-clause-times

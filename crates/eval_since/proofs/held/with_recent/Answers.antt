@@ -2,8 +2,7 @@ use Rattle.std.proofs.Common.{cond, sym, ◌∙◌}
 use Rattle.std.specs.BTreeMap.{is_at}
 use Rattle.mfotl_model.specs.Values.{row_cmp}
 use Rattle.relations.specs.KeptRows.{list_for}
-use Rattle.eval_since.specs.HeldTimes.{held_times}
-use Rattle.eval_since.specs.Times.{recent}
+use Rattle.eval_since.specs.{HeldTimes.held_times, Times.recent}
 use Rattle.eval_since.proofs.GroupLemmas.{nothing_recent}
 use Rattle.eval_since.proofs.held.with_recent.Goals as goal
 

@@ -2,10 +2,8 @@ use Rattle.std.proofs.Common.{cond, sym, subst, ◌∙◌}
 use Rattle.std.specs.BTreeMap.{is_at}
 use Rattle.mfotl_model.specs.Values.{row_cmp}
 use Rattle.relations.specs.KeptRows.{list_for}
-use Rattle.eval_since.specs.Groups.{HaveTimes}
-use Rattle.eval_since.specs.HeldTimes.{held_times}
-use Rattle.eval_since.proofs.FilledLemmas.{one_has}
-use Rattle.eval_since.proofs.OneRowLemmas.{times_one}
+use Rattle.eval_since.specs.{Groups.HaveTimes, HeldTimes.held_times}
+use Rattle.eval_since.proofs.{FilledLemmas.one_has, OneRowLemmas.times_one}
 use Rattle.eval_since.proofs.held.with_times.Goals as goal
 
 pub returns-in-Zero-clause-times : goal.returns-in-Zero-clause-times

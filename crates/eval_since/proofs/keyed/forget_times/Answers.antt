@@ -1,11 +1,9 @@
 use Rattle.std.proofs.lemmas.Grind.{common_steps}
 use Rattle.std.proofs.Common.{◌≡◌, [], Some, None, arith, sym, ap, ◌∙◌}
-use Rattle.std.specs.Map.{lookup}
-use Rattle.std.specs.Option.{unwrap_or}
+use Rattle.std.specs.{Map.lookup, Option.unwrap_or}
 use Rattle.relations.proofs.KeptLemmas.{empty_list, not_empty}
 use Rattle.relations.specs.KeptRows.{list_for}
-use Rattle.eval_since.specs.RowKeys.{by_rows}
-use Rattle.eval_since.specs.Times.{recent}
+use Rattle.eval_since.specs.{RowKeys.by_rows, Times.recent}
 use Rattle.eval_since.proofs.GroupLemmas.{recent_none}
 use Rattle.eval_since.proofs.RowKeyLemmas.{key_found, none_changed, times_changed, times_stay}
 use Rattle.eval_since.proofs.keyed.forget_times.Goals as goal

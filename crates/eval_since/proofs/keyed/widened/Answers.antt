@@ -3,8 +3,7 @@ use Rattle.std.specs.Option.{IfSome, unwrap_or}
 use Rattle.mfotl_model.specs.declared.value.Value.{Value}
 use Rattle.relations.proofs.KeptLemmas.{last_is, or_none}
 use Rattle.relations.specs.KeptRows.{kept_for, last_for, list_for}
-use Rattle.eval_since.specs.Groups.{HaveTimes}
-use Rattle.eval_since.specs.RowKeys.{by_rows}
+use Rattle.eval_since.specs.{Groups.HaveTimes, RowKeys.by_rows}
 use Rattle.eval_since.proofs.RowKeyLemmas.{by_themselves, keys_differ}
 use Rattle.eval_since.proofs.keyed.widened.Given as given
 use Rattle.eval_since.proofs.keyed.widened.Goals as goal

@@ -1,6 +1,5 @@
-use Rattle.std.proofs.Common.{◌≡◌, ◌&&◌, [], drop, sym, ◌∙◌, arith}
-use Rattle.std.proofs.lemmas.List.{drop_all}
-use Rattle.std.proofs.Math.Bool.{and-true}
+use Rattle.std.proofs.Common.{◌≡◌, [], drop, sym, ◌∙◌, arith}
+use Rattle.std.proofs.{lemmas.List.drop_all, Math.Bool.and-true}
 use Rattle.std.specs.List.{list_all}
 use Rattle.eval_since.specs.declared.contents.Dated.{Dated}
 use Rattle.eval_since.proofs.rebuild.dated_list.Goals as goal

@@ -2,11 +2,9 @@ use Rattle.std.proofs.Common.{◌&&◌, nat_eq, sym, subst, ap, ◌∙◌, rules
 use Rattle.std.proofs.lemmas.List.Sorted.{IsNonDecreasingBy-from_sort_by_key, list_any-IsPermutation}
 use Rattle.std.specs.List.{list_all}
 use Rattle.mfotl_model.specs.Tables.{has_row}
-use Rattle.eval_since.specs.Windows.{Rising, names}
-use Rattle.eval_since.specs.PackedRows.{packed_rows}
+use Rattle.eval_since.specs.{Windows.Rising, Windows.names, PackedRows.packed_rows}
 use Rattle.eval_since.specs.declared.contents.Dated.{Dated}
-use Rattle.relations.proofs.QueueLemmas.{rises_from}
-use Rattle.relations.proofs.TestLemmas.{all_moved}
+use Rattle.relations.proofs.{QueueLemmas.rises_from, TestLemmas.all_moved}
 use Rattle.eval_since.proofs.rebuild.dated_rows.Goals as goal
 
 pub returns-clause-names : goal.returns-clause-names

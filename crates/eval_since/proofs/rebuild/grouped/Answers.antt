@@ -1,4 +1,4 @@
-use Rattle.std.proofs.Common.{◌≡◌, ◌<◌, ◌∷◌, ap, ◌∙◌, rules}
+use Rattle.std.proofs.Common.{◌≡◌, ◌∷◌, ap, ◌∙◌, rules}
 use Rattle.eval_since.specs.Recalled.{put_times, times_kept}
 use Rattle.eval_since.proofs.rebuild.grouped.Goals as goal
 

@@ -1,9 +1,7 @@
 use Rattle.std.proofs.Common.{◌≡◌, ◌<◌, List, [], length}
-use Rattle.std.specs.List.{AllByRecursion}
-use Rattle.std.specs.List.Sorted.{IsStrictlyIncreasing}
+use Rattle.std.specs.{List.AllByRecursion, List.Sorted.IsStrictlyIncreasing}
 use Rattle.mfotl_model.specs.declared.value.Value.{Value}
-use Rattle.eval_since.specs.Groups.{NoneEmpty, times_at}
-use Rattle.eval_since.specs.Recalled.{put_times, times_kept}
+use Rattle.eval_since.specs.{Groups.NoneEmpty, Groups.times_at, Recalled.put_times, Recalled.times_kept}
 use Rattle.eval_since.specs.declared.recalled.KeptRow.{KeptRow}
 use Rattle.eval_since.proofs.rebuild.grouped.Given as goal
 

@@ -4,8 +4,7 @@ use Rattle.relations.proofs.KeptLemmas.{empty_list, not_empty}
 use Rattle.eval_since.specs.Times.{recent}
 use Rattle.eval_since.proofs.FewLemmas.{absent, is_its, list_removed, list_written, removed_differ, some_removed}
 use Rattle.eval_since.proofs.FewLemmas.{some_written, written_differ}
-use Rattle.eval_since.proofs.GroupLemmas.{recent_none}
-use Rattle.eval_since.proofs.RowKeyLemmas.{none_changed}
+use Rattle.eval_since.proofs.{GroupLemmas.recent_none, RowKeyLemmas.none_changed}
 use Rattle.eval_since.proofs.few.FewRows.forget.Goals as goal
 
 pub returns-in_default-clause-times : goal.returns-in_default-clause-times

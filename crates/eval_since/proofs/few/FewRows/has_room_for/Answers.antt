@@ -1,7 +1,6 @@
 use Rattle.std.proofs.lemmas.Grind.{common_steps}
 use Rattle.std.proofs.Common.{◌≡◌, ◌||◌, false, nat_lt, length, sym, ap, ◌∙◌, arith}
-use Rattle.std.specs.List.{position}
-use Rattle.std.specs.Option.{is_some}
+use Rattle.std.specs.{List.position, Option.is_some}
 use Rattle.relations.specs.KeptRows.{kept_for}
 use Rattle.eval_since.proofs.FewLemmas.{is_its, placed}
 use Rattle.eval_since.proofs.few.FewRows.has_room_for.Goals as goal

@@ -1,6 +1,5 @@
 use Rattle.std.proofs.Common.{◌≡◌, [], drop, sym, ◌∙◌, arith}
-use Rattle.std.proofs.Math.Bool.{or-false}
-use Rattle.std.proofs.lemmas.List.{drop_all}
+use Rattle.std.proofs.{Math.Bool.or-false, lemmas.List.drop_all}
 use Rattle.mfotl_model.specs.Tables.{has_row, part}
 use Rattle.eval_since.proofs.KeyLemmas.{matches_are}
 use Rattle.eval_since.proofs.few.FewRows.push_matching.Goals as goal

@@ -1,6 +1,5 @@
 use Rattle.std.proofs.Common.{◌≡◌, [], drop, refl, sym, ◌∙◌, arith}
-use Rattle.std.proofs.Math.Bool.{or-false}
-use Rattle.std.proofs.lemmas.List.{drop_all}
+use Rattle.std.proofs.{Math.Bool.or-false, lemmas.List.drop_all}
 use Rattle.mfotl_model.specs.Tables.{has_row}
 use Rattle.relations.proofs.KeptLemmas.{any_is}
 use Rattle.eval_since.specs.Times.{reaches}

@@ -3,8 +3,7 @@ use Rattle.mfotl_model.specs.Tables.{has_row}
 use Rattle.relations.proofs.MapLemmas.{either}
 use Rattle.relations.specs.KeptRows.{list_for}
 use Rattle.eval_since.specs.Times.{ArePast, added}
-use Rattle.eval_since.proofs.GroupRowLemmas.{row_more}
-use Rattle.eval_since.proofs.WindowLemmas.{added_twice, past_added}
+use Rattle.eval_since.proofs.{GroupRowLemmas.row_more, WindowLemmas.added_twice, WindowLemmas.past_added}
 use Rattle.eval_since.proofs.group.Group.add_all.Goals as goal
 
 pub add-requires : goal.add-requires

@@ -2,8 +2,7 @@ use Rattle.std.proofs.Common.{◌≡◌, List, cond, take}
 use Rattle.mfotl_model.specs.Tables.{has_row}
 use Rattle.mfotl_model.specs.declared.value.Value.{Value}
 use Rattle.relations.specs.KeptRows.{list_for}
-use Rattle.eval_since.specs.Groups.{HaveTimes}
-use Rattle.eval_since.specs.Times.{added}
+use Rattle.eval_since.specs.{Groups.HaveTimes, Times.added}
 use Rattle.eval_since.proofs.group.Group.add_all.Given as goal
 
 abbrev pub invariant-loop-row : goal.invariant-loop-row

@@ -1,8 +1,7 @@
 use Rattle.std.proofs.Common.{[], ◌∷◌}
 use Rattle.relations.specs.KeptRows.{list_for}
 use Rattle.eval_since.specs.Times.{recent}
-use Rattle.eval_since.proofs.GroupRowLemmas.{row_rest}
-use Rattle.eval_since.proofs.WindowLemmas.{recent_twice}
+use Rattle.eval_since.proofs.{GroupRowLemmas.row_rest, WindowLemmas.recent_twice}
 use Rattle.eval_since.proofs.group.Group.forget_all.Goals as goal
 
 pub returns-in_ok-push-in-One-clause-times : goal.returns-in_ok-push-in-One-clause-times

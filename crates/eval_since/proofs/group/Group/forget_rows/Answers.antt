@@ -1,8 +1,7 @@
 use Rattle.std.proofs.Common.{rules, ◌≡◌, ◌∷◌, ◌∙◌}
 use Rattle.relations.specs.KeptRows.{list_for}
 use Rattle.eval_since.specs.Times.{recent}
-use Rattle.eval_since.proofs.GroupRowLemmas.{row_rest}
-use Rattle.eval_since.proofs.WindowLemmas.{recent_twice}
+use Rattle.eval_since.proofs.{GroupRowLemmas.row_rest, WindowLemmas.recent_twice}
 use Rattle.eval_since.proofs.group.Group.forget_rows.Goals as goal
 
 pub loop-row-preserved : goal.loop-row-preserved

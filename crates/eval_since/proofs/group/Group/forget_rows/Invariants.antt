@@ -2,8 +2,7 @@ use Rattle.std.proofs.Common.{◌≡◌, List, cond}
 use Rattle.mfotl_model.specs.Tables.{has_row}
 use Rattle.mfotl_model.specs.declared.value.Value.{Value}
 use Rattle.relations.specs.KeptRows.{list_for}
-use Rattle.eval_since.specs.Groups.{HaveTimes}
-use Rattle.eval_since.specs.Times.{recent}
+use Rattle.eval_since.specs.{Groups.HaveTimes, Times.recent}
 use Rattle.eval_since.proofs.group.Group.forget_rows.Given as goal
 
 -- once what is left is forgotten

@@ -1,9 +1,7 @@
 use Rattle.std.proofs.Common.{rules, ◌≡◌, ◌∷◌, [], ◌∙◌}
 use Rattle.relations.specs.KeptRows.{list_for}
-use Rattle.eval_since.specs.PackedRows.{alone}
-use Rattle.eval_since.specs.Times.{recent}
-use Rattle.eval_since.proofs.GroupRowLemmas.{row_rest}
-use Rattle.eval_since.proofs.WindowLemmas.{recent_twice}
+use Rattle.eval_since.specs.{PackedRows.alone, Times.recent}
+use Rattle.eval_since.proofs.{GroupRowLemmas.row_rest, WindowLemmas.recent_twice}
 use Rattle.eval_since.proofs.group.Group.forget_values.Goals as goal
 
 pub loop-value-preserved : goal.loop-value-preserved

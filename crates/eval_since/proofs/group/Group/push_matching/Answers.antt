@@ -1,9 +1,9 @@
 use Rattle.std.proofs.Common.{◌&&◌, List, Bool, sym, ap, ap₂, ◌∙◌}
 use Rattle.mfotl_model.specs.declared.value.Value.{Value}
 use Rattle.mfotl_model.specs.Tables.{has_row, part}
-use Rattle.eval_since.proofs.OneRowLemmas.{no_match, one_match}
+use Rattle.eval_since.proofs.{OneRowLemmas.no_match, OneRowLemmas.one_match}
+use Rattle.eval_since.proofs.{group.Group.push_matching.Goals.else-reaches-via-else-reaches}
 use Rattle.eval_since.proofs.group.Group.push_matching.Goals as goal
-use Rattle.eval_since.proofs.group.Group.push_matching.Goals.{else-reaches-via-else-reaches}
 use Rattle.eval_since.proofs.group.Group.push_matching.Goals.{
   else-reaches-via-then-reaches+in_ok-has_part-in-One+else-branch,
 }

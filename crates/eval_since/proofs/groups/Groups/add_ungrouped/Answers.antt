@@ -7,8 +7,7 @@ use Rattle.relations.proofs.KeptLemmas.{each_after}
 use Rattle.relations.specs.KeptRows.{list_for}
 use Rattle.eval_since.specs.Times.{added}
 use Rattle.eval_since.proofs.FilledLemmas.{IsFilled, had_times, rows_changed, some_added}
-use Rattle.eval_since.proofs.GroupLemmas.{ungrouped}
-use Rattle.eval_since.proofs.GroupRowLemmas.{no_rows}
+use Rattle.eval_since.proofs.{GroupLemmas.ungrouped, GroupRowLemmas.no_rows}
 use Rattle.eval_since.proofs.groups.Groups.add_ungrouped.Goals as goal
 
 pub returns-then-is_empty-clause-times : goal.returns-then-is_empty-clause-times

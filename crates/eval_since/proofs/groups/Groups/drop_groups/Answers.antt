@@ -1,7 +1,6 @@
-use Rattle.eval_since.proofs.GroupLemmas.{gone_more}
+use Rattle.eval_since.proofs.{GroupLemmas.gone_more, FilledLemmas.IsFilled, FilledLemmas.each_gone}
 use Rattle.std.proofs.Common.{arith, take}
 use Rattle.mfotl_model.specs.Tables.{has_row}
-use Rattle.eval_since.proofs.FilledLemmas.{IsFilled, each_gone}
 use Rattle.eval_since.proofs.groups.Groups.drop_groups.Goals as goal
 
 pub loop-part-preserved : goal.loop-part-preserved

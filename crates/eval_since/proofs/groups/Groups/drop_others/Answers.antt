@@ -1,8 +1,6 @@
-use Rattle.std.proofs.Common.{rules}
-use Rattle.std.proofs.lemmas.Map.Made.{filter_same_pairs}
+use Rattle.std.proofs.{Common.rules, lemmas.Map.Made.filter_same_pairs}
 use Rattle.mfotl_model.specs.Tables.{has_row}
-use Rattle.eval_since.proofs.FilledLemmas.{filled_where}
-use Rattle.eval_since.proofs.GroupLemmas.{kept_where}
+use Rattle.eval_since.proofs.{FilledLemmas.filled_where, GroupLemmas.kept_where}
 use Rattle.eval_since.proofs.groups.Groups.drop_others.Goals as goal
 
 pub returns : goal.returns

@@ -1,9 +1,10 @@
 use Rattle.std.proofs.Common.{arith, take}
 use Rattle.mfotl_model.specs.Tables.{has_row}
-use Rattle.eval_since.proofs.FilledLemmas.{IsFilled, each_left}
+use Rattle.eval_since.proofs.{FilledLemmas.IsFilled, FilledLemmas.each_left}
+use Rattle.eval_since.proofs.{groups.Groups.move_groups.Goals.in-Some+in_ok-keep_group}
+use Rattle.eval_since.proofs.{groups.Groups.move_groups.Goals.in_default}
 use Rattle.eval_since.proofs.GroupLemmas.{gone_more, kept_none, kept_some}
 use Rattle.eval_since.proofs.groups.Groups.move_groups.Goals as goal
-use Rattle.eval_since.proofs.groups.Groups.move_groups.Goals.{in-Some+in_ok-keep_group, in_default}
 
 pub loop-part-preserved : goal.loop-part-preserved
 loop-part-preserved c =

@@ -2,8 +2,7 @@ use Rattle.std.proofs.Common.{◌≡◌, ◌||◌, List, drop}
 use Rattle.std.specs.List.{list_any}
 use Rattle.mfotl_model.specs.Tables.{has_row}
 use Rattle.mfotl_model.specs.declared.value.Value.{Value}
-use Rattle.eval_since.specs.Groups.{times_at}
-use Rattle.eval_since.specs.Times.{reaches}
+use Rattle.eval_since.specs.{Groups.times_at, Times.reaches}
 use Rattle.eval_since.proofs.groups.Groups.push_found.Given as goal
 
 -- what was found and what is left to look up

@@ -3,8 +3,7 @@ use Rattle.std.proofs.lemmas.Result.{on_ok_weaker}
 use Rattle.std.specs.BTreeMap.{is_at}
 use Rattle.mfotl_model.specs.Values.{row_cmp}
 use Rattle.relations.specs.KeptRows.{list_for}
-use Rattle.eval_since.specs.RowKeys.{by_rows, one_int}
-use Rattle.eval_since.specs.Times.{added}
+use Rattle.eval_since.specs.{RowKeys.by_rows, RowKeys.one_int, Times.added}
 use Rattle.eval_since.proofs.hashed.Hashed.add.Goals as goal
 
 pub returns-in-Wide-clause-some : goal.returns-in-Wide-clause-some

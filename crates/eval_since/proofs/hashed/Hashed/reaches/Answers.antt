@@ -1,7 +1,6 @@
 use Rattle.std.proofs.Common.{sym, ap, ◌∙◌, rules, SFits, to_z-of_z, w64}
 use Rattle.relations.specs.KeptRows.{list_for}
-use Rattle.eval_since.specs.RowKeys.{by_rows, one_int}
-use Rattle.eval_since.specs.Times.{reaches}
+use Rattle.eval_since.specs.{RowKeys.by_rows, RowKeys.one_int, Times.reaches}
 use Rattle.eval_since.proofs.RowKeyLemmas.{no_times}
 use Rattle.eval_since.proofs.hashed.Hashed.reaches.Goals as goal
 

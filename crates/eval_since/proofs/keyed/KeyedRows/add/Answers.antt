@@ -1,9 +1,8 @@
 use Rattle.std.proofs.lemmas.Grind.{common_steps}
-use Rattle.std.proofs.Common.{◌<◌, Some, arith, sym, subst, ap, ap₂, ◌∙◌}
+use Rattle.std.proofs.Common.{Some, arith, sym, subst, ap, ap₂, ◌∙◌}
 use Rattle.std.specs.Option.{unwrap_or}
 use Rattle.relations.specs.KeptRows.{list_for}
-use Rattle.eval_since.specs.RowKeys.{by_rows}
-use Rattle.eval_since.specs.Times.{ArePast, added}
+use Rattle.eval_since.specs.{RowKeys.by_rows, Times.ArePast, Times.added}
 use Rattle.eval_since.proofs.FilledLemmas.{some_added}
 use Rattle.eval_since.proofs.RowKeyLemmas.{key_found, times_changed, times_stay}
 use Rattle.eval_since.proofs.keyed.KeyedRows.add.Goals as goal

@@ -1,9 +1,7 @@
-use Rattle.std.proofs.Common.{sym, ◌∙◌}
-use Rattle.std.proofs.Math.Bool.{or-false}
+use Rattle.std.proofs.{Common.sym, Common.◌∙◌, Math.Bool.or-false}
 use Rattle.mfotl_model.specs.Tables.{has_row, part}
 use Rattle.eval_since.specs.RowKeys.{by_rows}
-use Rattle.eval_since.proofs.KeyLemmas.{matches_are}
-use Rattle.eval_since.proofs.RowKeyLemmas.{keys_differ}
+use Rattle.eval_since.proofs.{KeyLemmas.matches_are, RowKeyLemmas.keys_differ}
 use Rattle.eval_since.proofs.keyed.KeyedRows.push_matching.Goals as goal
 
 pub returns : goal.returns

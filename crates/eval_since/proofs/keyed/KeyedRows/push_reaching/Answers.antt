@@ -2,8 +2,7 @@ use Rattle.std.proofs.Common.{refl, sym, ◌∙◌}
 use Rattle.std.proofs.Math.Bool.{or-false}
 use Rattle.mfotl_model.specs.Tables.{has_row}
 use Rattle.relations.proofs.KeptLemmas.{any_is}
-use Rattle.eval_since.specs.RowKeys.{by_rows}
-use Rattle.eval_since.specs.Times.{reaches}
+use Rattle.eval_since.specs.{RowKeys.by_rows, Times.reaches}
 use Rattle.eval_since.proofs.RowKeyLemmas.{keys_differ}
 use Rattle.eval_since.proofs.keyed.KeyedRows.push_reaching.Goals as goal
 

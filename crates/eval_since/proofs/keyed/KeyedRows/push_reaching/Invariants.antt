@@ -1,9 +1,8 @@
 use Rattle.std.proofs.Common.{◌≡◌, ◌||◌, List}
 use Rattle.std.specs.List.{list_any}
 use Rattle.mfotl_model.specs.declared.value.Value.{Value}
-use Rattle.eval_since.specs.Groups.{hit}
+use Rattle.eval_since.specs.{Groups.hit, RowKeys.by_rows}
 use Rattle.mfotl_model.specs.Tables.{has_row}
-use Rattle.eval_since.specs.RowKeys.{by_rows}
 use Rattle.eval_since.proofs.keyed.KeyedRows.push_reaching.Given as goal
 
 -- what was found and what is left to look through

@@ -1,5 +1,5 @@
 use Rattle.std.proofs.lemmas.Grind.{common_steps}
-use Rattle.std.proofs.Common.{◌≡◌, [], Some, None, arith, refl}
+use Rattle.std.proofs.Common.{◌≡◌, Some, None, arith, refl}
 use Rattle.std.specs.Map.{lookup}
 use Rattle.eval_since.specs.Times.{reaches}
 use Rattle.eval_since.proofs.RowKeyLemmas.{key_found}

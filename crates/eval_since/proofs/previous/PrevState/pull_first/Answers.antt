@@ -1,5 +1,4 @@
-use Rattle.std.proofs.Common.{arith}
-use Rattle.std.proofs.lemmas.Bool.Decides.{nat_tests}
+use Rattle.std.proofs.{Common.arith, lemmas.Bool.Decides.nat_tests}
 use Rattle.mfotl_model.specs.Satisfaction.{previous}
 use Rattle.eval_since.proofs.previous.PrevState.pull_first.Goals as goal
 

@@ -1,5 +1,4 @@
-use Rattle.std.proofs.Common.{◌≤◌, arith}
-use Rattle.std.proofs.lemmas.List.{length_push}
+use Rattle.std.proofs.{Common.◌≤◌, Common.arith, lemmas.List.length_push}
 use Rattle.mfotl_model.proofs.TimeLemmas.{climbs_push}
 use Rattle.eval_since.proofs.FollowsLemmas.{follows_time}
 use Rattle.eval_since.proofs.since.SinceState.push_time.Goals as goal

@@ -1,9 +1,8 @@
-use Rattle.std.proofs.Common.{◌||◌, ◌&&◌, sym, ap, ◌∙◌}
+use Rattle.std.proofs.Common.{sym, ap, ◌∙◌}
 use Rattle.std.proofs.lemmas.Bool.{and_parts}
 use Rattle.mfotl_model.specs.Tables.{has_row, part}
 use Rattle.relations.proofs.AscendingRows.{has_ascending}
-use Rattle.eval_since.specs.LeftOperand.{grouping}
-use Rattle.eval_since.specs.WindowView.{within}
+use Rattle.eval_since.specs.{LeftOperand.grouping, WindowView.within}
 use Rattle.eval_since.proofs.StepLemmas.{sized_reached}
 use Rattle.eval_since.proofs.window.Window.table_of.Goals as goal
 
