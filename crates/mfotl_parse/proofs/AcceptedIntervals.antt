@@ -5,29 +5,25 @@ use Rattle.std.proofs.lemmas.List.{append_assoc, length-append}
 use Rattle.mfotl_lex.specs.Lexemes.{Lexeme}
 use Rattle.mfotl_model.specs.declared.interval.Interval.{Interval}
 use Rattle.mfotl_sig.specs.Preds.{PredOf}
-use Rattle.mfotl_parse.specs.declared.class.Class.{Class}
+use Rattle.mfotl_parse.specs.declared.{class.Class.Class, class.Quantifier.Quantifier}
 use Rattle.mfotl_parse.specs.declared.class.Class.TheVariants as classes
-use Rattle.mfotl_parse.specs.declared.class.Quantifier.{Quantifier}
-use Rattle.mfotl_parse.specs.Classes.{class_of, unit_of}
+use Rattle.mfotl_parse.specs.{Classes.class_of, Classes.unit_of, Operands.operand_move, Operands.fresh_move}
+use Rattle.mfotl_parse.specs.{Reading.transition, Reading.transition_at, Reduction.hold, Viability.if_moved}
+use Rattle.mfotl_parse.specs.{Viability.accepts}
 use Rattle.mfotl_parse.specs.Grammar.{WrittenVariable, Bare, Asked, WrittenVariables, LastVariable, MoreVariables}
 use Rattle.mfotl_parse.specs.Grammar.{WrittenBound, Count, Counted, WrittenEnd, Included, Excluded, Unbounded}
-use Rattle.mfotl_parse.specs.Grammar.{WrittenInterval, Omitted, From, Above, variable_spelling, variables_spelling}
+use Rattle.mfotl_parse.specs.Grammar.{WrittenInterval, From, Above, variable_spelling, variables_spelling}
 use Rattle.mfotl_parse.specs.Grammar.{bound_spelling, end_spelling, interval_spelling, FitsVariable, FitsVariables}
 use Rattle.mfotl_parse.specs.Grammar.{FitsBound, FitsEnd, FitsInterval}
-use Rattle.mfotl_parse.specs.Intervals.{framed, with_interval, low_move, low_unit, low_number_move, low_done_move}
-use Rattle.mfotl_parse.specs.Intervals.{high_move, high_unit, high_number_move, bracket, endless_move}
+use Rattle.mfotl_parse.specs.Intervals.{with_interval, low_move, low_unit, low_number_move, low_done_move, high_move}
+use Rattle.mfotl_parse.specs.Intervals.{high_unit, high_number_move, bracket, endless_move}
 use Rattle.mfotl_parse.specs.Transitions.{Rule, Transition, first_keeps, within_depth}
-use Rattle.mfotl_parse.specs.Operands.{operand_move, fresh_move}
 use Rattle.mfotl_parse.specs.Lookahead.{maybe_move, maybe_number_move, maybe_word, maybe_unit, maybe_low}
 use Rattle.mfotl_parse.specs.Quantifiers.{binder_move, binder_marked_move, bound_move}
-use Rattle.mfotl_parse.specs.Reading.{transition, transition_at}
-use Rattle.mfotl_parse.specs.Reduction.{hold}
 use Rattle.mfotl_parse.specs.States.{Frame, Parens, Binding, SymbolTable, Partial, ExpectOperand, AfterTemporal}
 use Rattle.mfotl_parse.specs.States.{ExpectVariable, AfterVariable, ExpectSign, ExpectHigh}
-use Rattle.mfotl_parse.specs.Viability.{if_moved, accepts}
-use Rattle.mfotl_parse.proofs.SpelledForms.{number_side}
-use Rattle.mfotl_parse.proofs.SpelledMoves.{at_place, context_at}
-use Rattle.mfotl_parse.proofs.AcceptedParts.{refused, by_token}
+use Rattle.mfotl_parse.proofs.{SpelledForms.number_side, SpelledMoves.at_place, SpelledMoves.context_at}
+use Rattle.mfotl_parse.proofs.{AcceptedParts.refused, AcceptedParts.by_token}
 
 -- where an operand is due, behind frames that hold so tightly
 pub record Wanting (sig : List PredOf) (holds : List ℕ) (rest : List Lexeme) : Type 0 where
@@ -38,14 +34,6 @@ pub record Wanting (sig : List PredOf) (holds : List ℕ) (rest : List Lexeme) :
   pub held : map hold stack ≡ holds
 
 -- ---- intervals
-
-hold_framed : (i : Interval) (frame : Frame) → hold (framed i frame) ≡ hold frame
-hold_framed i Parens = refl
-hold_framed i _ = refl
-
-holds_same : (i : Interval) (stack : List Frame) → map hold (with_interval i stack) ≡ map hold stack
-holds_same i [] = refl
-holds_same i (frame ∷ stack) = ap (λ (n : ℕ). n ∷ map hold stack) (hold_framed i frame)
 
 record UpTo (sig : List PredOf) (holds : List ℕ) (ts : List Lexeme) : Type 0 where
   end : WrittenEnd
@@ -77,29 +65,10 @@ pub record Timing (sig : List PredOf) (holds : List ℕ) (ts : List Lexeme) : Ty
   pub wanting : Wanting sig holds rest
 
 module _ (sig : List PredOf) (stack : List Frame) (nodes : ℕ) (names : SymbolTable) where
-  end_some : (end : WrittenEnd) → 0 < length (end_spelling end)
-  end_some (Included high closing) = omega (arith, length-append (bound_spelling high) (closing ∷ []))
-  end_some (Excluded high closing) = omega (arith, length-append (bound_spelling high) (closing ∷ []))
-  end_some (Unbounded star closing) = omega arith
-
   up_to : (end : WrittenEnd) (i : Interval) (ts : List Lexeme) → FitsEnd end
       → accepts sig ts (at_place ExpectOperand (with_interval i stack) nodes names) ≡ true
       → UpTo sig (map hold stack) (end_spelling end ++ ts)
-  up_to end i ts fits h =
-      record {
-        end = end;
-        rest = ts;
-        fits = fits;
-        parts = refl;
-        shorter = omega (arith, end_some end, length-append (end_spelling end) ts);
-        wanting = record {
-          stack = with_interval i stack;
-          nodes = nodes;
-          names = names;
-          accepted = h;
-          held = holds_same i stack;
-        };
-      }
+  up_to end i ts fits h = grind arith
 
   bracket_one : (high : WrittenBound) (at low top : ℕ) (t : Lexeme) (ts : List Lexeme) (c : Class) → FitsBound high
       → class_of t ≡ c
@@ -124,8 +93,7 @@ module _ (sig : List PredOf) (stack : List Frame) (nodes : ℕ) (names : SymbolT
       → class_of token ≡ classes.Integer (pos n) → class_of t ≡ c
       → if_moved (high_number_move (context_at stack nodes names) at low number_at n t c) (accepts sig ts) ≡ true
       → UpTo sig (map hold stack) (token ∷ t ∷ ts)
-  high_number_one token at low number_at n t ts classes.Name number class h =
-      high_units token t at low number_at n ts (unit_of t.text) number class refl h
+  high_number_one token at low number_at n t ts classes.Name number class h = search (high_units)
   high_number_one token at low number_at n t ts c number class h =
       bracket_one (Count token n) at low n t ts c number class h
 
@@ -172,8 +140,7 @@ module _ (sig : List PredOf) (stack : List Frame) (nodes : ℕ) (names : SymbolT
       → class_of t ≡ c
       → if_moved (low_done_move (context_at stack nodes names) at from c) (accepts sig ts) ≡ true
       → FromLow sig (map hold stack) (bound_spelling low ++ t ∷ ts)
-  low_done_one low at from t ts classes.Comma fits class h = comma_back low at from t ts fits class h
-  low_done_one low at from t ts _ fits class h = refused h _
+  low_done_one low at from t ts c fits class h = grind (arith, comma_back, refused)
 
   low_units : (token unit : Lexeme) (at number_at n : ℕ) (ts : List Lexeme) (seconds : Option ℕ) → class_of token
       ≡ classes.Integer (pos n) → class_of unit ≡ classes.Name → unit_of unit.text ≡ seconds
@@ -188,10 +155,8 @@ module _ (sig : List PredOf) (stack : List Frame) (nodes : ℕ) (names : SymbolT
       ≡ classes.Integer (pos n) → class_of t ≡ c
       → if_moved (low_number_move (context_at stack nodes names) at number_at n t c) (accepts sig ts) ≡ true
       → FromLow sig (map hold stack) (token ∷ t ∷ ts)
-  low_number_one token at number_at n t ts classes.Comma number class h =
-      comma_back (Count token n) at _ t ts number class h
-  low_number_one token at number_at n t ts classes.Name number class h =
-      low_units token t at number_at n ts (unit_of t.text) number class refl h
+  low_number_one token at number_at n t ts classes.Comma number class h = grind (arith, comma_back (Count token n))
+  low_number_one token at number_at n t ts classes.Name number class h = search (low_units)
   low_number_one token at number_at n t ts _ number class h = refused h _
 
   low_one : (at : ℕ) (t : Lexeme) (ts : List Lexeme) (c : Class) → class_of t ≡ c
@@ -212,34 +177,17 @@ accepts_is sig p t ts c e = ap (λ (x : Class). if_moved (transition_at p.now si
 
 moved_first : (rule : Rule) (m : Option Transition) (f : Partial → Bool) → if_moved (first_keeps rule m) f
     ≡ if_moved m f
-moved_first rule None f = refl
-moved_first rule (Some m) f = refl
+moved_first rule m f = grind arith
 
 module _ (sig : List PredOf) (stack : List Frame) (nodes : ℕ) (names : SymbolTable) where
   no_interval : (ts : List Lexeme) → accepts sig ts (at_place ExpectOperand stack nodes names) ≡ true
       → Timing sig (map hold stack) ts
-  no_interval ts h =
-      record {
-        interval = Omitted;
-        rest = ts;
-        fits = tt;
-        parts = refl;
-        shorter = omega arith;
-        wanting = record { stack = stack; nodes = nodes; names = names; accepted = h; held = refl };
-      }
+  no_interval ts h = grind arith
 
   from_low : (interval : WrittenInterval) (t : Lexeme) (ts : List Lexeme) (f : FromLow sig (map hold stack) ts)
       → FitsInterval interval → interval_spelling interval ≡ t ∷ (bound_spelling f.low ++ f.comma ∷ end_spelling f.end)
       → Timing sig (map hold stack) (t ∷ ts)
-  from_low interval t ts f fits spelled =
-      record {
-        interval = interval;
-        rest = f.rest;
-        fits = fits;
-        parts = ap (λ (xs : List Lexeme). t ∷ xs) f.parts ∙ ap (λ (xs : List Lexeme). xs ++ f.rest) (sym spelled);
-        shorter = omega (arith, f.shorter);
-        wanting = f.wanting;
-      }
+  from_low interval t ts f fits spelled = grind arith
 
   from_paren : (t : Lexeme) (ts : List Lexeme) → class_of t ≡ classes.OpenParen → FromLow sig (map hold stack) ts
       → Timing sig (map hold stack) (t ∷ ts)
@@ -262,9 +210,7 @@ module _ (sig : List PredOf) (stack : List Frame) (nodes : ℕ) (names : SymbolT
       ≡ classes.OpenParen → class_of number ≡ classes.Integer z → class_of unit ≡ classes.Name
       → if_moved (maybe_word (context_at stack nodes names) at number_at z unit.text) (accepts sig ts) ≡ true
       → Timing sig (map hold stack) (t ∷ number ∷ unit ∷ ts)
-  maybe_words t number unit at number_at (pos n) ts opens counts class h =
-      maybe_units t number unit at number_at n ts (unit_of unit.text) opens counts class refl h
-  maybe_words t number unit at number_at (negsuc n) ts opens counts class h = refused h _
+  maybe_words t number unit at number_at z ts opens counts class h = grind (arith, pos, maybe_units, negsuc, refused)
 
   maybe_commas : (t number comma : Lexeme) (at number_at : ℕ) (z : ℤ) (ts : List Lexeme) → class_of t
       ≡ classes.OpenParen → class_of number ≡ classes.Integer z → class_of comma ≡ classes.Comma
@@ -279,10 +225,8 @@ module _ (sig : List PredOf) (stack : List Frame) (nodes : ℕ) (names : SymbolT
       → class_of number ≡ classes.Integer z → class_of next ≡ c
       → if_moved (maybe_number_move (context_at stack nodes names) t.at number.at z next c) (accepts sig ts) ≡ true
       → Timing sig (map hold stack) (t ∷ number ∷ next ∷ ts)
-  maybe_numbers t number next z ts classes.Comma opens counts class h =
-      maybe_commas t number next t.at number.at z ts opens counts class h
-  maybe_numbers t number next z ts classes.Name opens counts class h =
-      maybe_words t number next t.at number.at z ts opens counts class h
+  maybe_numbers t number next z ts classes.Comma opens counts class h = search (maybe_commas)
+  maybe_numbers t number next z ts classes.Name opens counts class h = search (maybe_words)
   maybe_numbers t number next z ts (classes.Sign sign) opens counts class h =
       no_interval (t ∷ number ∷ next ∷ ts)
       (accepts_is sig (at_place ExpectOperand stack nodes names) t (number ∷ next ∷ ts) classes.OpenParen opens

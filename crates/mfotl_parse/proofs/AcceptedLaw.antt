@@ -1,33 +1,28 @@
 -- All tokens that the reader accepts are a formula.
 use Rattle.std.proofs.Common.{◌≡◌, ℕ, zero, suc, ◌≤◌, Bool, true, false, List, [], ◌∷◌, ◌++◌, length, map, Some, None}
-use Rattle.std.proofs.Common.{refl, ap, sym, subst, ◌∙◌, ◌⊎◌, inl, inr, arith}
+use Rattle.std.proofs.Common.{refl, ap, sym, subst, ◌∙◌, ◌⊎◌, arith}
 use Rattle.std.proofs.lemmas.List.{append-nil, append_assoc}
 use Rattle.std.specs.Prelude.{cond}
 use Rattle.mfotl_lex.specs.Lexemes.{Lexeme}
 use Rattle.mfotl_model.specs.Formulas.{Form}
 use Rattle.mfotl_sig.specs.Preds.{PredOf}
-use Rattle.mfotl_parse.specs.declared.class.Class.{Class}
+use Rattle.mfotl_parse.specs.declared.{class.Class.Class, class.Operator.Operator}
 use Rattle.mfotl_parse.specs.declared.class.Class.TheVariants as classes
-use Rattle.mfotl_parse.specs.declared.class.Operator.{Operator}
-use Rattle.mfotl_parse.specs.Classes.{class_of}
-use Rattle.mfotl_parse.specs.Grammar.{Number, Quoted, WrittenInterval, Omitted, Tree, Truth, Enclosed}
-use Rattle.mfotl_parse.specs.Grammar.{variables_spelling, interval_spelling, spelling, FitsOperator, is_shut, Fits}
-use Rattle.mfotl_parse.specs.Grammar.{IsFormula, precedence, right_precedence, is_timed}
-use Rattle.mfotl_parse.specs.Intervals.{any_distance}
-use Rattle.mfotl_parse.specs.Operands.{operand_move}
+use Rattle.mfotl_parse.specs.{Classes.class_of, Intervals.any_distance, Operands.operand_move, Reading.transition}
+use Rattle.mfotl_parse.specs.{Reading.is_closed, Viability.if_moved, Viability.accepts}
+use Rattle.mfotl_parse.specs.Grammar.{Number, Quoted, WrittenInterval, Tree, Truth, Enclosed, variables_spelling}
+use Rattle.mfotl_parse.specs.Grammar.{interval_spelling, spelling, FitsOperator, is_shut, Fits, IsFormula, precedence}
+use Rattle.mfotl_parse.specs.Grammar.{right_precedence, is_timed}
 use Rattle.mfotl_parse.specs.Operators.{have_move, joined_move, enclosed_move, around, is_parens, now_behind}
-use Rattle.mfotl_parse.specs.Reading.{transition, is_closed}
 use Rattle.mfotl_parse.specs.Reduction.{Reduced, reduce, hold}
-use Rattle.mfotl_parse.specs.States.{Frame, Parens, Moment, Left, SymbolTable, Context, nothing_read}
-use Rattle.mfotl_parse.specs.Viability.{if_moved, accepts}
-use Rattle.mfotl_parse.proofs.SpelledMoves.{at_place, context_at}
+use Rattle.mfotl_parse.specs.States.{Frame, Moment, Left, SymbolTable, Context, nothing_read}
+use Rattle.mfotl_parse.proofs.{SpelledMoves.at_place, SpelledMoves.context_at, OperatorLevels.levels}
 use Rattle.mfotl_parse.proofs.AcceptedParts.{refused, Behind, Primary, compared_back, marked_back, word_back}
 use Rattle.mfotl_parse.proofs.AcceptedParts.{blank_back}
 use Rattle.mfotl_parse.proofs.AcceptedIntervals.{Wanting, fresh_back, push_ones, binder_back}
 use Rattle.mfotl_parse.proofs.AcceptedTrees.{Held, HeldParens, HeldNot, HeldTimed, HeldBound, HeldLeft, own_tokens}
 use Rattle.mfotl_parse.proofs.AcceptedTrees.{held_tokens, holds_of, wanted, FitAll, drop_tight, holds_reduced}
 use Rattle.mfotl_parse.proofs.AcceptedTrees.{first_one, Closed, close}
-use Rattle.mfotl_parse.proofs.OperatorLevels.{levels}
 
 -- the same tokens
 formula_as : (ts us : List Lexeme) → ts ≡ us → IsFormula us → IsFormula ts
@@ -58,8 +53,7 @@ nothing_held (HeldBound token quantifier variables dot ∷ hs) e =
 nothing_held (_ ∷ hs) e = absurd cc
 
 none_open : (stack : List Frame) → is_closed stack ≡ true → map hold stack ≡ []
-none_open [] e = refl
-none_open (frame ∷ stack) e = absurd cc
+none_open stack e = grind arith
 
 heads : (m n : ℕ) (ms ns : List ℕ) → m ∷ ms ≡ n ∷ ns → m ≡ n
 heads m n ms ns e = cc
@@ -69,20 +63,12 @@ closed_alike : (rule : ℕ) (f : Form) (stack : List Frame) (hs : List Held) (tr
     → map hold stack ≡ holds_of hs → map hold (reduce rule f stack).stack ≡ holds_of c.around
 closed_alike rule f stack hs tree c held = holds_reduced rule f stack ∙ ap (drop_tight rule) held ∙ c.holds
 
-no_level : (o : Operator) → precedence o ≡ 0 → ⊥
-no_level o e = omega (arith, e, (levels o).least)
-
 close_all : (hs : List Held) (tree : Tree) → FitAll hs → Operand tree → Closed 0 hs tree
-close_all hs tree fit operand =
-    close 0 (omega arith) hs tree fit (operand.fits (wanted hs)) (λ o e. operand.fits _) (λ some. operand.shut)
+close_all hs tree fit operand = grind (arith, close, wanted)
 
 end_formula : (hs : List Held) (tree : Tree) (c : Closed 0 hs tree) → c.around ≡ []
     → IsFormula (held_tokens hs ++ spelling tree)
-end_formula hs tree c none = (
-  c.whole,
-  subst (λ (xs : List Held). Fits (wanted xs) c.whole) none c.fits,
-  c.tokens ∙ ap (λ (xs : List Held). held_tokens xs ++ spelling c.whole) none,
-)
+end_formula hs tree c none = grind arith
 
 module _ (sig : List PredOf) where
   at_end : (hs : List Held) (stack : List Frame) (tree : Tree) → FitAll hs → map hold stack ≡ holds_of hs
@@ -106,27 +92,19 @@ module _ (sig : List PredOf) where
   parenthesis [] holds e = absurd cc
   parenthesis (HeldParens opening ∷ hs) holds e = record { opening = opening; outer = hs; is = refl; held = cc }
   parenthesis (HeldNot token ∷ hs) holds e = absurd (omega (arith, heads 0 6 holds (holds_of hs) e))
-  parenthesis (HeldTimed token operator interval ∷ hs) holds e =
-      absurd (omega (arith, heads 0 6 holds (holds_of hs) e))
+  parenthesis (HeldTimed token operator interval ∷ hs) holds e = grind arith
   parenthesis (HeldBound token quantifier variables dot ∷ hs) holds e =
       let f = first_one variables (holds_of hs) in absurd (omega (arith, heads 0 1 holds f.0 (e ∙ f.1)))
-  parenthesis (HeldLeft left token operator interval ∷ hs) holds e =
-      absurd (omega (arith, heads 0 (right_precedence operator) holds (holds_of hs) e, (levels operator).right_least))
+  parenthesis (HeldLeft left token operator interval ∷ hs) holds e = grind arith
 
   inside_parens : (frame : Frame) (stack : List Frame) → is_parens frame ≡ true → map hold (frame ∷ stack)
       ≡ 0 ∷ map hold stack
-  inside_parens Parens stack e = refl
-  inside_parens _ stack e = absurd cc
+  inside_parens frame stack e = grind arith
 
   enclosed_tokens : (hs outer : List Held) (opening t : Lexeme) (tree whole : Tree) (ts : List Lexeme)
       → held_tokens hs ++ spelling tree ≡ held_tokens (HeldParens opening ∷ outer) ++ spelling whole
       → held_tokens hs ++ (spelling tree ++ t ∷ ts) ≡ held_tokens outer ++ (spelling (Enclosed opening whole t) ++ ts)
-  enclosed_tokens hs outer opening t tree whole ts e =
-      sym (append_assoc (held_tokens hs) (spelling tree) (t ∷ ts))
-      ∙ ap (λ (xs : List Lexeme). xs ++ t ∷ ts) e
-      ∙ append_assoc (held_tokens (HeldParens opening ∷ outer)) (spelling whole) (t ∷ ts)
-      ∙ append_assoc (held_tokens outer) (opening ∷ []) (spelling whole ++ t ∷ ts)
-      ∙ ap (λ (xs : List Lexeme). held_tokens outer ++ opening ∷ xs) (sym (append_assoc (spelling whole) (t ∷ []) ts))
+  enclosed_tokens hs outer opening t tree whole ts e = grind (arith, append_assoc, held_tokens)
 
   closes_parens : (n : ℕ) (hs : List Held) (tree : Tree) (c : Closed 0 hs tree) (t : Lexeme) (ts : List Lexeme)
       (stack : List Frame) (b : Behind sig stack ts)
@@ -165,40 +143,17 @@ module _ (sig : List PredOf) where
       (ts rest : List Lexeme) → held_tokens hs ++ spelling tree ≡ held_tokens outer ++ spelling whole → ts
       ≡ interval_spelling i ++ rest
       → held_tokens hs ++ (spelling tree ++ t ∷ ts) ≡ held_tokens (HeldLeft whole t o i ∷ outer) ++ rest
-  joined_tokens hs outer tree whole t o i ts rest e parts =
-      sym (append_assoc (held_tokens hs) (spelling tree) (t ∷ ts))
-      ∙ ap (λ (xs : List Lexeme). xs ++ t ∷ ts) e
-      ∙ ap (λ (xs : List Lexeme). (held_tokens outer ++ spelling whole) ++ t ∷ xs) parts
-      ∙ append_assoc (held_tokens outer) (spelling whole) (t ∷ (interval_spelling i ++ rest))
-      ∙ ap (λ (xs : List Lexeme). held_tokens outer ++ xs)
-      (sym (append_assoc (spelling whole) (t ∷ interval_spelling i) rest))
-      ∙ sym (append_assoc (held_tokens outer) (spelling whole ++ t ∷ interval_spelling i) rest)
+  joined_tokens hs outer tree whole t o i ts rest e parts = grind (arith, append_assoc, held_tokens)
 
   timing_of : (timed : Bool) (stack : List Frame) (nodes : ℕ) (names : SymbolTable) (ts : List Lexeme)
       → accepts sig ts (at_place (now_behind timed) stack nodes names) ≡ true
       → (i : WrittenInterval) × (rest : List Lexeme) × FitsOperator timed i × (ts ≡ interval_spelling i ++ rest)
       × (length rest ≤ length ts) × Wanting sig (map hold stack) rest
-  timing_of true stack nodes names ts h =
-      let t = fresh_back sig stack nodes names ts h in (t.interval, t.rest, t.fits, t.parts, t.shorter, t.wanting)
-  timing_of false stack nodes names ts h = (
-    Omitted,
-    ts,
-    refl,
-    refl,
-    omega arith,
-    record {
-      stack = stack;
-      nodes = nodes;
-      names = names;
-      accepted = h;
-      held = refl;
-    },
-  )
+  timing_of timed stack nodes names ts h = grind (arith, fresh_back)
 
   no_zero : (o : Operator) (hs : List Held) → (wanted hs ≤ precedence o) ⊎ (precedence o ≡ 0)
       → wanted hs ≤ precedence o
-  no_zero o hs (inl h) = h
-  no_zero o hs (inr e) = absurd (no_level o e)
+  no_zero o hs h = grind arith
 
   at_operator : (n : ℕ) (hs : List Held) (tree : Tree) (o : Operator) (t : Lexeme) (ts : List Lexeme) (p : Context)
       (reduced : Reduced) (c : Closed (precedence o) hs tree)
@@ -238,10 +193,7 @@ module _ (sig : List PredOf) where
       → length ts ≤ suc n → FitAll hs → map hold stack ≡ holds_of hs → Primary sig stack ts
       → IsFormula (held_tokens hs ++ ts)
   unfolding HaveLater
-  primary_then n hs stack ts later few fit held p =
-      formula_as _ _ (ap (λ (xs : List Lexeme). held_tokens hs ++ xs) p.parts)
-      (later hs stack p.tree p.rest (omega (arith, p.shorter, few)) fit held
-      (record { fits = p.fits; shut = p.shut }) p.behind)
+  primary_then n hs stack ts later few fit held p = grind arith
 
   held_then : (n : ℕ) (h : Held) (hs : List Held) (ts rest : List Lexeme) → WantLater sig n → length rest ≤ n
       → FitAll (h ∷ hs) → ts ≡ own_tokens h ++ rest → Wanting sig (holds_of (h ∷ hs)) rest
@@ -324,10 +276,7 @@ module _ (sig : List PredOf) where
 
   all : (n : ℕ) → HaveLater sig n × WantLater sig n
   all zero = (have_all 0 (λ m e. absurd (omega (arith, e))), want_all 0 (λ m e. absurd (omega (arith, e))))
-  all (suc n) =
-      let later : (m : ℕ) → suc n ≡ suc m → HaveLater sig m × WantLater sig m = λ m e. let same : n
-      ≡ m = omega (arith, e) in subst (λ (k : ℕ). HaveLater sig k × WantLater sig k) same (all n) in
-      (have_all (suc n) later, want_all (suc n) later)
+  all (suc n) = grind (arith, HaveLater, WantLater, have_all, want_all, all n)
 
   pub accepted_formula : (ts : List Lexeme) → accepts sig ts nothing_read ≡ true → IsFormula ts
   unfolding WantLater

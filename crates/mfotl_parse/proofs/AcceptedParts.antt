@@ -1,23 +1,21 @@
 -- Tokens that the reader accepts begin with what the grammar spells there: terms, atoms, comparisons.
 use Rattle.std.proofs.Common.{◌≡◌, ℕ, zero, suc, ◌<◌, ◌≤◌, true, false, List, [], ◌∷◌, ◌++◌, length, refl, ap, sym, ◌∙◌}
-use Rattle.std.proofs.Common.{inl, inr, arith}
+use Rattle.std.proofs.Common.{arith}
 use Rattle.std.proofs.lemmas.List.{append_assoc, length-append}
 use Rattle.mfotl_lex.specs.Lexemes.{Lexeme}
 use Rattle.mfotl_model.specs.declared.term.Sign.{Sign}
 use Rattle.mfotl_model.specs.Formulas.{Form}
 use Rattle.mfotl_sig.specs.Preds.{PredOf}
-use Rattle.mfotl_parse.specs.declared.class.Class.{Class}
+use Rattle.mfotl_parse.specs.declared.{class.Class.Class, term.Side.Side}
 use Rattle.mfotl_parse.specs.declared.class.Class.TheVariants as classes
-use Rattle.mfotl_parse.specs.declared.term.Side.{Side}
 use Rattle.mfotl_parse.specs.Arguments.{argument_move, first_move, taken_move, argument_marked_move}
-use Rattle.mfotl_parse.specs.Classes.{class_of}
+use Rattle.mfotl_parse.specs.{Classes.class_of, Operands.word_move, Operands.blank_move, Reading.transition}
+use Rattle.mfotl_parse.specs.{Reading.transition_at}
 use Rattle.mfotl_parse.specs.Grammar.{Bare, Asked, WrittenTerm, Named, Number, Quoted, WrittenArgument, Given, Hidden}
 use Rattle.mfotl_parse.specs.Grammar.{WrittenArguments, LastArgument, MoreArguments, Tree, BareAtom, AtomOf, Comparison}
 use Rattle.mfotl_parse.specs.Grammar.{term_spelling, argument_spelling, arguments_spelling, spelling, FitsTerm}
 use Rattle.mfotl_parse.specs.Grammar.{FitsArgument, FitsArguments, IsAtomName, Fits, is_shut}
-use Rattle.mfotl_parse.specs.Operands.{word_move, blank_move}
 use Rattle.mfotl_parse.specs.Comparisons.{against_move, against_marked_move, compared_move, marked_move}
-use Rattle.mfotl_parse.specs.Reading.{transition, transition_at}
 use Rattle.mfotl_parse.specs.States.{Frame, Call, SymbolTable, AfterOperand, AfterWord, AfterBlank, AfterMark}
 use Rattle.mfotl_parse.specs.States.{ExpectSign, AfterSign, FirstArgument, NextArgument, AfterArgument, Partial}
 use Rattle.mfotl_parse.specs.Viability.{if_moved, is_whole, accepts}
@@ -75,24 +73,10 @@ record Inside (sig : List PredOf) (stack : List Frame) (ts : List Lexeme) : Type
 module _ (sig : List PredOf) (stack : List Frame) where
   -- ---- comparisons
 
-  term_some : (t : WrittenTerm) → 0 < length (term_spelling t)
-  term_some (Named (Bare name)) = omega arith
-  term_some (Named (Asked mark name)) = omega arith
-  term_some (Number token z) = omega arith
-  term_some (Quoted token) = omega arith
-
   right_side : (form : Form) (nodes : ℕ) (names : SymbolTable) (right : WrittenTerm) (ts : List Lexeme)
       → FitsTerm right → accepts sig ts (at_place (AfterOperand form) stack nodes names) ≡ true
       → RightSide sig stack (term_spelling right ++ ts)
-  right_side form nodes names right ts fits h =
-      record {
-        right = right;
-        rest = ts;
-        fits = fits;
-        parts = refl;
-        shorter = omega (arith, term_some right, length-append (term_spelling right) ts);
-        behind = record { form = _; nodes = _; names = _; accepted = h };
-      }
+  right_side form nodes names right ts fits h = grind arith
 
   against_marked_back : (left : Side) (at mark_at : ℕ) (sign : Sign) (mark t : Lexeme) (ts : List Lexeme) (nodes : ℕ)
       (names : SymbolTable) (c : Class) → class_of mark ≡ classes.Question → class_of t ≡ c
@@ -139,9 +123,7 @@ module _ (sig : List PredOf) (stack : List Frame) where
       (c : Class) → FitsTerm left → class_of t ≡ c
       → if_moved (compared_move (context_at stack nodes names) side t c) (accepts sig ts) ≡ true
       → Primary sig stack (term_spelling left ++ t ∷ ts)
-  compared_one left side t ts nodes names (classes.Sign sign) fits class h =
-      sign_back left side t.at t sign ts (suc nodes) names fits class h
-  compared_one left side t ts nodes names _ fits class h = refused h _
+  compared_one left side t ts nodes names c fits class h = grind (arith, sign_back, refused)
 
   pub compared_back : (left : WrittenTerm) (side : Side) (ts : List Lexeme) (nodes : ℕ) (names : SymbolTable)
       → FitsTerm left
@@ -285,8 +267,7 @@ module _ (sig : List PredOf) (stack : List Frame) where
       (names : SymbolTable) (c : Class) → class_of name ≡ classes.Name → class_of t ≡ c
       → if_moved (word_move sig (context_at stack nodes names) at text t c) (accepts sig ts) ≡ true
       → Primary sig stack (name ∷ t ∷ ts)
-  word_one name at text t ts nodes names classes.OpenParen named class h =
-      first_back name t _ ts (suc nodes) names (inl named) class h
+  word_one name at text t ts nodes names classes.OpenParen named class h = grind (arith, first_back)
   word_one name at text t ts nodes names (classes.Sign sign) named class h =
       sign_back (Named (Bare name)) _ t.at t sign ts (suc nodes) _ named class h
   word_one name at text t ts nodes names _ named class h = refused h _
@@ -302,9 +283,7 @@ module _ (sig : List PredOf) (stack : List Frame) where
       → class_of name ≡ classes.Blank → class_of t ≡ c
       → if_moved (blank_move sig (context_at stack nodes names) at c) (accepts sig ts) ≡ true
       → Primary sig stack (name ∷ t ∷ ts)
-  blank_one name at t ts nodes names classes.OpenParen named class h =
-      first_back name t _ ts (suc nodes) names (inr named) class h
-  blank_one name at t ts nodes names _ named class h = refused h _
+  blank_one name at t ts nodes names c named class h = grind (arith, first_back, refused)
 
   pub blank_back : (name : Lexeme) (at : ℕ) (ts : List Lexeme) (nodes : ℕ) (names : SymbolTable) → class_of name
       ≡ classes.Blank

@@ -1,25 +1,20 @@
 -- What the reader accepts is a formula: what is open is held as trees with a place for their right operand.
-use Rattle.std.proofs.Common.{◌≡◌, ℕ, ◌<◌, ◌≤◌, Bool, true, false, List, [], ◌∷◌, ◌++◌, map, refl, ap, sym, ◌∙◌, ◌⊎◌}
-use Rattle.std.proofs.Common.{inl, inr, arith}
+use Rattle.std.proofs.Common.{◌≡◌, ℕ, ◌<◌, ◌≤◌, true, List, [], ◌∷◌, ◌++◌, map, refl, ap, sym, ◌∙◌, ◌⊎◌, inl, inr}
+use Rattle.std.proofs.Common.{arith}
 use Rattle.std.proofs.lemmas.Bool.{cases_lt, le-ltb, lt-ltb}
 use Rattle.std.proofs.lemmas.List.{append_assoc}
 use Rattle.std.specs.Prelude.{cond, nat_lt}
 use Rattle.mfotl_lex.specs.Lexemes.{Lexeme}
 use Rattle.mfotl_model.specs.Formulas.{Form}
 use Rattle.mfotl_parse.specs.declared.class.Class.TheVariants as classes
-use Rattle.mfotl_parse.specs.declared.class.Operator.{Operator}
-use Rattle.mfotl_parse.specs.declared.class.Operator.TheVariants.{Equiv}
-use Rattle.mfotl_parse.specs.declared.class.Quantifier.{Quantifier}
-use Rattle.mfotl_parse.specs.declared.class.Temporal.{Temporal}
-use Rattle.mfotl_parse.specs.Classes.{class_of}
+use Rattle.mfotl_parse.specs.declared.{class.Operator.Operator, class.Quantifier.Quantifier, class.Temporal.Temporal}
+use Rattle.mfotl_parse.specs.{Classes.class_of, States.Frame}
 use Rattle.mfotl_parse.specs.Grammar.{WrittenVariables, LastVariable, MoreVariables, WrittenInterval, Tree, Denied}
 use Rattle.mfotl_parse.specs.Grammar.{Timed, Quantified, Joined, variables_spelling, interval_spelling, spelling}
 use Rattle.mfotl_parse.specs.Grammar.{FitsVariables, FitsInterval, FitsOperator, left_precedence, is_shut, Fits}
 use Rattle.mfotl_parse.specs.Grammar.{precedence, right_precedence, is_timed}
 use Rattle.mfotl_parse.specs.Reduction.{reduce, hold, closed}
-use Rattle.mfotl_parse.specs.States.{Frame}
 use Rattle.mfotl_parse.proofs.AcceptedIntervals.{push_ones}
-use Rattle.mfotl_parse.proofs.OperatorLevels.{levels}
 
 -- what is open, with its tokens
 pub data Held : Type 0 where
@@ -88,13 +83,7 @@ pub holds_reduced : (rule : ℕ) (f : Form) (stack : List Frame) → map hold (r
     ≡ drop_tight rule (map hold stack)
 unfolding reduce
 holds_reduced rule f [] = refl
-holds_reduced rule f (frame ∷ stack) = by_hold (nat_lt rule (hold frame)) (holds_reduced rule (closed frame f) stack)
-  where
-    by_hold : (b : Bool) → map hold (reduce rule (closed frame f) stack).stack ≡ drop_tight rule (map hold stack)
-        → map hold (cond b (reduce rule (closed frame f) stack) (record { form = f; stack = frame ∷ stack })).stack
-        ≡ cond b (drop_tight rule (map hold stack)) (hold frame ∷ map hold stack)
-    by_hold true later = later
-    by_hold false later = refl
+holds_reduced rule f (frame ∷ stack) = grind (arith, holds_reduced rule (closed frame f) stack)
 
 drops : (rule n : ℕ) (ns : List ℕ) → rule < n → drop_tight rule (n ∷ ns) ≡ drop_tight rule ns
 drops rule n ns h = ap (λ b. cond b (drop_tight rule ns) (n ∷ ns)) (lt-ltb rule n h)
@@ -121,8 +110,7 @@ remain_ones rule vs ns h =
 
 -- what an operator closes may stand left of it
 closes_left : (p o : Operator) → precedence p < right_precedence o → left_precedence p ≤ precedence o
-closes_left Equiv o h = (levels o).least
-closes_left p o h = let l = levels o in omega arith
+closes_left p o h = grind arith
 
 -- ---- closing
 
@@ -142,35 +130,13 @@ module _ (rule : ℕ) (below_six : rule < 6) where
   stays : (hs : List Held) (tree : Tree) → FitAll hs → Fits (wanted hs) tree
       → ((o : Operator) → precedence o ≡ rule → Fits (left_precedence o) tree) → (1 ≤ rule → is_shut tree ≡ true)
       → drop_tight rule (holds_of hs) ≡ holds_of hs → wanted hs ≤ rule ⊎ (rule ≡ 0) → Closed rule hs tree
-  stays hs tree fit fits left shut same loose =
-      record {
-        whole = tree;
-        around = hs;
-        fit_all = fit;
-        fits = fits;
-        left = left;
-        shut = shut;
-        tokens = refl;
-        holds = same;
-        loose = loose;
-      }
+  stays hs tree fit fits left shut same loose = grind arith
 
   closes : (h : Held) (hs : List Held) (tree bigger : Tree) → (held_tokens hs ++ own_tokens h) ++ spelling tree
       ≡ held_tokens hs ++ spelling bigger
       → drop_tight rule (push_hold h (holds_of hs)) ≡ drop_tight rule (holds_of hs) → Closed rule hs bigger
       → Closed rule (h ∷ hs) tree
-  closes h hs tree bigger tokens dropped c =
-      record {
-        whole = c.whole;
-        around = c.around;
-        fit_all = c.fit_all;
-        fits = c.fits;
-        left = c.left;
-        shut = c.shut;
-        tokens = tokens ∙ c.tokens;
-        holds = dropped ∙ c.holds;
-        loose = c.loose;
-      }
+  closes h hs tree bigger tokens dropped c = grind arith
 
   one_or_zero : 1 ≤ rule ⊎ (rule ≡ 0)
   one_or_zero = elim (cases_lt rule 1) [ inl none ↦ inr (omega (arith, none)) | inr some ↦ inl some ]
@@ -179,8 +145,7 @@ module _ (rule : ℕ) (below_six : rule < 6) where
       → ((o : Operator) → precedence o ≡ rule → Fits (left_precedence o) tree) → (1 ≤ rule → is_shut tree ≡ true)
       → Closed rule hs tree
   close [] tree fit fits left shut = stays [] tree fit fits left shut refl one_or_zero
-  close (HeldParens opening ∷ hs) tree fit fits left shut =
-      stays (HeldParens opening ∷ hs) tree fit fits left shut (remains rule 0 (holds_of hs) (omega arith)) one_or_zero
+  close (HeldParens opening ∷ hs) tree fit fits left shut = grind (arith, stays, remains, one_or_zero)
   close (HeldNot token ∷ hs) tree fit fits left shut =
       closes (HeldNot token) hs tree (Denied token tree) (append_assoc (held_tokens hs) (token ∷ []) (spelling tree))
       (drops rule 6 (holds_of hs) below_six)

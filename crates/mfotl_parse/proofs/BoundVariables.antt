@@ -3,30 +3,22 @@ use Rattle.std.proofs.Common.{◌≡◌, ℕ, zero, suc, ◌+◌, ◌-◌, ◌<�
 use Rattle.std.proofs.Common.{nat_eq, List, [], ◌∷◌, length, Option, Some, None, refl, sym, ap, ◌∙◌, arith}
 use Rattle.std.proofs.lemmas.Bool.{cases_lt, lt-ltb, or_cases, and_parts, eqb-true, eq-eqb, or_right}
 use Rattle.std.proofs.lemmas.List.{length-append}
-use Rattle.std.specs.Str.{bytes_eq}
-use Rattle.mfotl_model.specs.declared.policy.Sort.{Sort}
-use Rattle.mfotl_model.specs.declared.term.Term.{Term}
+use Rattle.mfotl_model.specs.declared.{policy.Sort.Sort, term.Term.Term}
 use Rattle.mfotl_model.specs.Formulas as forms
 use Rattle.mfotl_model.specs.Formulas.{Form}
 use Rattle.mfotl_model.specs.FreeVariables.{among, without, variable_in, variables_in, fv}
-use Rattle.mfotl_model.proofs.LogicLemmas.{among_joined, among_without}
-use Rattle.mfotl_model.proofs.VariableLemmas.{variables_in-cons}
-use Rattle.mfotl_sig.specs.Preds.{PredOf, named}
+use Rattle.mfotl_model.proofs.{LogicLemmas.among_joined, LogicLemmas.among_without, VariableLemmas.variables_in-cons}
+use Rattle.mfotl_sig.specs.Preds.{PredOf}
 use Rattle.mfotl_parse.specs.declared.class.Quantifier.{Quantifier}
-use Rattle.mfotl_parse.specs.Arguments.{call_of, blanks}
-use Rattle.mfotl_parse.specs.SortsDue.{due_sort, after_due}
-use Rattle.mfotl_parse.specs.Grammar.{WrittenTerm, Named, Number, Quoted, WrittenArgument, Given, Hidden}
-use Rattle.mfotl_parse.specs.Grammar.{WrittenArguments, LastArgument, MoreArguments, WrittenVariables, LastVariable}
-use Rattle.mfotl_parse.specs.Grammar.{MoreVariables, Tree, Truth, BareAtom, AtomOf, Comparison, Enclosed, Denied, Timed}
-use Rattle.mfotl_parse.specs.Grammar.{Quantified, Joined}
+use Rattle.mfotl_parse.specs.{Arguments.call_of, Arguments.blanks, SortsDue.due_sort, SortsDue.after_due}
+use Rattle.mfotl_parse.specs.{Occurrences.name_of, States.SymbolTable, Limits.max_free}
+use Rattle.mfotl_parse.specs.Grammar.{WrittenTerm, WrittenArgument, WrittenArguments, LastArgument, MoreArguments}
+use Rattle.mfotl_parse.specs.Grammar.{WrittenVariables, LastVariable, MoreVariables, Tree, Truth, BareAtom, AtomOf}
+use Rattle.mfotl_parse.specs.Grammar.{Comparison, Enclosed, Denied, Timed, Quantified, Joined}
 use Rattle.mfotl_parse.specs.Meanings.{Scope, no_scope, inside, operand_of, term_names, argument_term, argument_names}
 use Rattle.mfotl_parse.specs.Meanings.{arguments_terms, arguments_names, atom, variables_names, variables_scope}
 use Rattle.mfotl_parse.specs.Meanings.{quantify, interval_of, names_behind, value}
-use Rattle.mfotl_parse.specs.Occurrences.{name_of, place_of_variable, place_of}
-use Rattle.mfotl_parse.specs.SymbolTable.{number_of, free_place, free_or_new, with_free, bound_or_free, occurring}
-use Rattle.mfotl_parse.specs.SymbolTable.{bound_more, inner_or, term_of}
-use Rattle.mfotl_parse.specs.States.{SymbolTable}
-use Rattle.mfotl_parse.specs.Limits.{max_free}
+use Rattle.mfotl_parse.specs.SymbolTable.{number_of, bound_or_free, occurring, bound_more, term_of}
 use Rattle.mfotl_parse.proofs.NamesOrder.{placed_grows, term_grows, argument_grows, arguments_grow, tree_grows}
 use Rattle.mfotl_parse.proofs.NamesOrder.{sides_grow, found_within}
 use Rattle.mfotl_parse.proofs.VariableOrder.{is_free, free_in, fewer, last_only, truth_order, one_order, moment_order}
@@ -49,23 +41,12 @@ module _ (y : ℕ) (above : max_free ≤ y) where
   name_escapes : (name : List ℕ) (at : ℕ) (n : SymbolTable) (bound : Option ℕ)
       → length (occurring bound name at n).free ≤ max_free → y ≡ number_of (bound_or_free bound name n)
       → (k : ℕ) × (bound ≡ Some k) × (y ≡ max_free + k)
-  name_escapes name at n (Some k) few e = (k, refl, e)
-  name_escapes name at n None few e = absurd (by_place (free_place name n) refl few e)
-    where
-      by_place : (place : Option ℕ) → free_place name n ≡ place → length (with_free place name at n).free ≤ max_free
-          → y ≡ number_of (free_or_new place n) → ⊥
-      by_place (Some place) f below g = omega (arith, found_within name n place f, below, g, above)
-      by_place None f below g = omega (arith, length-append n.free ((name, at) ∷ []), below, g, above)
+  name_escapes name at n bound few e = grind (arith, found_within, length-append)
 
   term_escapes : (t : WrittenTerm) (scope : Scope) (n : SymbolTable) → length (term_names t scope n).free ≤ max_free
       → Occurs (variable_in (term_of (operand_of t scope n))) → InScope scope
   unfolding Occurs
-  term_escapes (Named v) scope n few e =
-      let k = name_escapes (name_of v) (place_of_variable v) n (scope (name_of v)) few
-      (only (number_of (bound_or_free (scope (name_of v)) (name_of v) n)) e) in
-      record { name = name_of v; number = k.0; bound = k.1; is = k.2 }
-  term_escapes (Number token z) scope n few e = absurd cc
-  term_escapes (Quoted token) scope n few e = absurd cc
+  term_escapes t scope n few e = grind (arith, name_escapes, only)
 
   -- a variable of a `_` between these
   Blank : ℕ → ℕ → Type 0
@@ -75,18 +56,7 @@ module _ (y : ℕ) (above : max_free ≤ y) where
       → length (argument_names a sort scope n).free ≤ max_free → Occurs (variable_in (argument_term a scope n))
       → InScope scope ⊎ Blank (length n.bound_sorts) (length (argument_names a sort scope n).bound_sorts)
   unfolding Occurs Blank
-  argument_escapes (Given t) sort scope n few e =
-      inl (term_escapes t scope n
-      (fewer (term_names t scope n) _
-      (placed_grows (operand_of t scope n) (place_of t) sort (term_names t scope n)) few) e)
-  argument_escapes (Hidden token) sort scope n few e =
-      inr (
-        length n.bound_sorts,
-        omega arith,
-        omega (arith, length-append n.bound_sorts (Some sort ∷ [])),
-        only
-            (max_free + length n.bound_sorts) e,
-      )
+  argument_escapes a sort scope n few e = grind (arith, term_escapes, fewer, placed_grows, length-append, only)
 
   wider : (from to from' to' : ℕ) → from' ≤ from → to ≤ to' → Blank from to → Blank from' to'
   unfolding Blank
@@ -97,9 +67,7 @@ module _ (y : ℕ) (above : max_free ≤ y) where
       → Occurs (variables_in (arguments_terms xs places scope n))
       → InScope scope ⊎ Blank (length n.bound_sorts) (length (arguments_names xs places scope n).bound_sorts)
   unfolding Occurs
-  arguments_escape (LastArgument a) places scope n few e =
-      argument_escapes a (due_sort places) scope n few
-      (sym (ap (λ (vs : List ℕ). among y vs) (last_only (argument_term a scope n))) ∙ e)
+  arguments_escape (LastArgument a) places scope n few e = grind (arith, argument_escapes, last_only)
   arguments_escape (MoreArguments a comma rest) places scope n few e =
       let between = argument_names a (due_sort places) scope n in
       let later = arguments_grow rest (after_due places) scope between in
@@ -123,14 +91,11 @@ module _ (y : ℕ) (above : max_free ≤ y) where
       ]
 
   not_same : (x : ℕ) (b : Bool) → nat_eq y x ≡ b → not b ≡ true → y ≡ x → ⊥
-  not_same x true e f same = cc
-  not_same x false e f same = let here = eq-eqb y x same in cc
+  not_same x b e f same = grind arith
 
   without_escapes : (x : ℕ) (xs : List ℕ) → Occurs (without x xs) → (y ≡ x → ⊥) × Occurs xs
   unfolding Occurs
-  without_escapes x xs e =
-      let parts = and_parts (not (nat_eq y x)) (among y xs) (sym (among_without y x xs) ∙ e) in
-      (λ same. not_same x (nat_eq y x) refl parts.0 same, parts.1)
+  without_escapes x xs e = grind (arith, and_parts, among_without, not_same)
 
   blanks_escape : (count first : ℕ) (f : Form) → Occurs (fv (blanks count first f)) → Occurs (fv f)
       × ((k : ℕ) → first ≤ k → k < first + count → y ≡ max_free + k → ⊥)
@@ -171,20 +136,12 @@ module _ (y : ℕ) (above : max_free ≤ y) where
   -- inside a quantifier only its variable is more
   scope_one : (name : List ℕ) (k : ℕ) (scope : Scope) → (y ≡ max_free + k → ⊥) → InScope (inside name k scope)
       → InScope scope
-  scope_one bound k scope other s = by_test (bytes_eq s.name bound) s.bound
-    where
-      by_test : (b : Bool) → inner_or (cond b (Some k) None) (scope s.name) ≡ Some s.number → InScope scope
-      by_test true e = let same : k ≡ s.number = cc in absurd (other (omega (arith, s.is, same)))
-      by_test false e = record { name = s.name; number = s.number; bound = e; is = s.is }
+  scope_one bound k scope other s = grind arith
 
   quantify_escapes : (q : Quantifier) (vs : WrittenVariables) (n : SymbolTable) (scope : Scope) (f : Form)
       → (Occurs (fv f) → InScope (variables_scope vs n scope)) → Occurs (fv (quantify q vs n f)) → InScope scope
   unfolding Occurs
-  quantify_escapes q (LastVariable v) n scope f inside e =
-      let k = length n.bound_sorts in
-      let parts = without_escapes (max_free + k) (fv f)
-      (sym (ap (λ (xs : List ℕ). among y xs) (one_order q k (name_of v) f)) ∙ e) in
-      scope_one (name_of v) k scope parts.0 (inside parts.1)
+  quantify_escapes q (LastVariable v) n scope f inside e = grind (arith, without_escapes, one_order, scope_one)
   quantify_escapes q (MoreVariables v comma rest) n scope f inner e =
       let k = length n.bound_sorts in
       let body = quantify q rest (bound_more None n) f in
@@ -196,15 +153,9 @@ module _ (y : ℕ) (above : max_free ≤ y) where
   tree_escapes : (sig : List PredOf) (tree : Tree) (scope : Scope) (n : SymbolTable)
       → length (names_behind sig tree scope n).free ≤ max_free → Occurs (fv (value sig tree scope n)) → InScope scope
   unfolding Occurs fv
-  tree_escapes sig (Truth token which) scope n few e =
-      let none = sym (ap (λ (xs : List ℕ). among y xs) (truth_order which)) ∙ e in absurd cc
-  tree_escapes sig (BareAtom name opening closing) scope n few e =
-      atom_escapes (named name.text sig) [] (length n.bound_sorts) (length n.bound_sorts) scope (λ none. absurd cc) e
-  tree_escapes sig (AtomOf name opening arguments closing) scope n few e =
-      let places = (call_of (named name.text sig) 0).rest in
-      atom_escapes (named name.text sig) (arguments_terms arguments places scope n) (length n.bound_sorts)
-      (length (arguments_names arguments places scope n).bound_sorts) scope
-      (λ there. arguments_escape arguments places scope n few there) e
+  tree_escapes sig (Truth token which) scope n few e = cc (truth_order which)
+  tree_escapes sig (BareAtom name opening closing) scope n few e = grind arith
+  tree_escapes sig (AtomOf name opening arguments closing) scope n few e = search (atom_escapes, arguments_escape)
   tree_escapes sig (Comparison left token sign right) scope n few e =
       let first = term_names left scope n in
       let second = term_names right scope first in
@@ -244,10 +195,7 @@ module _ (y : ℕ) (above : max_free ≤ y) where
   pub none_escapes : (sig : List PredOf) (tree : Tree) (n : SymbolTable)
       → length (names_behind sig tree no_scope n).free ≤ max_free → among y (fv (value sig tree no_scope n)) ≡ true → ⊥
   unfolding Occurs
-  none_escapes sig tree n few e = let s = tree_escapes sig tree no_scope n few e in by_none s.bound
-    where
-      by_none : {k : ℕ} → None ≡ Some k → ⊥
-      by_none f = cc
+  none_escapes sig tree n few e = grind (arith, tree_escapes)
 
 -- a test that all pass
 all_free : (xs : List ℕ) → ((y : ℕ) → among y xs ≡ true → is_free y ≡ true) → free_in xs ≡ xs
@@ -264,12 +212,4 @@ all_free (x ∷ xs) each =
 pub only_free : (sig : List PredOf) (tree : Tree) (n : SymbolTable)
     → length (names_behind sig tree no_scope n).free ≤ max_free → free_in (fv (value sig tree no_scope n))
     ≡ fv (value sig tree no_scope n)
-only_free sig tree n few = all_free (fv (value sig tree no_scope n)) (λ y e. by_number y e)
-  where
-    by_number : (y : ℕ) → among y (fv (value sig tree no_scope n)) ≡ true → is_free y ≡ true
-    by_number y e =
-        elim (cases_lt y max_free) [
-          | inl below ↦ lt-ltb y max_free below
-          | inr above ↦ absurd
-              (none_escapes y above sig tree n few e)
-        ]
+only_free sig tree n few = grind (arith, all_free, is_free, cases_lt, lt-ltb, none_escapes)

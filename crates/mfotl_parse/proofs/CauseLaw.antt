@@ -1,38 +1,27 @@
 -- Behind tokens that show no fault, the reader shows a fault exactly where the token or the tail is its cause.
 use Rattle.std.proofs.Common.{◌≡◌, ℕ, Bool, true, false, List, [], ◌∷◌, ◌++◌, length, Option, Some, None, Ok, Err, refl}
-use Rattle.std.proofs.Common.{ap, sym, subst, ◌∙◌}
-use Rattle.std.proofs.lemmas.List.{append_assoc}
-use Rattle.std.proofs.lemmas.Bool.{false_from_ne_true}
-use Rattle.std.specs.Prelude.{slice_get}
-use Rattle.std.specs.Option.{option_map}
+use Rattle.std.proofs.Common.{ap, sym, subst, ◌∙◌, arith}
+use Rattle.std.proofs.{lemmas.List.append_assoc, lemmas.Bool.false_from_ne_true}
+use Rattle.std.specs.{Prelude.slice_get, Option.option_map}
 use Rattle.mfotl_lex.specs.declared.fault.LexFault.{LexFault}
-use Rattle.mfotl_lex.specs.FirstFault.{Tail, Broken, End, More, run, EndsViability, EndsTooEarly, FollowsGrammar}
+use Rattle.mfotl_lex.specs.FirstFault.{Tail, End, run, EndsViability, EndsTooEarly, FollowsGrammar}
 use Rattle.mfotl_lex.specs.Lexemes.{Lexeme}
-use Rattle.mfotl_model.specs.Formulas.{Form}
 use Rattle.mfotl_sig.specs.Preds.{PredOf}
-use Rattle.mfotl_parse.specs.declared.fault.PolicyFault.{PolicyFault}
-use Rattle.mfotl_parse.specs.declared.fault.PolicyFault.TheVariants.{Lex, Syntax, SortClash, TooManyVariables, Memory}
-use Rattle.mfotl_parse.specs.declared.term.Pair.{Pair}
+use Rattle.mfotl_parse.specs.declared.{fault.PolicyFault.PolicyFault, term.Pair.Pair}
+use Rattle.mfotl_parse.specs.declared.fault.PolicyFault.TheVariants.{Syntax, SortClash, TooManyVariables}
 use Rattle.mfotl_parse.specs.Causes.{ShowsFault, IsCause, SortsClash, HasNinthVariable, IsLast}
 use Rattle.mfotl_parse.specs.Grammar.{Tree, Fits, spelling, IsFormula, BeginsFormula}
-use Rattle.mfotl_parse.specs.GrammarLaws.{table_clash}
-use Rattle.mfotl_parse.specs.Limits.{max_free}
-use Rattle.mfotl_parse.specs.Meanings.{all_names}
-use Rattle.mfotl_parse.specs.Mentions.{sort_clash}
-use Rattle.mfotl_parse.specs.Reading.{PolicyOf, transition, step, sorted, closed_at_end, ended_at, is_closed, at_tail}
-use Rattle.mfotl_parse.specs.Reduction.{reduce}
+use Rattle.mfotl_parse.specs.{GrammarLaws.table_clash, Limits.max_free, Meanings.all_names, Mentions.sort_clash}
+use Rattle.mfotl_parse.specs.{SymbolTable.uneven_pair, SymbolTable.clash_or_pair}
+use Rattle.mfotl_parse.specs.Reading.{PolicyOf, transition, step, sorted, ended_at, at_tail}
 use Rattle.mfotl_parse.specs.Shows.{Showing, silent, shown_by}
-use Rattle.mfotl_parse.specs.States.{Stage, Context, SymbolTable, Partial, AfterOperand, nothing_read}
-use Rattle.mfotl_parse.specs.SymbolTable.{uneven_pair, clash_or_pair}
-use Rattle.mfotl_parse.specs.Transitions.{Limit, Empty, Transition, fault_of, given}
+use Rattle.mfotl_parse.specs.States.{Stage, Context, SymbolTable, Partial, nothing_read}
+use Rattle.mfotl_parse.specs.Transitions.{Limit, Transition, fault_of, given}
 use Rattle.mfotl_parse.specs.Viability.{if_moved, is_whole, accepts}
-use Rattle.mfotl_parse.proofs.AcceptedLaw.{accepted_formula}
-use Rattle.mfotl_parse.proofs.FreeNames.{all_free}
-use Rattle.mfotl_parse.proofs.MentionClashes.{clashes_agree}
+use Rattle.mfotl_parse.proofs.{AcceptedLaw.accepted_formula, FreeNames.all_free, MentionClashes.clashes_agree}
+use Rattle.mfotl_parse.proofs.{TracedTrees.shows_whole, ViabilityLemmas.completes}
 use Rattle.mfotl_parse.proofs.ReadMoves.{kept_broken, first_broken, accepts_read, read_silent}
 use Rattle.mfotl_parse.proofs.TracedMoves.{broken, traced, trace}
-use Rattle.mfotl_parse.proofs.TracedTrees.{shows_whole}
-use Rattle.mfotl_parse.proofs.ViabilityLemmas.{completes}
 use Rattle.mfotl_parse.proofs.WholeTrees.{formula_accepted, read_viable, whole_formula, formula_whole, finished_by}
 
 -- ---- a token
@@ -46,8 +35,7 @@ place_behind (t ∷ front) later = place_behind front later
 -- a rule's fault is caused as the formula shows
 rule_cause : (sig : List PredOf) (front : List Lexeme) (t : Lexeme) (limit : Limit) (at : ℕ)
     → ShowsFault sig front t (fault_of limit at) → IsCause sig front t (fault_of limit at)
-rule_cause sig front t Empty at s = s
-rule_cause sig front t _ at s = s
+rule_cause sig front t limit at s = grind arith
 
 -- what a token shows by its move
 abbrev shown_at : ℕ → Option Transition → List PolicyFault
@@ -56,8 +44,7 @@ shown_at at (Some m) = broken m.rules
 
 given_shown : (at : ℕ) (o : Option Transition) (fault : PolicyFault) (others : List PolicyFault)
     → shown_at at o ≡ fault ∷ others → given at o ≡ Err fault
-given_shown at None fault others e = cc
-given_shown at (Some m) fault others e = kept_broken m.rules m.next fault others e
+given_shown at o fault others e = grind (arith, kept_broken)
 
 module _ (sig : List PredOf) (front : List Lexeme) (s : Partial) (t : Lexeme)
     (ran : run (step sig) front nothing_read ≡ Ok s) where
@@ -129,19 +116,11 @@ module _ (sig : List PredOf) (front : List Lexeme) (s : Partial) (t : Lexeme)
 
   unviable : (o : Option Transition) (at : ℕ) → transition sig s t ≡ o
       → EndsViability BeginsFormula (λ token. token.at) front t at → given t.at o ≡ Err (Syntax at)
-  unviable None at is c = ap (λ n. Err (Syntax n)) (sym c.stands)
-  unviable (Some m) at is c =
-      let f = begins_so m is in
-      absurd (c.ends (f.0, subst IsFormula (sym (append_assoc front (t ∷ []) f.0)) f.1))
+  unviable o at is c = grind (arith, begins_so, append_assoc)
 
   cause_shows : (fault : PolicyFault) → IsCause sig front t fault → step sig s t ≡ Err fault
   unfolding step
-  cause_shows (Lex fault) c = absurd c
-  cause_shows (Syntax at) c = unviable (transition sig s t) at refl c
-  cause_shows (SortClash at) c = absurd c
-  cause_shows (TooManyVariables at) c = absurd c
-  cause_shows Memory c = absurd c
-  cause_shows fault c = shows fault c
+  cause_shows fault c = grind (arith, unviable, shows)
 
   step_caused : (fault : PolicyFault) → step sig s t ≡ Err fault → IsCause sig front t fault
   unfolding step
@@ -149,18 +128,10 @@ module _ (sig : List PredOf) (front : List Lexeme) (s : Partial) (t : Lexeme)
 
 -- ---- the end
 
--- not at the end of a formula
-shut_end : (n : SymbolTable) (f : Form) (closed : Bool) (end : ℕ) → closed ≡ false
-    → closed_at_end n f closed end ≡ Err (Syntax end)
-shut_end n f true end e = absurd cc
-shut_end n f false end e = refl
-
 pub early_end : (now : Stage) (c : Context) (end : ℕ) → is_whole now c.stack ≡ false
     → ended_at now c end ≡ Err (Syntax end)
 unfolding ended_at
-early_end (AfterOperand f) c end e =
-    shut_end c.names (reduce 0 f c.stack).form (is_closed (reduce 0 f c.stack).stack) end e
-early_end _ c end e = refl
+early_end now c end e = grind arith
 
 abbrev ninth_place : Option (List ℕ × ℕ) → Option ℕ
 ninth_place known = option_map (λ k. k.1) known
@@ -168,15 +139,12 @@ ninth_place known = option_map (λ k. k.1) known
 module _ (policy : PolicyOf) where
   sorted_clash : (clash : Option ℕ) (uneven : Option Pair) (ninth : Option (List ℕ × ℕ)) (at : ℕ)
       → clash_or_pair clash uneven ≡ Some at → sorted clash uneven ninth policy ≡ Err (SortClash at)
-  sorted_clash (Some place) uneven ninth at e = cc
-  sorted_clash None (Some pair) ninth at e = cc
-  sorted_clash None None ninth at e = absurd cc
+  sorted_clash clash uneven ninth at e = grind arith
 
   sorted_many : (clash : Option ℕ) (uneven : Option Pair) (ninth : Option (List ℕ × ℕ)) (at : ℕ)
       → clash_or_pair clash uneven ≡ None → ninth_place ninth ≡ Some at
       → sorted clash uneven ninth policy ≡ Err (TooManyVariables at)
-  sorted_many None None (Some known) at e f = cc
-  sorted_many _ _ _ at e f = absurd cc
+  sorted_many clash uneven ninth at e f = grind arith
 
 module _ (sig : List PredOf) (ts : List Lexeme) (s : Partial) (ran : run (step sig) ts nothing_read ≡ Ok s) where
   module _ (tree : Tree) (fits : Fits 1 tree) (spelled : ts ≡ spelling tree) (end : ℕ) where
@@ -191,32 +159,7 @@ module _ (sig : List PredOf) (ts : List Lexeme) (s : Partial) (ran : run (step s
         (fault : PolicyFault) → names.clash ≡ clash → uneven_pair names ≡ uneven
         → slice_get names.free max_free ≡ ninth → sorted clash uneven ninth policy ≡ Err fault
         → IsLast sig ts (End end) fault
-    by_names (Some at) uneven ninth policy fault c u n e =
-        let same : SortClash at ≡ fault = cc in
-        subst (IsLast sig ts (End end)) same
-        (record {
-          tree = tree;
-          whole = record { end = end; ended = refl; fits = fits; spelled = spelled };
-          clash = agrees ∙ ap (λ x. clash_or_pair x (uneven_pair names)) c;
-        })
-    by_names None (Some pair) ninth policy fault c u n e =
-        let same : SortClash pair.at ≡ fault = cc in
-        subst (IsLast sig ts (End end)) same
-        (record {
-          tree = tree;
-          whole = record { end = end; ended = refl; fits = fits; spelled = spelled };
-          clash = agrees ∙ ap (λ x. clash_or_pair x (uneven_pair names)) c ∙ ap (clash_or_pair None) u;
-        })
-    by_names None None (Some known) policy fault c u n e =
-        let same : TooManyVariables known.1 ≡ fault = cc in
-        subst (IsLast sig ts (End end)) same
-        (record {
-          tree = tree;
-          whole = record { end = end; ended = refl; fits = fits; spelled = spelled };
-          even = agrees ∙ ap (λ x. clash_or_pair x (uneven_pair names)) c ∙ ap (clash_or_pair None) u;
-          ninth = ap (λ free. ninth_place (slice_get free max_free)) (sym (all_free sig tree)) ∙ ap ninth_place n;
-        })
-    by_names None None None policy fault c u n e = absurd cc
+    by_names clash uneven ninth policy fault c u n e = grind (arith, agrees, all_free)
 
   by_end : (end : ℕ) (fault : PolicyFault) (b : Bool) → is_whole s.now s.context.stack ≡ b
       → ended_at s.now s.context end ≡ Err fault → IsLast sig ts (End end) fault
@@ -230,10 +173,7 @@ module _ (sig : List PredOf) (ts : List Lexeme) (s : Partial) (ran : run (step s
       subst (IsLast sig ts (End end)) same (record { unaccepted = never; stands = refl })
 
   tail_caused : (tail : Tail LexFault) (fault : PolicyFault) → at_tail tail s ≡ Err fault → IsLast sig ts tail fault
-  tail_caused (Broken lexical) fault e =
-      let same : Lex lexical ≡ fault = cc in subst (IsLast sig ts (Broken lexical)) same refl
-  tail_caused (End end) fault e = by_end end fault (is_whole s.now s.context.stack) refl e
-  tail_caused More fault e = absurd cc
+  tail_caused tail fault e = grind (arith, by_end)
 
   too_early : (tail : Tail LexFault) (at : ℕ) → EndsTooEarly IsFormula ts tail at → at_tail tail s ≡ Err (Syntax at)
   too_early tail at c =
@@ -258,11 +198,7 @@ module _ (sig : List PredOf) (ts : List Lexeme) (s : Partial) (ran : run (step s
       (ap (λ free. ninth_place (slice_get free max_free)) (all_free sig c.tree) ∙ c.ninth)
 
   last_shows : (tail : Tail LexFault) (fault : PolicyFault) → IsLast sig ts tail fault → at_tail tail s ≡ Err fault
-  last_shows tail (Lex fault) c = ap (λ x. at_tail x s) c
-  last_shows tail (Syntax at) c = too_early tail at c
-  last_shows tail (SortClash at) c = clashes tail at c
-  last_shows tail (TooManyVariables at) c = ninth tail at c
-  last_shows tail _ c = absurd c
+  last_shows tail fault c = grind (arith, too_early, clashes, ninth)
 
 pub follows : (sig : List PredOf)
     → FollowsGrammar (step sig) nothing_read at_tail BeginsFormula (IsCause sig) (IsLast sig)

@@ -2,31 +2,21 @@
 use Rattle.std.proofs.Common.{◌≡◌, ℕ, suc, ◌+◌, ◌-◌, ◌<◌, ◌≤◌, Bool, List, [], ◌∷◌, length, map, Option, Some, None}
 use Rattle.std.proofs.Common.{Result, Ok, Err, refl, sym, ap, subst, ◌∙◌, arith, cond}
 use Rattle.std.proofs.lemmas.Bool.{lt-ltb}
-use Rattle.std.specs.Prelude.{slice_get, IfOk}
-use Rattle.std.specs.List.{range_with_len}
-use Rattle.mfotl_model.specs.declared.policy.Policy.{Policy}
-use Rattle.mfotl_model.specs.declared.policy.Sort.{Sort}
-use Rattle.mfotl_model.specs.Formulas.{form}
-use Rattle.mfotl_model.specs.FreeVariables.{fv}
+use Rattle.std.specs.{Prelude.slice_get, Prelude.IfOk, List.range_with_len}
+use Rattle.mfotl_model.specs.declared.{policy.Policy.Policy, policy.Sort.Sort}
+use Rattle.mfotl_model.specs.{Formulas.form, FreeVariables.fv}
 use Rattle.mfotl_model.proofs.VariableLemmas.{joined_none}
 use Rattle.mfotl_sig.specs.Preds.{PredOf}
 use Rattle.mfotl_parse.specs.declared.fault.PolicyFault.{PolicyFault}
-use Rattle.mfotl_parse.specs.Grammar.{Tree}
+use Rattle.mfotl_parse.specs.{Grammar.Tree, Reading.PolicyOf, Reading.reading, States.SymbolTable, States.no_names}
+use Rattle.mfotl_parse.specs.{Views.policy_of as policy_seen, Views.Gives, WellSorted.sort_or_integer}
+use Rattle.mfotl_parse.specs.{WellSorted.IsWellSorted, Limits.max_free}
 use Rattle.mfotl_parse.specs.Meanings.{no_scope, all_names, value, KeepsRules, IsValue}
 use Rattle.mfotl_parse.specs.SymbolTable.{given_at, uneven_pair, vars_of}
-use Rattle.mfotl_parse.specs.Reading.{PolicyOf, reading}
-use Rattle.mfotl_parse.specs.States.{SymbolTable, no_names}
-use Rattle.mfotl_parse.specs.Views.{policy_of as policy_seen, Gives}
-use Rattle.mfotl_parse.specs.WellSorted.{sort_or_integer, IsWellSorted}
-use Rattle.mfotl_parse.specs.Limits.{max_free}
-use Rattle.mfotl_parse.proofs.BoundVariables.{only_free}
-use Rattle.mfotl_parse.proofs.FreeNames.{few_met}
-use Rattle.mfotl_parse.proofs.LimitLemmas.{length_vars_of}
-use Rattle.mfotl_parse.proofs.MentionClashes.{table_even}
-use Rattle.mfotl_parse.proofs.NamesOrder.{grows_not, tree_grows}
-use Rattle.mfotl_parse.proofs.PolicyLaws.{read_is_spelled}
-use Rattle.mfotl_parse.proofs.SortedTrees.{given_by, tree_sorted}
-use Rattle.mfotl_parse.proofs.VariableOrder.{tree_order}
+use Rattle.mfotl_parse.proofs.{BoundVariables.only_free, FreeNames.few_met, LimitLemmas.length_vars_of}
+use Rattle.mfotl_parse.proofs.{MentionClashes.table_even, NamesOrder.grows_not, NamesOrder.tree_grows}
+use Rattle.mfotl_parse.proofs.{PolicyLaws.read_is_spelled, SortedTrees.given_by, SortedTrees.tree_sorted}
+use Rattle.mfotl_parse.proofs.{VariableOrder.tree_order}
 
 -- the sorts of the columns from a number on
 columns_from : (given : ℕ → Option Sort) (from : ℕ) (free : List (List ℕ × ℕ)) (sorts : List (Option Sort))

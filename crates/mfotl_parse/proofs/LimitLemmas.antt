@@ -2,10 +2,7 @@
 use Rattle.std.proofs.Common.{◌≡◌, ℕ, suc, ◌≤◌, List, [], ◌∷◌, Option, length, refl, ap, arith}
 use Rattle.mfotl_model.specs.declared.policy.Sort.{Sort}
 use Rattle.mfotl_sig.specs.Preds.{PredOf}
-use Rattle.mfotl_parse.specs.Limits.{max_free}
-use Rattle.mfotl_parse.specs.Meanings.{all_names, IsValue}
-use Rattle.mfotl_parse.specs.Reading.{PolicyOf}
-use Rattle.mfotl_parse.specs.SymbolTable.{vars_of}
+use Rattle.mfotl_parse.specs.{Limits.max_free, Meanings.IsValue, Reading.PolicyOf, SymbolTable.vars_of}
 use Rattle.mfotl_parse.proofs.FreeNames.{few_met}
 
 pub length_vars_of : (free : List (List ℕ × ℕ)) (given : List (Option Sort)) → length (vars_of free given)
@@ -17,7 +14,4 @@ length_vars_of (k ∷ free) (s ∷ given) = ap suc (length_vars_of free given)
 
 pub few_value : (sig : List PredOf) (bytes : List ℕ) (policy : PolicyOf) → IsValue bytes sig policy
     → length policy.vars ≤ max_free
-few_value sig bytes policy v =
-    let names = all_names sig v.tree in
-    let same = ap (λ (p : PolicyOf). length p.vars) v.value in
-    omega (arith, same, length_vars_of names.free names.free_sorts, few_met sig v.tree v.rules.few_free)
+few_value sig bytes policy v = grind (arith, length_vars_of, few_met)

@@ -1,30 +1,22 @@
 -- The reader's symbol table tells a clash of sorts where the places in the text do.
 use Rattle.std.proofs.Common.{◌≡◌, ℕ, ◌+◌, Bool, true, false, cond, not, List, [], ◌∷◌, Option, Some, None, refl, sym}
-use Rattle.std.proofs.Common.{ap, ◌∙◌}
-use Rattle.std.specs.List.{list_any}
-use Rattle.std.specs.Option.{option_map}
+use Rattle.std.proofs.Common.{ap, ◌∙◌, arith}
+use Rattle.std.specs.{List.list_any, Option.option_map}
 use Rattle.std.specs.Prelude.{◌||◌, ◌&&◌, find}
 use Rattle.mfotl_model.specs.declared.policy.Sort.{Sort}
-use Rattle.mfotl_model.specs.declared.policy.Sort.TheVariants as sorts
 use Rattle.mfotl_sig.specs.Preds.{PredOf}
 use Rattle.mfotl_parse.specs.declared.term.Pair.{Pair}
-use Rattle.mfotl_parse.specs.Grammar.{Tree}
-use Rattle.mfotl_parse.specs.GrammarLaws.{ClashesAgree}
-use Rattle.mfotl_parse.specs.Meanings.{all_names}
+use Rattle.mfotl_parse.specs.{Grammar.Tree, GrammarLaws.ClashesAgree, Meanings.all_names, States.SymbolTable}
+use Rattle.mfotl_parse.specs.{WellSorted.same_sort}
 use Rattle.mfotl_parse.specs.Mentions.{Binding, SortMention, Occurs, Stands, Compares, quantified_count, mentions}
 use Rattle.mfotl_parse.specs.Mentions.{same_binding, ask_other, place_of_mention, sorts_apart, is_of, is_uneven}
 use Rattle.mfotl_parse.specs.Mentions.{first_uneven, or_else, sort_clash}
-use Rattle.mfotl_parse.specs.States.{SymbolTable}
 use Rattle.mfotl_parse.specs.SymbolTable.{sort_of, differ, uneven_pair, clash_or_pair}
-use Rattle.mfotl_parse.specs.WellSorted.{same_sort}
 use Rattle.mfotl_parse.proofs.MentionSteps.{refers_sort, given_to, PairsOf, Follows}
 use Rattle.mfotl_parse.proofs.MentionTrees.{all_follow}
 
 same_turned : (a b : Sort) → same_sort a b ≡ same_sort b a
-same_turned sorts.Int sorts.Int = refl
-same_turned sorts.Int sorts.Text = refl
-same_turned sorts.Text sorts.Int = refl
-same_turned sorts.Text sorts.Text = refl
+same_turned a b = grind arith
 
 module _ (all : List SortMention) (count : ℕ) (n : SymbolTable) (f : Follows all count n) (unclashed : n.clash ≡ None)
   where
@@ -132,6 +124,4 @@ table_even sig tree e =
 -- and the reverse
 pub text_even : (sig : List PredOf) (tree : Tree) → (all_names sig tree).clash ≡ None
     → uneven_pair (all_names sig tree) ≡ None → sort_clash sig tree ≡ None
-text_even sig tree c u =
-    sym (clashes_agree sig tree) ∙ ap (λ (o : Option ℕ). clash_or_pair o (uneven_pair (all_names sig tree))) c
-    ∙ ap (clash_or_pair None) u
+text_even sig tree c u = cc (clashes_agree sig tree)

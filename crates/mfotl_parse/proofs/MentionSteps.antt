@@ -1,22 +1,18 @@
 -- Each step of the reader's symbol table gives to sorts what a mention in the text asks.
 use Rattle.std.proofs.Common.{◌≡◌, ℕ, suc, Bool, true, false, cond, not, List, [], ◌∷◌, ◌++◌, length, Option, Some}
 use Rattle.std.proofs.Common.{None, refl, sym, ap, subst, ◌∙◌, arith}
-use Rattle.std.proofs.lemmas.Bool.{eq-eqb, eqb-true}
+use Rattle.std.proofs.{lemmas.Bool.eq-eqb, lemmas.Bool.eqb-true, lemmas.List.Folds.list_any-append}
 use Rattle.std.proofs.lemmas.List.{append-nil, append_assoc, length-append, length-set}
-use Rattle.std.proofs.lemmas.List.Folds.{list_any-append}
 use Rattle.std.specs.Prelude.{◌||◌, ◌&&◌, nat_eq, slice_get}
 use Rattle.std.specs.Str.{bytes_eq}
 use Rattle.mfotl_model.specs.declared.policy.Sort.{Sort}
-use Rattle.mfotl_parse.specs.declared.term.Pair.{Pair}
-use Rattle.mfotl_parse.specs.declared.term.Variable.{Variable}
+use Rattle.mfotl_parse.specs.declared.{term.Pair.Pair, term.Variable.Variable}
 use Rattle.mfotl_parse.specs.declared.term.Variable.TheVariants as variables
 use Rattle.mfotl_parse.specs.Mentions.{Binding, Unbound, BoundAs, same_binding, SortMention, Occurs, Stands, Compares}
 use Rattle.mfotl_parse.specs.Mentions.{asks_other, ask_other, clashes, place_of_mention, first_clash, or_else}
-use Rattle.mfotl_parse.specs.States.{SymbolTable}
-use Rattle.mfotl_parse.specs.SymbolTable.{free_place, bound_or_free, free_or_new, with_free, occurring, bound_more}
-use Rattle.mfotl_parse.specs.SymbolTable.{given_at, sort_of, with_sort, earlier_clash, clashed, agreed, occurred}
-use Rattle.mfotl_parse.specs.SymbolTable.{require_sort, differ}
-use Rattle.mfotl_parse.specs.WellSorted.{same_sort}
+use Rattle.mfotl_parse.specs.{States.SymbolTable, WellSorted.same_sort}
+use Rattle.mfotl_parse.specs.SymbolTable.{free_place, bound_or_free, with_free, occurring, bound_more, given_at}
+use Rattle.mfotl_parse.specs.SymbolTable.{sort_of, with_sort, clashed, agreed, occurred, require_sort, differ}
 use Rattle.mfotl_parse.proofs.NamesOrder.{HasPlace, never_first, same_sorts}
 use Rattle.mfotl_parse.proofs.PlaceLemmas.{place_of_name, stays_found, found_last, same_names, name_is, one_name}
 use Rattle.mfotl_parse.proofs.PlaceLemmas.{none_more, none_past, sort_more, sort_set}
@@ -39,10 +35,7 @@ Refers (BoundAs j) (variables.Free k) free = ⊥
 Refers (BoundAs j) (variables.Bound k) free = j ≡ k
 
 pub refers_sort : (b : Binding) (v : Variable) (n : SymbolTable) → Refers b v n.free → given_to b n ≡ sort_of v n
-refers_sort (Unbound name) (variables.Free k) n r = ap (λ (o : Option ℕ). place_sort o n.free_sorts) r
-refers_sort (Unbound name) (variables.Bound k) n r = absurd r
-refers_sort (BoundAs j) (variables.Free k) n r = absurd r
-refers_sort (BoundAs j) (variables.Bound k) n r = ap (λ (i : ℕ). given_at (slice_get n.bound_sorts i)) r
+refers_sort b v n r = grind arith
 
 same_is : (b c : Binding) → same_binding b c ≡ true → b ≡ c
 same_is (Unbound a) (Unbound d) e = ap Unbound (same_names a d e)
@@ -87,14 +80,7 @@ set_free a d k s n r within = by_place (place_of_name a n.free) refl
 
 set_given : (c b : Binding) (v : Variable) (s : Sort) (n : SymbolTable) → Refers b v n.free → HasPlace v n
     → given_to c (with_sort v s n) ≡ cond (same_binding c b) (Some s) (given_to c n)
-set_given (Unbound a) (Unbound d) (variables.Free k) s n r within = set_free a d k s n r within
-set_given (BoundAs i) (Unbound d) (variables.Free k) s n r within = refl
-set_given c (Unbound d) (variables.Bound k) s n r within = absurd r
-set_given c (BoundAs j) (variables.Free k) s n r within = absurd r
-set_given (Unbound a) (BoundAs j) (variables.Bound k) s n r within = refl
-set_given (BoundAs i) (BoundAs j) (variables.Bound k) s n r within =
-    sort_set n.bound_sorts k s i within
-    ∙ ap (λ (m : ℕ). cond (nat_eq i m) (Some s) (given_at (slice_get n.bound_sorts i))) (sym r)
+set_given c b v s n r within = grind (arith, set_free, sort_set)
 
 -- nothing else changes
 record OnlySorts (n m : SymbolTable) : Type 0 where
@@ -105,20 +91,7 @@ record OnlySorts (n m : SymbolTable) : Type 0 where
   pairs : m.pairs ≡ n.pairs
 
 only_sorts : (v : Variable) (s : Sort) (n : SymbolTable) → OnlySorts n (with_sort v s n)
-only_sorts (variables.Free k) s n = record {
-  bound = refl;
-  sized = length-set n.free_sorts k (Some s);
-  free = refl;
-  clash = refl;
-  pairs = refl;
-}
-only_sorts (variables.Bound k) s n = record {
-  bound = length-set n.bound_sorts k (Some s);
-  sized = refl;
-  free = refl;
-  clash = refl;
-  pairs = refl;
-}
+only_sorts v s n = grind (arith, length-set)
 
 -- ---- compared variables
 
@@ -156,32 +129,14 @@ pairs_stay free later stay [] ps h = h
 pairs_stay free later stay (Occurs b at s ∷ ms) ps h = pairs_stay free later stay ms ps h
 pairs_stay free later stay (Stands given at s ∷ ms) ps h = pairs_stay free later stay ms ps h
 pairs_stay free later stay (Compares left right at ∷ ms) [] h = absurd h
-pairs_stay free later stay (Compares left right at ∷ ms) (p ∷ ps) h =
-    let first : IsPair later left right at p = record {
-      at_is = h.0.at_is;
-      left_is = stay left p.left h.0.left_is;
-      right_is = stay right p.right h.0.right_is;
-    } in (first, pairs_stay free later stay ms ps h.1)
+pairs_stay free later stay (Compares left right at ∷ ms) (p ∷ ps) h = search (pairs_stay free later stay ms ps h.1)
 
 -- ---- the first clash
 
 clash_more : (front ms : List SortMention) (m : SortMention) → first_clash front (ms ++ m ∷ [])
     ≡ or_else (first_clash front ms) (cond (clashes (front ++ ms) m) (Some (place_of_mention m)) None)
-clash_more front [] m =
-    ap (λ (all : List SortMention). cond (clashes all m) (Some (place_of_mention m)) None) (sym (append-nil front))
-clash_more front (x ∷ ms) m = by_test (clash_more (front ++ x ∷ []) ms m) (clashes front x)
-  where
-    by_test : first_clash (front ++ x ∷ []) (ms ++ m ∷ [])
-        ≡ or_else (first_clash (front ++ x ∷ []) ms)
-        (cond (clashes ((front ++ x ∷ []) ++ ms) m) (Some (place_of_mention m)) None)
-        → (b : Bool) → cond b (Some (place_of_mention x)) (first_clash (front ++ x ∷ []) (ms ++ m ∷ []))
-        ≡ or_else (cond b (Some (place_of_mention x)) (first_clash (front ++ x ∷ []) ms))
-        (cond (clashes (front ++ x ∷ ms) m) (Some (place_of_mention m)) None)
-    by_test later true = refl
-    by_test later false =
-        later
-        ∙ ap (λ (all : List SortMention). or_else (first_clash (front ++ x ∷ []) ms)
-        (cond (clashes all m) (Some (place_of_mention m)) None)) (append_assoc front (x ∷ []) ms)
+clash_more front [] m = cc (append-nil front)
+clash_more front (x ∷ ms) m = grind (arith, append_assoc, clash_more (front ++ x ∷ []) ms m)
 
 -- ---- what the table says behind mentions, where so many variables were quantified
 
@@ -193,67 +148,36 @@ pub record Follows (before : List SortMention) (count : ℕ) (n : SymbolTable) :
   pub pairs : PairsOf n.free before n.pairs
 
 nothing_more : (b : Bool) → (b || (false || false)) ≡ b
-nothing_more true = refl
-nothing_more false = refl
+nothing_more b = grind arith
 
 once_more : (b : Bool) → (b || (b || false)) ≡ b
-once_more true = refl
-once_more false = refl
+once_more b = grind arith
 
 only_later : (b : Bool) → (false || (b || false)) ≡ b
-only_later true = refl
-only_later false = refl
+only_later b = grind arith
 
 module _ (before : List SortMention) (count : ℕ) (n : SymbolTable) (f : Follows before count n) where
   clash_is : (m : SortMention) (x : Bool) → (n.clash ≡ None → clashes before m ≡ x)
       → or_else n.clash (cond x (Some (place_of_mention m)) None) ≡ first_clash [] (before ++ m ∷ [])
-  clash_is m x test =
-      by_clash n.clash refl
-      ∙ ap (λ (o : Option ℕ). or_else o (cond (clashes before m) (Some (place_of_mention m)) None)) f.clash
-      ∙ sym (clash_more [] before m)
-    where
-      by_clash : (o : Option ℕ) → n.clash ≡ o → or_else o (cond x (Some (place_of_mention m)) None)
-          ≡ or_else o (cond (clashes before m) (Some (place_of_mention m)) None)
-      by_clash (Some at) e = refl
-      by_clash None e = ap (λ (b : Bool). cond b (Some (place_of_mention m)) None) (sym (test e))
+  clash_is m x test = grind (arith, clash_more)
 
   same_clash : (o : Option ℕ) → o ≡ or_else o None
-  same_clash (Some at) = refl
-  same_clash None = refl
+  same_clash o = grind arith
 
   pairs_same : (m : SortMention) → PairsOf n.free (m ∷ []) [] → PairsOf n.free (before ++ m ∷ []) n.pairs
-  pairs_same m none =
-      subst (λ (ps : List Pair). PairsOf n.free (before ++ m ∷ []) ps) (append-nil n.pairs)
-      (pairs_append n.free before (m ∷ []) n.pairs [] f.pairs none)
+  pairs_same m none = grind (arith, append-nil n.pairs, pairs_append n.free before (m ∷ []) n.pairs)
 
   -- nothing changes
   kept : (m : SortMention) → PairsOf n.free (m ∷ []) [] → (n.clash ≡ None → clashes before m ≡ false)
       → (n.clash ≡ None → (c : Binding) (t : Sort) → (differ (given_to c n) (Some t) || (asks_other c t m || false))
       ≡ differ (given_to c n) (Some t))
       → Follows (before ++ m ∷ []) count n
-  kept m none test same = record {
-    counted = f.counted;
-    sized = f.sized;
-    clash = same_clash n.clash ∙ clash_is m false test;
-    sorts = λ e c t. list_any-append (asks_other c t) before (m ∷ [])
-        ∙ ap (λ (b : Bool). b || (asks_other c t m || false)) (f.sorts e c t) ∙ same e c t;
-    pairs = pairs_same m none;
-  }
+  kept m none test same = grind (arith, same_clash n.clash, clash_is m false test, list_any-append, pairs_same m none)
 
   -- it clashes
   clashed_by : (m : SortMention) → PairsOf n.free (m ∷ []) [] → (n.clash ≡ None → clashes before m ≡ true)
       → Follows (before ++ m ∷ []) count (clashed (place_of_mention m) n)
-  clashed_by m none test = record {
-    counted = f.counted;
-    sized = f.sized;
-    clash = first_is n.clash ∙ clash_is m true test;
-    sorts = λ e c t. absurd (never_first n.clash (place_of_mention m) e);
-    pairs = pairs_same m none;
-  }
-    where
-      first_is : (o : Option ℕ) → earlier_clash o (place_of_mention m) ≡ or_else o (Some (place_of_mention m))
-      first_is (Some at) = refl
-      first_is None = refl
+  clashed_by m none test = grind (arith, clash_is m true test, never_first, pairs_same m none)
 
   pub stands : (given : Sort) (at : ℕ) (sort : Sort)
       → Follows (before ++ Stands given at sort ∷ []) count (agreed given at sort n)
@@ -386,33 +310,16 @@ from_scope None name = Unbound name
 
 refers_more : (b : Binding) (v : Variable) (free : List (List ℕ × ℕ)) (one : List ℕ × ℕ) → Refers b v free
     → Refers b v (free ++ one ∷ [])
-refers_more (Unbound name) (variables.Free k) free one r =
-    stays_found (λ (known : List ℕ × ℕ). bytes_eq name known.0) free one k r
-refers_more (Unbound name) (variables.Bound k) free one r = absurd r
-refers_more (BoundAs j) (variables.Free k) free one r = absurd r
-refers_more (BoundAs j) (variables.Bound k) free one r = r
+refers_more b v free one r = grind (arith, stays_found)
 
 pub met_refers : (bound : Option ℕ) (name : List ℕ) (at : ℕ) (n : SymbolTable) (b : Binding) (v : Variable)
     → Refers b v n.free → Refers b v (occurring bound name at n).free
-met_refers (Some k) name at n b v r = r
-met_refers None name at n b v r = by_place (free_place name n)
-  where
-    by_place : (place : Option ℕ) → Refers b v (with_free place name at n).free
-    by_place (Some k) = r
-    by_place None = refers_more b v n.free (name, at) r
+met_refers bound name at n b v r = grind (arith, refers_more)
 
 -- the name's variable is the one that binds it
 pub name_refers : (bound : Option ℕ) (name : List ℕ) (at : ℕ) (n : SymbolTable)
     → Refers (from_scope bound name) (bound_or_free bound name n) (occurring bound name at n).free
-name_refers (Some k) name at n = refl
-name_refers None name at n = by_place (free_place name n) refl
-  where
-    by_place : (place : Option ℕ) → free_place name n ≡ place
-        → Refers (Unbound name) (free_or_new place n) (with_free place name at n).free
-    by_place (Some k) e = e
-    by_place None e =
-        found_last (λ (known : List ℕ × ℕ). bytes_eq name known.0) n.free (name, at) e
-        ∙ ap (λ (b : Bool). cond b (Some (length n.free)) None) (name_is name)
+name_refers bound name at n = grind (arith, found_last, name_is)
 
 pub met_follows : (before : List SortMention) (count : ℕ) (n : SymbolTable) (bound : Option ℕ) (name : List ℕ) (at : ℕ)
     → Follows before count n → Follows before count (occurring bound name at n)

@@ -1,31 +1,27 @@
 -- Behind a written formula the reader's symbol table says of sorts what the formula's places in the text do.
-use Rattle.std.proofs.Common.{◌≡◌, ℕ, suc, ◌+◌, Bool, true, false, cond, List, [], ◌∷◌, ◌++◌, Option, Some, None, refl}
-use Rattle.std.proofs.Common.{sym, ap, subst, arith}
+use Rattle.std.proofs.Common.{◌≡◌, ℕ, suc, ◌+◌, List, [], ◌∷◌, ◌++◌, Option, None, refl, sym, arith}
 use Rattle.std.proofs.lemmas.List.{append-nil, append_assoc}
-use Rattle.std.specs.Str.{bytes_eq}
 use Rattle.mfotl_model.specs.declared.policy.Sort.{Sort}
 use Rattle.mfotl_model.specs.declared.policy.Sort.TheVariants as sorts
-use Rattle.mfotl_sig.specs.Preds.{PredOf, named}
+use Rattle.mfotl_sig.specs.Preds.{PredOf}
 use Rattle.mfotl_parse.specs.declared.term.Variable.{Variable}
-use Rattle.mfotl_parse.specs.Arguments.{call_of}
-use Rattle.mfotl_parse.specs.SortsDue.{due_sort, after_due}
+use Rattle.mfotl_parse.specs.{Arguments.call_of, SortsDue.due_sort, SortsDue.after_due, States.SymbolTable}
+use Rattle.mfotl_parse.specs.{States.no_names}
 use Rattle.mfotl_parse.specs.Grammar.{WrittenVariable, WrittenTerm, Named, Number, Quoted, WrittenArgument, Given}
 use Rattle.mfotl_parse.specs.Grammar.{Hidden, WrittenArguments, LastArgument, MoreArguments, WrittenVariables}
 use Rattle.mfotl_parse.specs.Grammar.{LastVariable, MoreVariables, Tree, Truth, BareAtom, AtomOf, Comparison, Enclosed}
 use Rattle.mfotl_parse.specs.Grammar.{Denied, Timed, Quantified, Joined}
 use Rattle.mfotl_parse.specs.Meanings.{Scope, inside, operand_of, term_names, argument_names, arguments_names}
 use Rattle.mfotl_parse.specs.Meanings.{variables_names, variables_scope, names_behind, no_scope, all_names}
-use Rattle.mfotl_parse.specs.Mentions.{Binding, Unbound, BoundAs, Around, binding_of, SortMention, term_mention}
-use Rattle.mfotl_parse.specs.Mentions.{argument_mention, argument_mentions, comparison_mention, inside_variables}
-use Rattle.mfotl_parse.specs.Mentions.{quantified_count, places_of, mentions_in, mentions}
-use Rattle.mfotl_parse.specs.Occurrences.{name_of, place_of_variable, place_of, hidden_count, blank_count}
-use Rattle.mfotl_parse.specs.Occurrences.{variable_count}
-use Rattle.mfotl_parse.specs.States.{SymbolTable, no_names}
-use Rattle.mfotl_parse.specs.SymbolTable.{bound_or_free, bound_more, inner_or, constrain_term, with_comparison, differ}
+use Rattle.mfotl_parse.specs.Mentions.{Binding, Around, binding_of, SortMention, term_mention, argument_mention}
+use Rattle.mfotl_parse.specs.Mentions.{argument_mentions, comparison_mention, inside_variables, quantified_count}
+use Rattle.mfotl_parse.specs.Mentions.{places_of, mentions_in, mentions}
+use Rattle.mfotl_parse.specs.Occurrences.{name_of, place_of, hidden_count, blank_count, variable_count}
+use Rattle.mfotl_parse.specs.SymbolTable.{bound_or_free, bound_more, constrain_term, with_comparison}
 use Rattle.mfotl_parse.proofs.NamesOrder.{Inside, inside_grows, inside_all, resolved_place, argument_grows, tree_grows}
 use Rattle.mfotl_parse.proofs.NamesOrder.{HasPlace}
-use Rattle.mfotl_parse.proofs.MentionSteps.{Refers, given_to, Follows, from_scope, met_refers, name_refers, met_follows}
-use Rattle.mfotl_parse.proofs.MentionSteps.{stands, occurs, blank, compares, bound}
+use Rattle.mfotl_parse.proofs.MentionSteps.{Refers, Follows, from_scope, met_refers, name_refers, met_follows, stands}
+use Rattle.mfotl_parse.proofs.MentionSteps.{occurs, blank, compares, bound}
 
 -- a scope's names are bound as those around
 abbrev Binds : Scope → Around → Type 0
@@ -34,8 +30,7 @@ Binds scope around = (name : List ℕ) → from_scope (scope name) name ≡ bind
 -- the same list, and the same count
 follows_as : {ms later : List SortMention} {i j : ℕ} {n : SymbolTable} → ms ≡ later → i ≡ j → Follows ms i n
     → Follows later j n
-follows_as {later = later} {i = i} {n = n} e g f =
-    subst (λ (k : ℕ). Follows later k n) g (subst (λ (all : List SortMention). Follows all i n) e f)
+follows_as {later = later} {i = i} {n = n} e g f = grind arith
 
 -- ---- terms
 
@@ -43,39 +38,29 @@ module _ (scope : Scope) (around : Around) (binds : Binds scope around) where
   variable_refers : (v : WrittenVariable) (n : SymbolTable)
       → Refers (binding_of (name_of v) around) (bound_or_free (scope (name_of v)) (name_of v) n)
       (term_names (Named v) scope n).free
-  variable_refers v n =
-      subst (λ (b : Binding). Refers b (bound_or_free (scope (name_of v)) (name_of v) n)
-      (term_names (Named v) scope n).free) (binds (name_of v))
-      (name_refers (scope (name_of v)) (name_of v) (place_of_variable v) n)
+  variable_refers v n = grind (arith, name_refers)
 
   term_met : (t : WrittenTerm) (before : List SortMention) (count : ℕ) (n : SymbolTable) → Follows before count n
       → Follows before count (term_names t scope n)
-  term_met (Named v) before count n f =
-      met_follows before count n (scope (name_of v)) (name_of v) (place_of_variable v) f
+  term_met (Named v) before count n f = search (met_follows)
   term_met (Number token z) before count n f = f
   term_met (Quoted token) before count n f = f
 
   term_refers : (t : WrittenTerm) (n : SymbolTable) (b : Binding) (v : Variable) → Refers b v n.free
       → Refers b v (term_names t scope n).free
-  term_refers (Named w) n b v r = met_refers (scope (name_of w)) (name_of w) (place_of_variable w) n b v r
-  term_refers (Number token z) n b v r = r
-  term_refers (Quoted token) n b v r = r
+  term_refers t n b v r = grind (arith, met_refers)
 
   -- a variable that was met
   variable_placed : (v : WrittenVariable) (n : SymbolTable) (before : List SortMention) (count : ℕ) → Inside scope n
       → Follows before count n
       → HasPlace (bound_or_free (scope (name_of v)) (name_of v) n) (term_names (Named v) scope n)
-  variable_placed v n before count within f =
-      resolved_place (name_of v) (place_of_variable v) n (scope (name_of v)) (within (name_of v)) f.sized
+  variable_placed v n before count within f = search (resolved_place)
 
   term_follows : (t : WrittenTerm) (sort : Sort) (before : List SortMention) (count : ℕ) (n : SymbolTable)
       → Inside scope n → Follows before count n
       → Follows (before ++ term_mention t sort around ∷ []) count
       (constrain_term (operand_of t scope n) (place_of t) sort (term_names t scope n))
-  term_follows (Named v) sort before count n within f =
-      occurs before count (term_names (Named v) scope n) (term_met (Named v) before count n f)
-      (binding_of (name_of v) around) (bound_or_free (scope (name_of v)) (name_of v) n) (place_of_variable v) sort
-      (variable_refers v n) (variable_placed v n before count within f)
+  term_follows (Named v) sort before count n within f = search (occurs, term_met, variable_refers, variable_placed)
   term_follows (Number token z) sort before count n within f = stands before count n f sorts.Int token.at sort
   term_follows (Quoted token) sort before count n within f = stands before count n f sorts.Text token.at sort
 
@@ -92,8 +77,7 @@ module _ (scope : Scope) (around : Around) (binds : Binds scope around) where
       (n : SymbolTable) → Inside scope n → Follows before count n
       → Follows (before ++ argument_mentions xs places around count) (count + blank_count xs)
       (arguments_names xs places scope n)
-  arguments_follow (LastArgument a) places before count n within f =
-      argument_follows a (due_sort places) before count n within f
+  arguments_follow (LastArgument a) places before count n within f = search (argument_follows)
   arguments_follow (MoreArguments a comma rest) places before count n within f =
       let between = argument_names a (due_sort places) scope n in
       let one = argument_mention a (due_sort places) around count in
@@ -124,41 +108,30 @@ module _ (scope : Scope) (around : Around) (binds : Binds scope around) where
       term_follows (Named v) sorts.Text before count n within f
   sides_follow (Number token z) (Named w) at before count n within f =
       term_follows (Named w) sorts.Int before count n within f
-  sides_follow (Number token z) (Number other y) at before count n within f =
-      stands before count n f sorts.Int at sorts.Int
-  sides_follow (Number token z) (Quoted other) at before count n within f =
-      stands before count n f sorts.Int at sorts.Text
+  sides_follow (Number token z) (Number other y) at before count n within f = search (stands)
+  sides_follow (Number token z) (Quoted other) at before count n within f = search (stands)
   sides_follow (Quoted token) (Named w) at before count n within f =
       term_follows (Named w) sorts.Text before count n within f
-  sides_follow (Quoted token) (Number other y) at before count n within f =
-      stands before count n f sorts.Text at sorts.Int
-  sides_follow (Quoted token) (Quoted other) at before count n within f =
-      stands before count n f sorts.Text at sorts.Text
+  sides_follow (Quoted token) (Number other y) at before count n within f = search (stands)
+  sides_follow (Quoted token) (Quoted other) at before count n within f = search (stands)
 
 -- ---- quantifiers
 
 binds_one : (scope : Scope) (around : Around) (bound : List ℕ) (k count : ℕ) → k ≡ count → Binds scope around
     → Binds (inside bound k scope) ((bound, count) ∷ around)
-binds_one scope around bound k count same binds name = by_test (bytes_eq name bound)
-  where
-    by_test : (b : Bool) → from_scope (inner_or (cond b (Some k) None) (scope name)) name
-        ≡ cond b (BoundAs count) (binding_of name around)
-    by_test true = ap BoundAs same
-    by_test false = binds name
+binds_one scope around bound k count same binds name = grind arith
 
 variables_bind : (vs : WrittenVariables) (before : List SortMention) (count : ℕ) (n : SymbolTable) (scope : Scope)
     (around : Around) → Follows before count n → Binds scope around
     → Binds (variables_scope vs n scope) (inside_variables vs count around)
-variables_bind (LastVariable v) before count n scope around f binds =
-    binds_one scope around (name_of v) _ count f.counted binds
+variables_bind (LastVariable v) before count n scope around f binds = search (binds_one)
 variables_bind (MoreVariables v comma rest) before count n scope around f binds =
     variables_bind rest before (suc count) (bound_more None n) _ _ (bound before count n f)
     (binds_one scope around (name_of v) _ count f.counted binds)
 
 variables_follow : (vs : WrittenVariables) (before : List SortMention) (count : ℕ) (n : SymbolTable)
     → Follows before count n → Follows before (count + variable_count vs) (variables_names vs n)
-variables_follow (LastVariable v) before count n f =
-    follows_as refl (omega arith) (bound before count n f)
+variables_follow (LastVariable v) before count n f = grind (arith, follows_as, bound before count n f)
 variables_follow (MoreVariables v comma rest) before count n f =
     follows_as refl (omega arith)
     (variables_follow rest before (suc count) (bound_more None n) (bound before count n f))
@@ -166,26 +139,20 @@ variables_follow (MoreVariables v comma rest) before count n f =
 -- ---- formulas
 
 call_places : (found : Option PredOf) → (call_of found 0).rest ≡ places_of found
-call_places None = refl
-call_places (Some pred) = refl
+call_places found = grind arith
 
 module _ (sig : List PredOf) where
   tree_follows : (tree : Tree) (scope : Scope) (around : Around) (before : List SortMention) (count : ℕ)
       (n : SymbolTable) → Binds scope around → Inside scope n → Follows before count n
       → Follows (before ++ mentions_in sig tree around count) (count + quantified_count tree)
       (names_behind sig tree scope n)
-  tree_follows (Truth token value) scope around before count n binds within f =
-      follows_as (sym (append-nil before)) (omega arith) f
+  tree_follows (Truth token value) scope around before count n binds within f = grind (arith, follows_as, append-nil)
   tree_follows (BareAtom name opening closing) scope around before count n binds within f =
       follows_as (sym (append-nil before)) (omega arith) f
   tree_follows (AtomOf name opening arguments closing) scope around before count n binds within f =
-      follows_as
-      (ap (λ (places : List Sort). before ++ argument_mentions arguments places around count)
-      (call_places (named name.text sig))) refl
-      (arguments_follow scope around binds arguments (call_of (named name.text sig) 0).rest before count n within f)
+      search (follows_as, call_places, arguments_follow)
   tree_follows (Comparison left token sign right) scope around before count n binds within f =
-      follows_as refl (omega arith)
-      (sides_follow scope around binds left right token.at before count n within f)
+      grind (arith, follows_as, sides_follow scope around binds left right token.at before count n within f)
   tree_follows (Enclosed opening body closing) scope around before count n binds within f =
       tree_follows body scope around before count n binds within f
   tree_follows (Denied token body) scope around before count n binds within f =
@@ -209,17 +176,7 @@ module _ (sig : List PredOf) where
 
 -- nothing was met
 none_follow : Follows [] 0 no_names
-none_follow = record {
-  counted = refl;
-  sized = refl;
-  clash = refl;
-  sorts = λ e b s. nothing_given b s;
-  pairs = refl;
-}
-  where
-    nothing_given : (b : Binding) (s : Sort) → false ≡ differ (given_to b no_names) (Some s)
-    nothing_given (Unbound name) s = refl
-    nothing_given (BoundAs k) s = refl
+none_follow = grind arith
 
 none_inside : Inside no_scope no_names
 none_inside name k e = absurd cc

@@ -1,20 +1,16 @@
 -- How the names that were met grow: what was given stays.
-use Rattle.std.proofs.Common.{◌≡◌, ℕ, zero, suc, ◌<◌, ◌≤◌, Bool, true, false, cond, List, [], ◌∷◌, ◌++◌, length, Option}
-use Rattle.std.proofs.Common.{Some, None, refl, sym, ap, ◌∙◌, arith}
+use Rattle.std.proofs.Common.{◌≡◌, ℕ, zero, suc, ◌<◌, ◌≤◌, Bool, true, cond, List, [], ◌∷◌, ◌++◌, length, Option, Some}
+use Rattle.std.proofs.Common.{None, refl, sym, arith}
 use Rattle.std.proofs.lemmas.List.{append-nil, append_assoc, length-append, length-set}
-use Rattle.std.proofs.lemmas.List.Quantifiers.{position-Some}
-use Rattle.std.specs.Prelude.{slice_get, slice_set}
-use Rattle.std.specs.Str.{bytes_eq}
+use Rattle.std.proofs.{lemmas.List.Quantifiers.position-Some, lemmas.Grind.common_steps}
+use Rattle.std.specs.{Prelude.slice_get, Prelude.slice_set, Str.bytes_eq}
 use Rattle.mfotl_model.specs.declared.policy.Sort.{Sort}
-use Rattle.mfotl_model.specs.declared.policy.Sort.TheVariants as sorts
-use Rattle.mfotl_sig.specs.Preds.{PredOf, named}
-use Rattle.mfotl_parse.specs.declared.term.Operand.{Operand}
+use Rattle.mfotl_sig.specs.Preds.{PredOf}
+use Rattle.mfotl_parse.specs.declared.{term.Operand.Operand, term.Pair.Pair, term.Variable.Variable}
 use Rattle.mfotl_parse.specs.declared.term.Operand.TheVariants as operands
-use Rattle.mfotl_parse.specs.declared.term.Pair.{Pair}
-use Rattle.mfotl_parse.specs.declared.term.Variable.{Variable}
 use Rattle.mfotl_parse.specs.declared.term.Variable.TheVariants as variables
-use Rattle.mfotl_parse.specs.Arguments.{call_of}
-use Rattle.mfotl_parse.specs.SortsDue.{due_sort, after_due}
+use Rattle.mfotl_parse.specs.{SortsDue.due_sort, SortsDue.after_due, States.SymbolTable, WellSorted.sort_of_constant}
+use Rattle.mfotl_parse.specs.{WellSorted.same_sort}
 use Rattle.mfotl_parse.specs.Grammar.{WrittenTerm, Named, Number, Quoted, WrittenArgument, Given, Hidden}
 use Rattle.mfotl_parse.specs.Grammar.{WrittenArguments, LastArgument, MoreArguments, WrittenVariables, LastVariable}
 use Rattle.mfotl_parse.specs.Grammar.{MoreVariables, Tree, Truth, BareAtom, AtomOf, Comparison, Enclosed, Denied, Timed}
@@ -22,11 +18,9 @@ use Rattle.mfotl_parse.specs.Grammar.{Quantified, Joined}
 use Rattle.mfotl_parse.specs.Meanings.{Scope, inside, operand_of, term_names, argument_names, arguments_names}
 use Rattle.mfotl_parse.specs.Meanings.{variables_names, variables_scope, names_behind}
 use Rattle.mfotl_parse.specs.Occurrences.{name_of, place_of_variable, place_of}
-use Rattle.mfotl_parse.specs.SymbolTable.{free_place, bound_or_free, free_or_new, with_free, occurring, bound_more}
-use Rattle.mfotl_parse.specs.SymbolTable.{given_at, sort_of, with_sort, earlier_clash, clashed, agreed, occurred}
-use Rattle.mfotl_parse.specs.SymbolTable.{require_sort, constrain_term, with_comparison, inner_or}
-use Rattle.mfotl_parse.specs.States.{SymbolTable}
-use Rattle.mfotl_parse.specs.WellSorted.{sort_of_constant, same_sort}
+use Rattle.mfotl_parse.specs.SymbolTable.{free_place, bound_or_free, occurring, bound_more, given_at, sort_of}
+use Rattle.mfotl_parse.specs.SymbolTable.{with_sort, earlier_clash, clashed, agreed, occurred, require_sort}
+use Rattle.mfotl_parse.specs.SymbolTable.{constrain_term, with_comparison, inner_or}
 
 -- these names came to be those: what was given stays, and what was met
 pub record Grows (n m : SymbolTable) : Type 0 where
@@ -43,29 +37,13 @@ pub record Grows (n m : SymbolTable) : Type 0 where
 grows_by : (n m : SymbolTable) → ((v : Variable) (s : Sort) → sort_of v n ≡ Some s → sort_of v m ≡ Some s)
     → (m.clash ≡ None → n.clash ≡ None) → m.free ≡ n.free → length m.free_sorts ≡ length n.free_sorts
     → length n.bound_sorts ≤ length m.bound_sorts → (more : List Pair) → m.pairs ≡ n.pairs ++ more → Grows n m
-grows_by n m sorts clash same sized bound more pairs = record {
-  sorts = sorts;
-  clash = clash;
-  free = omega (arith, ap length same);
-  bound = bound;
-  more = more;
-  pairs = pairs;
-  sized = λ e. sized ∙ e ∙ ap length (sym same);
-}
+grows_by n m sorts clash same sized bound more pairs = grind arith
 
 pub grows_not : (n : SymbolTable) → Grows n n
 grows_not n = grows_by n n (λ v s e. e) (λ e. e) refl refl (omega arith) [] (sym (append-nil n.pairs))
 
 pub grows_then : (n m k : SymbolTable) → Grows n m → Grows m k → Grows n k
-grows_then n m k g h = record {
-  sorts = λ v s e. h.sorts v s (g.sorts v s e);
-  clash = λ e. g.clash (h.clash e);
-  free = omega (arith, g.free, h.free);
-  bound = omega (arith, g.bound, h.bound);
-  more = g.more ++ h.more;
-  pairs = h.pairs ∙ ap (λ (ps : List Pair). ps ++ h.more) g.pairs ∙ append_assoc n.pairs g.more h.more;
-  sized = λ e. h.sized (g.sized e);
-}
+grows_then n m k g h = grind (arith, append_assoc)
 
 -- ---- lists of sorts
 
@@ -96,71 +74,22 @@ given_last (y ∷ xs) s = given_last xs s
 -- ---- each step
 
 met_grows : (bound : Option ℕ) (name : List ℕ) (at : ℕ) (n : SymbolTable) → Grows n (occurring bound name at n)
-met_grows (Some variable) name at n = grows_not n
-met_grows None name at n = by_place (free_place name n)
-  where
-    by_variable : (v : Variable) (s : Sort) → sort_of v n ≡ Some s → sort_of v (with_free None name at n) ≡ Some s
-    by_variable (variables.Free k) s e = given_more n.free_sorts None k s e
-    by_variable (variables.Bound k) s e = e
-
-    by_place : (place : Option ℕ) → Grows n (with_free place name at n)
-    by_place (Some place) = grows_not n
-    by_place None = record {
-      sorts = λ v s e. by_variable v s e;
-      clash = λ e. e;
-      free = omega (arith, length-append n.free ((name, at) ∷ []));
-      bound = omega arith;
-      more = [];
-      pairs = sym (append-nil n.pairs);
-      sized = λ e. omega (arith, e, length-append n.free ((name, at) ∷ []), length-append n.free_sorts (None ∷ []));
-    }
+met_grows bound name at n = grind (arith, grows_not, given_more, length-append, append-nil)
 
 pub bound_grows : (sort : Option Sort) (n : SymbolTable) → Grows n (bound_more sort n)
-bound_grows sort n =
-    grows_by n _ by_variable (λ e. e) refl refl (omega (arith, length-append n.bound_sorts (sort ∷ []))) []
-    (sym (append-nil n.pairs))
-  where
-    by_variable : (v : Variable) (s : Sort) → sort_of v n ≡ Some s → sort_of v (bound_more sort n) ≡ Some s
-    by_variable (variables.Free k) s e = e
-    by_variable (variables.Bound k) s e = given_more n.bound_sorts sort k s e
+bound_grows sort n = grind (arith, grows_by, length-append, append-nil, given_more)
 
 sort_grows : (v : Variable) (sort : Sort) (n : SymbolTable) → sort_of v n ≡ None → Grows n (with_sort v sort n)
-sort_grows (variables.Free k) sort n none =
-    grows_by n _ by_variable (λ e. e) refl (length-set n.free_sorts k (Some sort)) (omega arith) []
-    (sym (append-nil n.pairs))
-  where
-    by_variable : (v : Variable) (s : Sort) → sort_of v n ≡ Some s → sort_of v (with_sort (variables.Free k) sort n)
-        ≡ Some s
-    by_variable (variables.Free j) s e = given_set n.free_sorts k j (Some sort) s none e
-    by_variable (variables.Bound j) s e = e
-sort_grows (variables.Bound k) sort n none =
-    grows_by n _ by_variable (λ e. e) refl refl (omega (arith, length-set n.bound_sorts k (Some sort))) []
-    (sym (append-nil n.pairs))
-  where
-    by_variable : (v : Variable) (s : Sort) → sort_of v n ≡ Some s → sort_of v (with_sort (variables.Bound k) sort n)
-        ≡ Some s
-    by_variable (variables.Free j) s e = e
-    by_variable (variables.Bound j) s e = given_set n.bound_sorts k j (Some sort) s none e
+sort_grows v sort n none = grind (arith, grows_by, length-set, append-nil, given_set)
 
 pub never_first : (before : Option ℕ) (at : ℕ) → earlier_clash before at ≡ None → ⊥
-never_first (Some place) at e = absurd cc
-never_first None at e = absurd cc
+never_first before at e = grind arith
 
 clash_grows : (at : ℕ) (n : SymbolTable) → Grows n (clashed at n)
-clash_grows at n =
-    grows_by n _ by_variable (λ e. absurd (never_first n.clash at e)) refl refl (omega arith) []
-    (sym (append-nil n.pairs))
-  where
-    by_variable : (v : Variable) (s : Sort) → sort_of v n ≡ Some s → sort_of v (clashed at n) ≡ Some s
-    by_variable (variables.Free j) s e = e
-    by_variable (variables.Bound j) s e = e
+clash_grows at n = grind (arith, grows_by, never_first, append-nil)
 
 agreed_grows : (before : Sort) (at : ℕ) (sort : Sort) (n : SymbolTable) → Grows n (agreed before at sort n)
-agreed_grows before at sort n = by_same (same_sort before sort)
-  where
-    by_same : (b : Bool) → Grows n (cond b n (clashed at n))
-    by_same true = grows_not n
-    by_same false = clash_grows at n
+agreed_grows before at sort n = grind (arith, grows_not, clash_grows)
 
 occurs_grows : (v : Variable) (at : ℕ) (sort : Sort) (n : SymbolTable) → Grows n (require_sort v at sort n)
 occurs_grows v at sort n = by_given (sort_of v n) refl
@@ -174,23 +103,14 @@ placed_grows (operands.Variable v) at sort n = occurs_grows v at sort n
 placed_grows (operands.Constant value) at sort n = agreed_grows (sort_of_constant value) at sort n
 
 pair_grows : (pair : Pair) (n : SymbolTable) → Grows n (record n { pairs = n.pairs ++ pair ∷ [] })
-pair_grows pair n = grows_by n _ by_variable (λ e. e) refl refl (omega arith) (pair ∷ []) refl
-  where
-    by_variable : (v : Variable) (s : Sort) → sort_of v n ≡ Some s
-        → sort_of v (record n { pairs = n.pairs ++ pair ∷ [] }) ≡ Some s
-    by_variable (variables.Free j) s e = e
-    by_variable (variables.Bound j) s e = e
+pair_grows pair n = grind arith
 
 pub compared_grows : (l : Operand) (left_at at : ℕ) (r : Operand) (right_at : ℕ) (n : SymbolTable)
     → Grows n (with_comparison l left_at at r right_at n)
-compared_grows (operands.Variable v) left_at at (operands.Variable w) right_at n =
-    pair_grows (record { at = at; left = v; right = w }) n
-compared_grows (operands.Variable v) left_at at (operands.Constant d) right_at n =
-    occurs_grows v left_at (sort_of_constant d) n
-compared_grows (operands.Constant c) left_at at (operands.Variable w) right_at n =
-    occurs_grows w right_at (sort_of_constant c) n
-compared_grows (operands.Constant c) left_at at (operands.Constant d) right_at n =
-    agreed_grows (sort_of_constant c) at (sort_of_constant d) n
+compared_grows (operands.Variable v) left_at at (operands.Variable w) right_at n = search (pair_grows)
+compared_grows (operands.Variable v) left_at at (operands.Constant d) right_at n = search (occurs_grows)
+compared_grows (operands.Constant c) left_at at (operands.Variable w) right_at n = search (occurs_grows)
+compared_grows (operands.Constant c) left_at at (operands.Constant d) right_at n = search (agreed_grows)
 
 -- ---- terms, arguments and formulas
 
@@ -223,16 +143,13 @@ pub sides_grow : (left right : WrittenTerm) (at : ℕ) (scope : Scope) (n : Symb
     → Grows (term_names right scope (term_names left scope n))
     (with_comparison (operand_of left scope n) (place_of left) at (operand_of right scope (term_names left scope n))
     (place_of right) (term_names right scope (term_names left scope n)))
-sides_grow left right at scope n =
-    compared_grows (operand_of left scope n) (place_of left) at (operand_of right scope (term_names left scope n))
-    (place_of right) (term_names right scope (term_names left scope n))
+sides_grow left right at scope n = search (compared_grows)
 
 pub tree_grows : (sig : List PredOf) (tree : Tree) (scope : Scope) (n : SymbolTable)
     → Grows n (names_behind sig tree scope n)
 tree_grows sig (Truth token which) scope n = grows_not n
 tree_grows sig (BareAtom name opening closing) scope n = grows_not n
-tree_grows sig (AtomOf name opening arguments closing) scope n =
-    arguments_grow arguments (call_of (named name.text sig) 0).rest scope n
+tree_grows sig (AtomOf name opening arguments closing) scope n = search (arguments_grow)
 tree_grows sig (Comparison left token sign right) scope n =
     let first = term_names left scope n in
     let second = term_names right scope first in
@@ -265,22 +182,12 @@ inside_grows scope n m inside g name k e = omega (arith, inside name k e, g.boun
 inner_one : (b : Bool) (variable : ℕ) (outer : Option ℕ) (n : SymbolTable) (k : ℕ)
     → ((j : ℕ) → outer ≡ Some j → j < length n.bound_sorts) → variable ≡ length n.bound_sorts
     → inner_or (cond b (Some variable) None) outer ≡ Some k → k < suc (length n.bound_sorts)
-inner_one true variable outer n k within is e = let same : variable ≡ k = cc in omega (arith, same, is)
-inner_one false variable outer n k within is e = omega (arith, within k e)
+inner_one b variable outer n k within is e = grind arith
 
 -- a quantifier's variable is bound inside it
 inside_one : (name : List ℕ) (scope : Scope) (n : SymbolTable) → Inside scope n
     → Inside (inside name (length n.bound_sorts) scope) (bound_more None n)
-inside_one bound scope n within name k e =
-    let below = inner_one _ (length n.bound_sorts) (scope name) n k (within name) refl e in omega
-    (arith, below, (bound_grows None n).bound, longer)
-  where
-    one_more : (xs : List (Option Sort)) → suc (length xs) ≡ length (xs ++ None ∷ [])
-    one_more [] = refl
-    one_more (x ∷ xs) = ap suc (one_more xs)
-
-    longer : suc (length n.bound_sorts) ≡ length (bound_more None n).bound_sorts
-    longer = one_more n.bound_sorts
+inside_one bound scope n within name k e = grind (arith, common_steps, inner_one, bound_grows)
 
 pub inside_all : (vs : WrittenVariables) (scope : Scope) (n : SymbolTable) → Inside scope n
     → Inside (variables_scope vs n scope) (variables_names vs n)
@@ -296,39 +203,19 @@ found_within name n place e = (position-Some (λ (known : List ℕ × ℕ). byte
 pub resolved_place : (name : List ℕ) (at : ℕ) (n : SymbolTable) (bound : Option ℕ)
     → ((k : ℕ) → bound ≡ Some k → k < length n.bound_sorts) → length n.free_sorts ≡ length n.free
     → HasPlace (bound_or_free bound name n) (occurring bound name at n)
-resolved_place name at n (Some k) inside sized = inside k refl
-resolved_place name at n None inside sized = by_place (free_place name n) refl
-  where
-    by_place : (place : Option ℕ) → free_place name n ≡ place
-        → HasPlace (free_or_new place n) (with_free place name at n)
-    by_place (Some place) e = omega (arith, sized, found_within name n place e)
-    by_place None e = omega (arith, sized, length-append n.free_sorts (None ∷ []))
+resolved_place name at n bound inside sized = grind (arith, found_within, length-append)
 
 -- after an occurrence of a sort that doesn't clash the variable was given that sort
 pub same_sorts : (a b : Sort) → same_sort a b ≡ true → a ≡ b
-same_sorts sorts.Int sorts.Int e = refl
-same_sorts sorts.Int sorts.Text e = absurd cc
-same_sorts sorts.Text sorts.Int e = absurd cc
-same_sorts sorts.Text sorts.Text e = refl
+same_sorts a b e = grind arith
 
 pub agreed_sort : (before : Sort) (at : ℕ) (sort : Sort) (n : SymbolTable) → (agreed before at sort n).clash ≡ None
     → before ≡ sort
-agreed_sort before at sort n e = by_same (same_sort before sort) refl e
-  where
-    by_same : (b : Bool) → same_sort before sort ≡ b → (cond b n (clashed at n)).clash ≡ None → before ≡ sort
-    by_same true is f = same_sorts before sort is
-    by_same false is f = absurd (never_first n.clash at f)
+agreed_sort before at sort n e = grind arith
 
 sort_there : (v : Variable) (sort : Sort) (n : SymbolTable) → HasPlace v n → sort_of v (with_sort v sort n) ≡ Some sort
-sort_there (variables.Free k) sort n within = given_there n.free_sorts k sort within
-sort_there (variables.Bound k) sort n within = given_there n.bound_sorts k sort within
+sort_there v sort n within = grind (arith, given_there)
 
 pub occurs_sort : (v : Variable) (at : ℕ) (sort : Sort) (n : SymbolTable) → HasPlace v n
     → (require_sort v at sort n).clash ≡ None → sort_of v (require_sort v at sort n) ≡ Some sort
-occurs_sort v at sort n within e = by_given (sort_of v n) refl e
-  where
-    by_given : (given : Option Sort) → sort_of v n ≡ given → (occurred given v at sort n).clash ≡ None
-        → sort_of v (occurred given v at sort n) ≡ Some sort
-    by_given None is f = sort_there v sort n within
-    by_given (Some before) is f =
-        (agreed_grows before at sort n).sorts v sort (is ∙ ap (λ (s : Sort). Some s) (agreed_sort before at sort n f))
+occurs_sort v at sort n within e = grind (arith, sort_there, agreed_grows, agreed_sort)

@@ -1,7 +1,6 @@
 -- The rules that operators make, and those of their operands.
 use Rattle.std.proofs.Common.{suc, ◌≤◌, arith}
 use Rattle.mfotl_parse.specs.declared.class.Operator.{Operator}
-use Rattle.mfotl_parse.specs.declared.class.Operator.TheVariants.{Equiv}
 use Rattle.mfotl_parse.specs.Grammar.{left_precedence, precedence, right_precedence}
 
 -- how the rule of an operator and those of its operands lie
@@ -18,5 +17,4 @@ pub record Levels (o : Operator) : Type 0 where
   pub above_implies : 3 ≤ right_precedence o → 3 ≤ precedence o
 
 pub levels : (o : Operator) → Levels o
-levels Equiv = search arith
-levels o = search arith
+levels o = grind arith

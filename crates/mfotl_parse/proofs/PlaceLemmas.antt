@@ -1,60 +1,23 @@
 -- The place of a name in a list that grows at its end, and the sorts at places.
-use Rattle.std.proofs.Common.{◌≡◌, ℕ, zero, suc, ◌+◌, ◌<◌, ◌≤◌, Bool, true, false, cond, ltb, List, [], ◌∷◌, ◌++◌}
-use Rattle.std.proofs.Common.{length, Option, Some, None, inl, inr, refl, sym, ap, ◌∙◌, arith}
+use Rattle.std.proofs.Common.{◌≡◌, ℕ, zero, suc, ◌<◌, ◌≤◌, Bool, true, false, cond, List, [], ◌∷◌, ◌++◌, length}
+use Rattle.std.proofs.Common.{Option, Some, None, refl, sym, ap, ◌∙◌, arith}
 use Rattle.std.proofs.Math.Dec.{eqb-suc-zero, eqb-zero-suc, eqb-suc-suc}
-use Rattle.std.proofs.lemmas.Bool.{cases_lt, lt-ltb, le-ltb}
-use Rattle.std.proofs.lemmas.List.Quantifiers.{position-Some}
-use Rattle.std.proofs.lemmas.Option.{slice_get_past}
-use Rattle.std.proofs.lemmas.Slice.Eq.{bytes_eq-Decides}
-use Rattle.std.specs.List.{position, prefix_len}
-use Rattle.std.specs.Option.{option_map}
-use Rattle.std.specs.Prelude.{not, nat_eq, get_or, slice_get, slice_set}
-use Rattle.std.specs.Str.{bytes_eq}
+use Rattle.std.proofs.{lemmas.List.Quantifiers.position-Some, lemmas.Option.slice_get_past}
+use Rattle.std.proofs.{lemmas.Slice.Eq.bytes_eq-Decides, lemmas.Grind.common_steps}
+use Rattle.std.specs.{List.position, Option.option_map, Str.bytes_eq}
+use Rattle.std.specs.Prelude.{nat_eq, get_or, slice_get, slice_set}
 use Rattle.mfotl_model.specs.declared.policy.Sort.{Sort}
 use Rattle.mfotl_parse.specs.SymbolTable.{given_at}
 
 -- ---- the first that passes
 
-ltb_suc : (r n : ℕ) → ltb (suc r) (suc n) ≡ ltb r n
-ltb_suc r n =
-    elim (cases_lt r n) [
-      | inl below ↦ lt-ltb (suc r) (suc n) (omega (arith, below)) ∙ sym (lt-ltb r n below)
-      | inr above ↦ le-ltb (suc r) (suc n) (omega (arith, above)) ∙ sym (le-ltb r n above)
-    ]
-
 position_cons : {X : Type 0} (p : X → Bool) (x : X) (xs : List X) → position p (x ∷ xs)
     ≡ cond (p x) (Some 0) (option_map suc (position p xs))
-position_cons p x xs = by_test (prefix_len (λ y. not (p y)) xs) (length xs) (p x)
-  where
-    inner : (r : ℕ) (b : Bool) → cond b (Some (suc r)) None ≡ option_map suc (cond b (Some r) None)
-    inner r true = refl
-    inner r false = refl
-
-    by_test : (r n : ℕ) (b : Bool) → cond (ltb (cond (not b) (1 + r) 0) (suc n)) (Some (cond (not b) (1 + r) 0)) None
-        ≡ cond b (Some 0) (option_map suc (cond (ltb r n) (Some r) None))
-    by_test r n true = ap (λ (c : Bool). cond c (Some 0) None) (lt-ltb 0 (suc n) (omega arith))
-    by_test r n false =
-        let one_more : 1 + r ≡ suc r = omega arith in
-        ap (λ (m : ℕ). cond (ltb m (suc n)) (Some m) None) one_more
-        ∙ ap (λ (c : Bool). cond c (Some (suc r)) None) (ltb_suc r n) ∙ inner r (ltb r n)
+position_cons p x xs = grind arith
 
 pub stays_found : {X : Type 0} (p : X → Bool) (xs : List X) (x : X) (k : ℕ) → position p xs ≡ Some k
     → position p (xs ++ x ∷ []) ≡ Some k
-stays_found p [] x k e = absurd cc
-stays_found p (y ∷ xs) x k e =
-    position_cons p y (xs ++ x ∷ [])
-    ∙ by_test (λ j is. stays_found p xs x j is) (p y) (sym (position_cons p y xs) ∙ e)
-  where
-    by_rest : ((j : ℕ) → position p xs ≡ Some j → position p (xs ++ x ∷ []) ≡ Some j) → (o : Option ℕ)
-        → position p xs ≡ o → option_map suc o ≡ Some k → option_map suc (position p (xs ++ x ∷ [])) ≡ Some k
-    by_rest later None is f = absurd cc
-    by_rest later (Some j) is f = ap (option_map suc) (later j is) ∙ f
-
-    by_test : ((j : ℕ) → position p xs ≡ Some j → position p (xs ++ x ∷ []) ≡ Some j) → (b : Bool)
-        → cond b (Some 0) (option_map suc (position p xs)) ≡ Some k
-        → cond b (Some 0) (option_map suc (position p (xs ++ x ∷ []))) ≡ Some k
-    by_test later true f = f
-    by_test later false f = by_rest later (position p xs) refl f
+stays_found p xs x k e = grind (arith, common_steps, position_cons)
 
 pub found_last : {X : Type 0} (p : X → Bool) (xs : List X) (x : X) → position p xs ≡ None
     → position p (xs ++ x ∷ []) ≡ cond (p x) (Some (length xs)) None
@@ -117,16 +80,13 @@ pub sort_more : (xs : List (Option Sort)) (s : Sort) (k : ℕ) → given_at (sli
 sort_more [] s zero = refl
 sort_more [] s (suc k) = ap (λ (b : Bool). cond b (Some s) None) (sym (eqb-suc-zero k))
 sort_more (x ∷ xs) s zero = ap (λ (b : Bool). cond b (Some s) x) (sym (eqb-zero-suc (length xs)))
-sort_more (x ∷ xs) s (suc k) =
-    sort_more xs s k
-    ∙ ap (λ (b : Bool). cond b (Some s) (given_at (slice_get xs k))) (sym (eqb-suc-suc k (length xs)))
+sort_more (x ∷ xs) s (suc k) = cc (sort_more xs s k, eqb-suc-suc k (length xs))
 
 pub sort_set : (xs : List (Option Sort)) (k : ℕ) (s : Sort) (j : ℕ) → k < length xs
     → given_at (slice_get (slice_set xs k (Some s)) j) ≡ cond (nat_eq j k) (Some s) (given_at (slice_get xs j))
 sort_set [] k s j within = absurd (omega (arith, within))
 sort_set (x ∷ xs) zero s zero within = refl
-sort_set (x ∷ xs) zero s (suc j) within =
-    ap (λ (b : Bool). cond b (Some s) (given_at (slice_get xs j))) (sym (eqb-suc-zero j))
+sort_set (x ∷ xs) zero s (suc j) within = cc (eqb-suc-zero j)
 sort_set (x ∷ xs) (suc k) s zero within = ap (λ (b : Bool). cond b (Some s) x) (sym (eqb-zero-suc k))
 sort_set (x ∷ xs) (suc k) s (suc j) within =
     sort_set xs k s j (omega (arith, within))

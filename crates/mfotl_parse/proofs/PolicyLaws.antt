@@ -1,71 +1,48 @@
 -- The laws of `specs/GrammarLaws.antt`.
-use Rattle.std.proofs.Common.{◌≡◌, ◌≢◌, ℕ, ◌+◌, ◌≤◌, true, false, Bool, List, [], ◌∷◌, ◌++◌, length, Option, Some, None}
-use Rattle.std.proofs.Common.{Result, Ok, Err, IfOk, IfErr, refl, ap, sym, ◌∙◌, inl, inr, arith}
+use Rattle.std.proofs.Common.{◌≡◌, ◌≢◌, ℕ, ◌+◌, ◌≤◌, true, List, [], ◌∷◌, ◌++◌, length, Option, None, Result, Ok, Err}
+use Rattle.std.proofs.Common.{IfOk, IfErr, refl, ap, sym, ◌∙◌, inl, inr, arith}
 use Rattle.std.proofs.lemmas.Option.{slice_get_cases, slice_get_past}
 use Rattle.std.specs.Prelude.{slice_get}
-use Rattle.mfotl_lex.specs.declared.fault.LexFault.{LexFault}
-use Rattle.mfotl_lex.specs.declared.kind.Mode.TheVariants.{Plain}
+use Rattle.mfotl_lex.specs.declared.{fault.LexFault.LexFault, kind.Mode.TheVariants.Plain}
 use Rattle.mfotl_lex.specs.FirstFault as layer
 use Rattle.mfotl_lex.specs.FirstFault.{◌>>=◌, End, More, run}
-use Rattle.mfotl_lex.specs.Lexemes.{Lexeme, tokens}
-use Rattle.mfotl_lex.specs.Places.{beginning}
-use Rattle.mfotl_lex.specs.Texts.{tail_of}
+use Rattle.mfotl_lex.specs.{Lexemes.Lexeme, Lexemes.tokens, Places.beginning, Texts.tail_of}
 use Rattle.mfotl_lex.proofs.FirstFaultLaws as firsts
 use Rattle.mfotl_lex.proofs.FirstFaultLaws.{bind_ok}
 use Rattle.mfotl_lex.proofs.TextLaws as texts
 use Rattle.mfotl_model.specs.declared.policy.Policy.{Policy}
-use Rattle.mfotl_model.specs.Formulas.{Form}
 use Rattle.mfotl_sig.specs.Preds.{PredOf}
-use Rattle.mfotl_parse.specs.declared.fault.PolicyFault.{PolicyFault}
+use Rattle.mfotl_parse.specs.declared.{fault.PolicyFault.PolicyFault, term.Pair.Pair}
 use Rattle.mfotl_parse.specs.declared.fault.PolicyFault.TheVariants.{Lex, Syntax, Memory}
-use Rattle.mfotl_parse.specs.declared.term.Pair.{Pair}
-use Rattle.mfotl_parse.specs.Causes.{IsCause, IsLast}
+use Rattle.mfotl_parse.specs.{Causes.IsCause, Causes.IsLast, Limits.max_free, Occurrences.free_variables}
+use Rattle.mfotl_parse.specs.{SymbolTable.uneven_pair, Viability.FirstFaults, Viability.is_whole}
+use Rattle.mfotl_parse.specs.{Views.policy_of as policy_seen, Views.Gives}
 use Rattle.mfotl_parse.specs.Grammar.{Tree, Fits, spelling, BeginsFormula}
 use Rattle.mfotl_parse.specs.GrammarLaws.{SpelledIsRead, ReadIsSpelled, OneAnswer, SyntaxExactly, AreRead, IsSilent}
 use Rattle.mfotl_parse.specs.GrammarLaws.{SilentAreRead, ExactSoundness, IsShown, EachFaultIsShown, ExactSyntax}
 use Rattle.mfotl_parse.specs.GrammarLaws.{ExactLex, StaysShown}
-use Rattle.mfotl_parse.specs.Limits.{max_free}
 use Rattle.mfotl_parse.specs.Meanings.{no_scope, all_names, value, node_count, KeepsRules, IsValue, policy_of}
-use Rattle.mfotl_parse.specs.Reading.{PolicyOf, step, sorted, checked_at_end, closed_at_end, ended_at, is_closed}
-use Rattle.mfotl_parse.specs.Reading.{at_tail, text_of, reading_on, reading}
-use Rattle.mfotl_parse.specs.Occurrences.{free_variables}
-use Rattle.mfotl_parse.specs.Reduction.{reduce}
-use Rattle.mfotl_parse.specs.States.{no_names, depth, Stage, Context, SymbolTable, Partial, AfterOperand, nothing_read}
-use Rattle.mfotl_parse.specs.SymbolTable.{uneven_pair}
-use Rattle.mfotl_parse.specs.Viability.{FirstFaults, is_whole}
-use Rattle.mfotl_parse.specs.Views.{policy_of as policy_seen, Gives}
-use Rattle.mfotl_parse.proofs.CauseLaw.{follows}
-use Rattle.mfotl_parse.proofs.FreeNames.{all_free, few_met}
-use Rattle.mfotl_parse.proofs.MentionClashes.{table_even, text_even}
-use Rattle.mfotl_parse.proofs.LimitLemmas.{few_value}
+use Rattle.mfotl_parse.specs.Reading.{PolicyOf, step, sorted, checked_at_end, ended_at, at_tail, text_of, reading_on}
+use Rattle.mfotl_parse.specs.Reading.{reading}
+use Rattle.mfotl_parse.specs.States.{no_names, depth, Stage, Context, Partial, AfterOperand, nothing_read}
+use Rattle.mfotl_parse.proofs.{CauseLaw.follows, FreeNames.all_free, FreeNames.few_met, MentionClashes.table_even}
+use Rattle.mfotl_parse.proofs.{MentionClashes.text_even, LimitLemmas.few_value, SpelledMoves.at_place}
+use Rattle.mfotl_parse.proofs.{TracedMoves.trace, TracedTrees.shows_whole, ViabilityLemmas.completes}
 use Rattle.mfotl_parse.proofs.ReadMoves.{moves_read, accepts_moves, read_silent, silent_read, goes_on_moves}
 use Rattle.mfotl_parse.proofs.ReadMoves.{goes_on_front}
-use Rattle.mfotl_parse.proofs.SpelledMoves.{at_place}
-use Rattle.mfotl_parse.proofs.TracedMoves.{trace}
-use Rattle.mfotl_parse.proofs.TracedTrees.{shows_whole}
-use Rattle.mfotl_parse.proofs.ViabilityLemmas.{completes}
 use Rattle.mfotl_parse.proofs.WholeTrees.{whole, viable, begins, read_viable, whole_formula, rules_kept, finished_by}
 
 -- ---- what is read, and what is spelled
 
--- a policy is read only behind a whole formula, and where the text ends
-shut_reads : (n : SymbolTable) (f : Form) (closed : Bool) (end : ℕ) (policy : PolicyOf)
-    → closed_at_end n f closed end ≡ Ok policy → closed ≡ true
-shut_reads n f true end policy e = refl
-shut_reads n f false end policy e = absurd cc
-
 whole_reads : (now : Stage) (c : Context) (end : ℕ) (policy : PolicyOf) → ended_at now c end ≡ Ok policy
     → is_whole now c.stack ≡ true
 unfolding ended_at
-whole_reads (AfterOperand f) c end policy e =
-    shut_reads c.names (reduce 0 f c.stack).form (is_closed (reduce 0 f c.stack).stack) end policy e
-whole_reads _ c end policy e = absurd cc
+whole_reads now c end policy e = grind arith
 
 ends : (end : ℕ) (lexical : Option LexFault) (p : Partial) (policy : PolicyOf)
     → at_tail (tail_of true end lexical) p ≡ Ok policy
     → (tail_of true end lexical ≡ End end) × (ended_at p.now p.context end ≡ Ok policy)
-ends end None p policy e = (refl, e)
-ends end (Some fault) p policy e = absurd cc
+ends end lexical p policy e = grind arith
 
 record Unrefused (clash : Option ℕ) (uneven : Option Pair) (ninth : Option (List ℕ × ℕ))
     (policy other : PolicyOf) : Type 0 where
@@ -76,8 +53,7 @@ record Unrefused (clash : Option ℕ) (uneven : Option Pair) (ninth : Option (Li
 
 unrefused : (clash : Option ℕ) (uneven : Option Pair) (ninth : Option (List ℕ × ℕ)) (policy other : PolicyOf)
     → sorted clash uneven ninth policy ≡ Ok other → Unrefused clash uneven ninth policy other
-unrefused None None None policy other e = record { unclashed = refl; even = refl; few = refl; same = cc }
-unrefused _ _ _ policy other e = absurd cc
+unrefused clash uneven ninth policy other e = grind arith
 
 at_most : (free : List (List ℕ × ℕ)) → slice_get free max_free ≡ None → length free ≤ max_free
 at_most free e = elim ((slice_get_cases free max_free).1) [ inl some ↦ absurd (cc (some.2, e)) | inr past ↦ past.0 ]
@@ -122,13 +98,7 @@ read_is_spelled sig bytes policy e =
 
 module _ (sig : List PredOf) (tree : Tree) (rules : KeepsRules sig tree) where
   finishes : checked_at_end (all_names sig tree) (value sig tree no_scope no_names) ≡ Ok (policy_of sig tree)
-  finishes =
-      let names = all_names sig tree in
-      let policy = policy_of sig tree in
-      let even = table_even sig tree rules.even in
-      ap (λ c. sorted c (uneven_pair names) (slice_get names.free max_free) policy) even.0
-      ∙ ap (λ c. sorted None c (slice_get names.free max_free) policy) even.1
-      ∙ ap (λ c. sorted None None c policy) (slice_get_past names.free max_free (few_met sig tree rules.few_free))
+  finishes = grind (arith, table_even, slice_get_past, few_met)
 
 pub spelled_is_read : SpelledIsRead
 unfolding reading reading_on layer.reading
@@ -166,11 +136,7 @@ pub exact_syntax : ExactSyntax
 exact_syntax bytes sig at = each_fault_is_shown bytes sig (Syntax at)
 
 pub exact_lex : ExactLex
-exact_lex bytes sig fault =
-    let each = each_fault_is_shown bytes sig (Lex fault) in (
-      λ e. elim (each.0 e) [ inl token ↦ absurd token.cause | inr tail ↦ tail ],
-      λ tail. each.1 (inr tail),
-    )
+exact_lex bytes sig fault = grind (arith, each_fault_is_shown bytes sig (Lex fault))
 
 none_shown : (p : Partial) (fault : PolicyFault) → at_tail More p ≡ Err fault → ⊥
 none_shown p fault e = cc
@@ -195,9 +161,7 @@ syntax_exactly = record {
 
 module _ (sig : List PredOf) (ts : List Lexeme) where
   are_read : IsSilent sig ts → AreRead sig ts
-  are_read s =
-      silent_read sig ts s.more s.later nothing_read
-      (sym (ap (λ us. trace sig us nothing_read) s.spelled) ∙ shows_whole sig s.tree s.fits ∙ s.shown)
+  are_read s = grind (arith, silent_read, trace, shows_whole sig s.tree s.fits)
 
   are_silent : AreRead sig ts → IsSilent sig ts
   are_silent (p, ran) =
@@ -246,16 +210,12 @@ first_faults = record {
 module _ (bytes : List ℕ) (sig : List PredOf) where
   pub value_given : (result : Result Policy PolicyFault) → Gives policy_seen result (reading bytes sig)
       → IfOk result (λ policy. IsValue bytes sig (policy_seen policy))
-  value_given (Ok policy) given = read_is_spelled sig bytes (policy_seen policy) given
-  value_given (Err fault) given = tt
+  value_given result given = grind (arith, read_is_spelled)
 
   pub shown_given : (result : Result Policy PolicyFault) → Gives policy_seen result (reading bytes sig)
       → IfErr result (λ fault. fault ≢ Memory → IsShown bytes sig fault)
-  shown_given (Ok policy) given = tt
-  shown_given (Err Memory) given = λ other. absurd (other refl)
-  shown_given (Err fault) given = λ _. (each_fault_is_shown bytes sig fault).0 given
+  shown_given result given = grind (arith, each_fault_is_shown)
 
   pub few_given : (result : Result Policy PolicyFault) → Gives policy_seen result (reading bytes sig)
       → IfOk result (λ policy. length policy.vars ≤ max_free)
-  few_given (Ok policy) given = few_value sig bytes (policy_seen policy) (value_given (Ok policy) given)
-  few_given (Err fault) given = tt
+  few_given result given = grind (arith, few_value, value_given)

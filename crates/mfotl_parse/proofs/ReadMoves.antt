@@ -1,14 +1,12 @@
 -- Tokens are read exactly where the grammar goes on with each of them and all rules on the way are kept.
 use Rattle.std.proofs.Common.{◌≡◌, Bool, true, false, cond, ℕ, List, [], ◌∷◌, ◌++◌, Option, Some, None, Ok, Err, refl}
-use Rattle.std.proofs.Common.{ap, ◌∙◌}
-use Rattle.mfotl_lex.specs.FirstFault.{run}
-use Rattle.mfotl_lex.specs.Lexemes.{Lexeme}
+use Rattle.std.proofs.Common.{ap, ◌∙◌, arith}
+use Rattle.mfotl_lex.specs.{FirstFault.run, Lexemes.Lexeme}
 use Rattle.mfotl_lex.proofs.FirstFaultLaws.{bind_ok, run_none, run_token}
 use Rattle.mfotl_sig.specs.Preds.{PredOf}
 use Rattle.mfotl_parse.specs.declared.fault.PolicyFault.{PolicyFault}
-use Rattle.mfotl_parse.specs.Reading.{transition, step}
+use Rattle.mfotl_parse.specs.{Reading.transition, Reading.step, States.Partial}
 use Rattle.mfotl_parse.specs.Shows.{Showing, silent, if_broken}
-use Rattle.mfotl_parse.specs.States.{Partial}
 use Rattle.mfotl_parse.specs.Transitions.{Limit, Rule, Transition, goes, fault_of, kept, given}
 use Rattle.mfotl_parse.specs.Viability.{if_moved, accepts, goes_through}
 use Rattle.mfotl_parse.proofs.SpelledMoves.{moves, moves_nothing, moves_first, moves_cons, AreKept, kept_both}
@@ -19,45 +17,26 @@ use Rattle.mfotl_parse.proofs.TracedMoves.{broken, traced, trace, trace_move, tr
 
 pub kept_goes : (rules : List Rule) (p : Partial) → AreKept rules → kept rules p ≡ Ok p
 kept_goes [] p k = refl
-kept_goes (rule ∷ rules) p k =
-    ap (λ b. cond b (Err (fault_of rule.limit rule.at)) (kept rules p)) k.0 ∙ kept_goes rules p k.1
+kept_goes (rule ∷ rules) p k = cc (kept_goes rules p k.1)
 
 kept_ok : (rules : List Rule) (p q : Partial) → kept rules p ≡ Ok q → AreKept rules × (p ≡ q)
 kept_ok [] p q e = (tt, cc)
-kept_ok (rule ∷ rules) p q e = by_broken rule.broken refl (kept_ok rules p q) e
-  where
-    by_broken : (b : Bool) → rule.broken ≡ b → (kept rules p ≡ Ok q → AreKept rules × (p ≡ q))
-        → cond b (Err (fault_of rule.limit rule.at)) (kept rules p) ≡ Ok q
-        → ((rule.broken ≡ false) × AreKept rules) × (p ≡ q)
-    by_broken true is later f = absurd cc
-    by_broken false is later f = let k = later f in ((is, k.0), k.1)
+kept_ok (rule ∷ rules) p q e = grind (arith, kept_ok rules p q)
 
 -- rules that are kept show nothing
 none_broken : (rules : List Rule) → AreKept rules → broken rules ≡ []
 none_broken [] k = refl
-none_broken (rule ∷ rules) k =
-    ap (λ b. if_broken b (fault_of rule.limit rule.at) (broken rules)) k.0 ∙ none_broken rules k.1
+none_broken (rule ∷ rules) k = search (broken, none_broken rules k.1)
 
 all_kept : (rules : List Rule) → broken rules ≡ [] → AreKept rules
 all_kept [] e = tt
-all_kept (rule ∷ rules) e = by_broken rule.broken refl (all_kept rules) e
-  where
-    by_broken : (b : Bool) → rule.broken ≡ b → (broken rules ≡ [] → AreKept rules)
-        → if_broken b (fault_of rule.limit rule.at) (broken rules) ≡ [] → (rule.broken ≡ false) × AreKept rules
-    by_broken true is later f = absurd cc
-    by_broken false is later f = (is, later f)
+all_kept (rule ∷ rules) e = grind (arith, broken, all_kept rules)
 
 -- the first that is broken
 pub kept_broken : (rules : List Rule) (next : Partial) (fault : PolicyFault) (others : List PolicyFault)
     → broken rules ≡ fault ∷ others → kept rules next ≡ Err fault
 kept_broken [] next fault others e = absurd cc
-kept_broken (rule ∷ rules) next fault others e = by_broken rule.broken (kept_broken rules next fault others) e
-  where
-    by_broken : (b : Bool) → (broken rules ≡ fault ∷ others → kept rules next ≡ Err fault)
-        → if_broken b (fault_of rule.limit rule.at) (broken rules) ≡ fault ∷ others
-        → cond b (Err (fault_of rule.limit rule.at)) (kept rules next) ≡ Err fault
-    by_broken true later f = let one : fault_of rule.limit rule.at ≡ fault = cc in ap (λ x. Err x) one
-    by_broken false later f = later f
+kept_broken (rule ∷ rules) next fault others e = grind (arith, broken, kept_broken rules next fault others)
 
 -- a rule's fault is shown in front of others
 pub record BrokenFirst (rules : List Rule) (fault : PolicyFault) : Type 0 where
@@ -102,12 +81,7 @@ module _ (sig : List PredOf) where
   step_moves : (p q : Partial) (t : Lexeme) → step sig p t ≡ Ok q
       → (rules : List Rule) × (transition sig p t ≡ goes rules q) × AreKept rules
   unfolding step
-  step_moves p q t e = by_move (transition sig p t) e
-    where
-      by_move : (o : Option Transition) → given t.at o ≡ Ok q
-          → (rules : List Rule) × (o ≡ goes rules q) × AreKept rules
-      by_move None f = absurd cc
-      by_move (Some m) f = let k = kept_ok m.rules m.next q f in (m.rules, ap (goes m.rules) k.1, k.0)
+  step_moves p q t e = grind (arith, kept_ok)
 
   -- ---- tokens
 
@@ -168,10 +142,7 @@ module _ (sig : List PredOf) where
   -- tokens that are read show nothing, and those behind them what they show there
   pub read_silent : (ts more : List Lexeme) (p q : Partial) → run (step sig) ts p ≡ Ok q
       → trace sig (ts ++ more) p ≡ silent ts ++ trace sig more q
-  read_silent ts more p q e =
-      let m = read_moves ts p q e in
-      trace_both sig ts more p q m.0 m.1
-      ∙ ap (λ (x : Showing). x ++ trace sig more q) (shows_silent ts p q m.0 m.1 m.2)
+  read_silent ts more p q e = grind (arith, read_moves, trace_both, trace, shows_silent)
 
   silent_one : (t : Lexeme) (ts more : List Lexeme) (later : Showing) (p : Partial) (o : Option Transition)
       → transition sig p t ≡ o

@@ -1,26 +1,17 @@
 -- Each occurrence in a policy that was read has the sort of its variable.
-use Rattle.std.proofs.Common.{◌≡◌, ℕ, zero, suc, ◌+◌, ◌-◌, ◌<◌, ◌≤◌, Bool, true, false, cond, not, List, [], ◌∷◌, ◌++◌}
-use Rattle.std.proofs.Common.{length, Option, Some, None, refl, sym, ap, ◌∙◌, arith}
-use Rattle.std.proofs.lemmas.Bool.{lt-ltb, le-ltb}
+use Rattle.std.proofs.Common.{◌≡◌, ℕ, zero, suc, ◌-◌, ◌<◌, ◌≤◌, Bool, true, false, cond, not, List, [], ◌∷◌, ◌++◌}
+use Rattle.std.proofs.Common.{length, Option, Some, None, sym, ◌∙◌, arith}
 use Rattle.std.proofs.lemmas.List.{append_assoc}
 use Rattle.std.specs.Prelude.{slice_get, find, nat_lt, Contains}
-use Rattle.mfotl_model.specs.declared.interval.Interval.{Interval}
-use Rattle.mfotl_model.specs.declared.policy.Sort.{Sort}
+use Rattle.mfotl_model.specs.declared.{interval.Interval.Interval, policy.Sort.Sort}
 use Rattle.mfotl_model.specs.declared.policy.Sort.TheVariants as sorts
 use Rattle.mfotl_model.specs.Formulas.{Form}
 use Rattle.mfotl_sig.specs.Preds.{PredOf, named}
-use Rattle.mfotl_parse.specs.declared.class.Operator.{Operator}
-use Rattle.mfotl_parse.specs.declared.class.Operator.TheVariants as operators
-use Rattle.mfotl_parse.specs.declared.class.Quantifier.{Quantifier}
-use Rattle.mfotl_parse.specs.declared.class.Quantifier.TheVariants as quantifiers
-use Rattle.mfotl_parse.specs.declared.class.Temporal.{Temporal}
-use Rattle.mfotl_parse.specs.declared.class.Temporal.TheVariants as temporals
-use Rattle.mfotl_parse.specs.declared.term.Operand.{Operand}
+use Rattle.mfotl_parse.specs.declared.{class.Operator.Operator, class.Quantifier.Quantifier, class.Temporal.Temporal}
+use Rattle.mfotl_parse.specs.declared.{term.Operand.Operand, term.Variable.Variable}
 use Rattle.mfotl_parse.specs.declared.term.Operand.TheVariants as operands
-use Rattle.mfotl_parse.specs.declared.term.Pair.{Pair}
-use Rattle.mfotl_parse.specs.declared.term.Variable.{Variable}
 use Rattle.mfotl_parse.specs.declared.term.Variable.TheVariants as variables
-use Rattle.mfotl_parse.specs.Arguments.{call_of, blanks}
+use Rattle.mfotl_parse.specs.{Arguments.call_of, Arguments.blanks, Operands.truth, States.SymbolTable, Limits.max_free}
 use Rattle.mfotl_parse.specs.Grammar.{WrittenTerm, Named, Number, Quoted, WrittenArgument, Given, Hidden}
 use Rattle.mfotl_parse.specs.Grammar.{WrittenArguments, LastArgument, MoreArguments, WrittenVariables, LastVariable}
 use Rattle.mfotl_parse.specs.Grammar.{MoreVariables, Tree, Truth, BareAtom, AtomOf, Comparison, Enclosed, Denied, Timed}
@@ -30,13 +21,9 @@ use Rattle.mfotl_parse.specs.Meanings.{arguments_terms, arguments_names, argumen
 use Rattle.mfotl_parse.specs.Meanings.{variables_scope, quantify, interval_of, names_behind, value, HasArity, PartsKeep}
 use Rattle.mfotl_parse.specs.Occurrences.{name_of, place_of_variable, place_of}
 use Rattle.mfotl_parse.specs.SymbolTable.{number_of, bound_or_free, bound_more, given_at, sort_of, require_sort}
-use Rattle.mfotl_parse.specs.SymbolTable.{constrain_term, with_comparison, term_of, differ, uneven_pair}
-use Rattle.mfotl_parse.specs.Operands.{truth}
+use Rattle.mfotl_parse.specs.SymbolTable.{constrain_term, with_comparison, term_of, uneven_pair}
 use Rattle.mfotl_parse.specs.Reduction.{momentary, operator_form, quantified}
-use Rattle.mfotl_parse.specs.States.{SymbolTable}
-use Rattle.mfotl_parse.specs.WellSorted.{Sorting, sort_of_constant, same_sort, HasSort, HaveSorts, SidesAgree}
-use Rattle.mfotl_parse.specs.WellSorted.{FitsSorts}
-use Rattle.mfotl_parse.specs.Limits.{max_free}
+use Rattle.mfotl_parse.specs.WellSorted.{Sorting, same_sort, HasSort, HaveSorts, SidesAgree, FitsSorts}
 use Rattle.mfotl_parse.proofs.NamesOrder.{Grows, grows_then, given_last, placed_grows, compared_grows, term_grows}
 use Rattle.mfotl_parse.proofs.NamesOrder.{argument_grows, arguments_grow, variables_grow, tree_grows, HasPlace, Inside}
 use Rattle.mfotl_parse.proofs.NamesOrder.{inside_grows, inside_all, resolved_place, agreed_sort, occurs_sort}
@@ -52,14 +39,7 @@ IsLow (variables.Free k) = k < max_free
 IsLow (variables.Bound k) = Unit {0}
 
 pub given_is : (n : SymbolTable) (v : Variable) → IsLow v → given_by n (number_of v) ≡ sort_of v n
-given_is n (variables.Free k) low =
-    ap (λ (b : Bool). cond b (given_at (slice_get n.free_sorts k))
-    (given_at (slice_get n.bound_sorts (k - max_free)))) (lt-ltb k max_free low)
-given_is n (variables.Bound k) low =
-    let same : max_free + k - max_free ≡ k = omega arith in
-    ap (λ (b : Bool). cond b (given_at (slice_get n.free_sorts (max_free + k)))
-    (given_at (slice_get n.bound_sorts (max_free + k - max_free)))) (le-ltb (max_free + k) max_free (omega arith))
-    ∙ ap (λ (j : ℕ). given_at (slice_get n.bound_sorts j)) same
+given_is n v low = grind arith
 
 -- ---- lists
 
@@ -74,11 +54,7 @@ found_known {X = X} p (y ∷ ys) x e = by_test (p y) (λ f. found_known p ys x f
 
 none_passes : {X : Type 0} (p : X → Bool) (xs : List X) (y : X) (ys : List X) → find p (xs ++ y ∷ ys) ≡ None → p y
     ≡ false
-none_passes p [] y ys e = by_test (p y) e
-  where
-    by_test : (b : Bool) → cond b (Some y) (find p ys) ≡ None → b ≡ false
-    by_test true f = absurd cc
-    by_test false f = refl
+none_passes p [] y ys e = grind arith
 none_passes p (x ∷ xs) y ys e = by_test (p x) (λ f. none_passes p xs y ys f) e
   where
     by_test : (b : Bool) → (find p (xs ++ y ∷ ys) ≡ None → p y ≡ false) → cond b (Some x) (find p (xs ++ y ∷ ys))
@@ -87,10 +63,7 @@ none_passes p (x ∷ xs) y ys e = by_test (p x) (λ f. none_passes p xs y ys f) 
     by_test false later f = later f
 
 even_sorts : (s t : Sort) → not (same_sort s t) ≡ false → s ≡ t
-even_sorts sorts.Int sorts.Int e = refl
-even_sorts sorts.Int sorts.Text e = absurd cc
-even_sorts sorts.Text sorts.Int e = absurd cc
-even_sorts sorts.Text sorts.Text e = refl
+even_sorts s t e = grind arith
 
 module _ (sig : List PredOf) (last : SymbolTable) (clash : last.clash ≡ None) (even : uneven_pair last ≡ None)
     (few : length last.free ≤ max_free) where
@@ -98,8 +71,7 @@ module _ (sig : List PredOf) (last : SymbolTable) (clash : last.clash ≡ None) 
   Sized n = length n.free_sorts ≡ length n.free
 
   low : (v : Variable) (m : SymbolTable) → HasPlace v m → Sized m → Grows m last → IsLow v
-  low (variables.Free k) m within sized g = omega (arith, within, sized, g.free, few)
-  low (variables.Bound k) m within sized g = tt
+  low v m within sized g = grind arith
 
   -- an occurrence with a sort
   given_so : (v : Variable) (at : ℕ) (sort : Sort) (m : SymbolTable) → HasPlace v m → Sized m
@@ -131,10 +103,8 @@ module _ (sig : List PredOf) (last : SymbolTable) (clash : last.clash ≡ None) 
       → Grows (arguments_names xs places scope n) last → length places ≡ argument_count xs
       → HaveSorts (given_by last) (arguments_terms xs places scope n) places
   arguments_sorted (LastArgument a) [] scope n inside sized g count = absurd (omega (arith, count))
-  arguments_sorted (LastArgument a) (sort ∷ []) scope n inside sized g count =
-      (argument_sorted a sort scope n inside sized g, tt)
-  arguments_sorted (LastArgument a) (sort ∷ other ∷ places) scope n inside sized g count =
-      absurd (omega (arith, count))
+  arguments_sorted (LastArgument a) (sort ∷ []) scope n inside sized g count = search (argument_sorted)
+  arguments_sorted (LastArgument a) (sort ∷ other ∷ places) scope n inside sized g count = cc
   arguments_sorted (MoreArguments a comma rest) [] scope n inside sized g count = absurd (omega (arith, count))
   arguments_sorted (MoreArguments a comma rest) (sort ∷ places) scope n inside sized g count =
       let between = argument_names a sort scope n in
@@ -151,38 +121,19 @@ module _ (sig : List PredOf) (last : SymbolTable) (clash : last.clash ≡ None) 
   OperandPlace (operands.Variable v) m = HasPlace v m
   OperandPlace (operands.Constant c) m = Unit {0}
 
-  place_stays : (v : Variable) (n m : SymbolTable) → HasPlace v n → Sized n → Grows n m → HasPlace v m
-  place_stays (variables.Free k) n m within sized g = omega (arith, within, sized, g.sized sized, g.free)
-  place_stays (variables.Bound k) n m within sized g = omega (arith, within, g.bound)
-
   operand_stays : (o : Operand) (n m : SymbolTable) → OperandPlace o n → Sized n → Grows n m → OperandPlace o m
   unfolding OperandPlace
-  operand_stays (operands.Variable v) n m within sized g = place_stays v n m within sized g
-  operand_stays (operands.Constant c) n m within sized g = tt
+  operand_stays o n m within sized g = grind arith
 
   operand_place : (t : WrittenTerm) (scope : Scope) (n : SymbolTable) → Inside scope n → Sized n
       → OperandPlace (operand_of t scope n) (term_names t scope n)
   unfolding OperandPlace
-  operand_place (Named v) scope n inside sized =
-      resolved_place (name_of v) (place_of_variable v) n (scope (name_of v)) (inside (name_of v)) sized
-  operand_place (Number token z) scope n inside sized = tt
-  operand_place (Quoted token) scope n inside sized = tt
+  operand_place t scope n inside sized = grind (arith, resolved_place)
 
   pair_even : (v w : Variable) (at : ℕ) (m : SymbolTable) (left right : Sort)
       → Grows (with_comparison (operands.Variable v) at at (operands.Variable w) at m) last
       → sort_of v last ≡ Some left → sort_of w last ≡ Some right → left ≡ right
-  pair_even v w at m left right g e f =
-      let pair : Pair = record { at = at; left = v; right = w } in
-      let none : find (λ (p : Pair). differ (sort_of p.left last) (sort_of p.right last)) (m.pairs ++ pair ∷ g.more)
-      ≡ None =
-      ap (find (λ (p : Pair). differ (sort_of p.left last) (sort_of p.right last)))
-      (sym (append_assoc m.pairs (pair ∷ []) g.more) ∙ sym g.pairs) ∙ even in
-      let here : differ (sort_of v last) (sort_of w last)
-      ≡ false = none_passes
-      (λ (p : Pair). differ (sort_of p.left last) (sort_of p.right last)) m.pairs pair g.more none in
-      even_sorts left right
-      (sym (ap (λ (o : Option Sort). differ o (sort_of w last)) e
-      ∙ ap (λ (o : Option Sort). differ (Some left) o) f) ∙ here)
+  pair_even v w at m left right g e f = grind (arith, append_assoc, none_passes, even_sorts)
 
   sides_sorted : (l r : Operand) (left_at at right_at : ℕ) (m : SymbolTable) → OperandPlace l m → OperandPlace r m
       → Sized m
@@ -193,12 +144,9 @@ module _ (sig : List PredOf) (last : SymbolTable) (clash : last.clash ≡ None) 
       (compared_grows (operands.Variable v) left_at at (operands.Variable w) right_at m) g in
       λ left right e f. pair_even v w at m left right g (sym (given_is last v (low v m p sized all)) ∙ e)
       (sym (given_is last w (low w m q sized all)) ∙ f)
-  sides_sorted (operands.Variable v) (operands.Constant d) left_at at right_at m p q sized g =
-      given_so v left_at (sort_of_constant d) m p sized g
-  sides_sorted (operands.Constant c) (operands.Variable w) left_at at right_at m p q sized g =
-      given_so w right_at (sort_of_constant c) m q sized g
-  sides_sorted (operands.Constant c) (operands.Constant d) left_at at right_at m p q sized g =
-      agreed_sort (sort_of_constant c) at (sort_of_constant d) m (g.clash clash)
+  sides_sorted (operands.Variable v) (operands.Constant d) left_at at right_at m p q sized g = search (given_so)
+  sides_sorted (operands.Constant c) (operands.Variable w) left_at at right_at m p q sized g = search (given_so)
+  sides_sorted (operands.Constant c) (operands.Constant d) left_at at right_at m p q sized g = grind arith
 
   -- ---- formulas
 
@@ -209,33 +157,18 @@ module _ (sig : List PredOf) (last : SymbolTable) (clash : last.clash ≡ None) 
 
   bare_sorted : (found : Option PredOf) (name : List ℕ) (bound : ℕ) → named name sig ≡ found → HasArity found 0
       → FitsSorts sig (given_by last) (atom found [] bound bound)
-  bare_sorted None name bound is count = absurd count
-  bare_sorted (Some pred) name bound is count =
-      blanks_sorted (bound - bound) bound _
-      (record { pred = pred; known = found_known _ sig pred is; number = refl; sorted = none_due pred.sorts count })
-    where
-      none_due : (places : List Sort) → length places ≡ 0 → HaveSorts (given_by last) [] places
-      none_due [] e = tt
-      none_due (sort ∷ places) e = absurd (omega (arith, e))
+  bare_sorted found name bound is count = grind (arith, blanks_sorted, found_known)
 
   atom_sorted : (found : Option PredOf) (name : List ℕ) (xs : WrittenArguments) (outer inner : ℕ) (scope : Scope)
       (n : SymbolTable) → named name sig ≡ found → HasArity found (argument_count xs)
       → Inside scope n → Sized n → Grows (arguments_names xs (call_of found 0).rest scope n) last
       → FitsSorts sig (given_by last) (atom found (arguments_terms xs (call_of found 0).rest scope n) outer inner)
-  atom_sorted None name xs outer inner scope n is count inside sized g = absurd count
-  atom_sorted (Some pred) name xs outer inner scope n is count inside sized g =
-      blanks_sorted (inner - outer) outer _
-      (record {
-        pred = pred;
-        known = found_known _ sig pred is;
-        number = refl;
-        sorted = arguments_sorted xs pred.sorts scope n inside sized g count;
-      })
+  atom_sorted found name xs outer inner scope n is count inside sized g =
+      grind (arith, blanks_sorted, found_known, arguments_sorted)
 
   one_sorted : (q : Quantifier) (k : ℕ) (name : List ℕ) (f : Form) → FitsSorts sig (given_by last) f
       → FitsSorts sig (given_by last) (quantified q k name f)
-  one_sorted quantifiers.Exists k name f h = h
-  one_sorted quantifiers.Forall k name f h = h
+  one_sorted q k name f h = grind arith
 
   quantify_sorted : (q : Quantifier) (vs : WrittenVariables) (n : SymbolTable) (f : Form)
       → FitsSorts sig (given_by last) f → FitsSorts sig (given_by last) (quantify q vs n f)
@@ -245,26 +178,21 @@ module _ (sig : List PredOf) (last : SymbolTable) (clash : last.clash ≡ None) 
 
   moment_sorted : (o : Temporal) (i : Interval) (f : Form) → FitsSorts sig (given_by last) f
       → FitsSorts sig (given_by last) (momentary o i f)
-  moment_sorted temporals.Previous i f h = h
-  moment_sorted _ i f h = h
+  moment_sorted o i f h = grind arith
 
   joined_sorted : (o : Operator) (i : Interval) (f g : Form) → FitsSorts sig (given_by last) f
       → FitsSorts sig (given_by last) g → FitsSorts sig (given_by last) (operator_form o i f g)
-  joined_sorted operators.And i f g h k = (h, k)
-  joined_sorted _ i f g h k = (h, k)
+  joined_sorted o i f g h k = grind arith
 
   truth_sorted : (which : Bool) → FitsSorts sig (given_by last) (truth which)
-  truth_sorted true = tt
-  truth_sorted false = tt
+  truth_sorted which = grind arith
 
   pub tree_sorted : (tree : Tree) (scope : Scope) (n : SymbolTable) → Inside scope n → Sized n → PartsKeep sig tree
       → Grows (names_behind sig tree scope n) last
       → FitsSorts sig (given_by last) (value sig tree scope n)
   tree_sorted (Truth token which) scope n inside sized keeps g = truth_sorted which
-  tree_sorted (BareAtom name opening closing) scope n inside sized keeps g =
-      bare_sorted (named name.text sig) name.text (length n.bound_sorts) refl keeps
-  tree_sorted (AtomOf name opening arguments closing) scope n inside sized keeps g =
-      atom_sorted (named name.text sig) name.text arguments (length n.bound_sorts) _ scope n refl keeps inside sized g
+  tree_sorted (BareAtom name opening closing) scope n inside sized keeps g = grind (arith, bare_sorted)
+  tree_sorted (AtomOf name opening arguments closing) scope n inside sized keeps g = grind (arith, atom_sorted)
   tree_sorted (Comparison left token sign right) scope n inside sized keeps g =
       let first = term_names left scope n in
       let second = term_names right scope first in

@@ -1,34 +1,26 @@
 -- How a formula is read from its parts, whatever is open around it.
-use Rattle.std.proofs.Common.{◌≡◌, ℕ, ℤ, suc, ◌<◌, ◌≤◌, List, [], ◌∷◌, ◌++◌, Option, Some, None, refl, ap, sym, subst}
-use Rattle.std.proofs.Common.{◌∙◌, arith}
+use Rattle.std.proofs.Common.{◌≡◌, ℕ, ℤ, suc, ◌<◌, ◌≤◌, List, [], ◌∷◌, ◌++◌, Option, ap, sym, subst, ◌∙◌, arith}
 use Rattle.std.proofs.lemmas.List.{append_assoc}
 use Rattle.mfotl_lex.specs.Lexemes.{Lexeme}
 use Rattle.mfotl_model.specs.declared.interval.Interval.{Interval}
 use Rattle.mfotl_model.specs.declared.value.Value.TheVariants as values
 use Rattle.mfotl_model.specs.Formulas.{Form}
 use Rattle.mfotl_sig.specs.Preds.{PredOf}
-use Rattle.mfotl_parse.specs.declared.class.Class.{Class}
+use Rattle.mfotl_parse.specs.declared.{class.Class.Class, class.Operator.Operator, term.Side.Side}
 use Rattle.mfotl_parse.specs.declared.class.Class.TheVariants as classes
-use Rattle.mfotl_parse.specs.declared.class.Operator.{Operator}
 use Rattle.mfotl_parse.specs.declared.term.Operand.TheVariants as operands
-use Rattle.mfotl_parse.specs.Classes.{class_of}
-use Rattle.mfotl_parse.specs.Intervals.{any_distance}
+use Rattle.mfotl_parse.specs.{Classes.class_of, Intervals.any_distance, Operands.operand_move, Operands.fresh_move}
+use Rattle.mfotl_parse.specs.{Lookahead.maybe_move, Reading.transition, Limits.max_levels}
 use Rattle.mfotl_parse.specs.Transitions.{Rule, Transition, goes, first_keeps, within_depth, within_nodes}
-use Rattle.mfotl_parse.specs.Operands.{operand_move, fresh_move}
-use Rattle.mfotl_parse.specs.Comparisons.{compared_move, signed}
-use Rattle.mfotl_parse.specs.Lookahead.{maybe_move, maybe_number_move}
 use Rattle.mfotl_parse.specs.Operators.{joined_move, enclosed_move, around, deepening, now_behind}
-use Rattle.mfotl_parse.specs.Reading.{transition}
 use Rattle.mfotl_parse.specs.Reduction.{Reduced, reduce, hold, closed, operator_form}
 use Rattle.mfotl_parse.specs.States.{Frame, Parens, Left, depth, SymbolTable, Stage, Partial, ExpectOperand}
 use Rattle.mfotl_parse.specs.States.{AfterTemporal, AfterOperand, ExpectSign, AfterParen, AfterParenNumber}
-use Rattle.mfotl_parse.specs.Limits.{max_levels}
 use Rattle.mfotl_parse.specs.Grammar.{precedence, right_precedence, is_timed, deepens}
-use Rattle.mfotl_parse.specs.declared.term.Side.{Side}
 use Rattle.mfotl_parse.proofs.SpelledMoves.{at_place, context_at, behind_move, then_moves, moves, move_is, moves_one}
 use Rattle.mfotl_parse.proofs.SpelledMoves.{moves_both, AreKept, Exactly, kept_both, kept_front, kept_back, no_move}
 use Rattle.mfotl_parse.proofs.SpelledMoves.{same_next}
-use Rattle.mfotl_parse.proofs.StackLemmas.{reduce_loose, reduce_tight}
+use Rattle.mfotl_parse.proofs.StackLemmas.{reduce_tight}
 
 -- Tokens are read as an operand: they lead to an operand and frames that are, once all is closed that holds
 -- more tightly than a rule below the edge, this value on the base. `keeps` is what the rules on the way want.
@@ -49,8 +41,7 @@ IsLoose rule (frame ∷ stack) = hold frame ≤ rule
 pub reduce_here : (rule : ℕ) (f : Form) (stack : List Frame) → IsLoose rule stack → reduce rule f stack
     ≡ record { form = f; stack = stack }
 unfolding reduce
-reduce_here rule f [] loose = refl
-reduce_here rule f (frame ∷ stack) loose = reduce_loose rule frame stack loose f
+reduce_here rule f stack loose = grind arith
 
 module _ (sig : List PredOf) where
   -- tokens that are an operand by themselves
@@ -58,8 +49,7 @@ module _ (sig : List PredOf) where
       (names : SymbolTable) (keeps : Type 0) (rules : List Rule)
       → moves sig ts p ≡ goes rules (at_place (AfterOperand v) base nodes names)
       → Exactly (depth p.context.stack) keeps rules → Takes sig p ts base edge v nodes names keeps
-  takes_whole p ts base edge v nodes names keeps rules e k =
-      record { form = v; stack = base; rules = rules; reached = e; reduces = λ j below. refl; kept = k }
+  takes_whole p ts base edge v nodes names keeps rules e k = grind arith
 
   -- tokens before an operand
   pub takes_behind : (p q : Partial) (front ts : List Lexeme) (base : List Frame) (edge : ℕ) (v : Form) (nodes : ℕ)
@@ -69,48 +59,21 @@ module _ (sig : List PredOf) where
       → (depth p.context.stack ≤ max_levels → AreKept rules → keeps → more)
       → Takes sig q ts base edge v nodes names keeps → Takes sig p (front ++ ts) base edge v nodes names more
   takes_behind p q front ts base edge v nodes names keeps more rules e k all opens back t =
-      record {
-        form = t.form;
-        stack = t.stack;
-        rules = rules ++ t.rules;
-        reached = moves_both sig front ts p q _ rules t.rules e t.reached;
-        reduces = t.reduces;
-        kept = (
-          λ m. kept_both rules t.rules (k m) (t.kept.0 (all m)),
-          λ d a. back d (kept_front rules t.rules a)
-              (t.kept.1 (opens d (kept_front rules t.rules a)) (kept_back rules t.rules a)),
-        );
-      }
+      grind (arith, moves_both sig front ts p q _ rules t.rules e t.reached, kept_both, kept_front, kept_back)
 
   -- an operand whose frame is closed
   pub takes_closed : (p : Partial) (ts : List Lexeme) (frame : Frame) (base : List Frame) (edge : ℕ) (v : Form)
       (nodes : ℕ) (names : SymbolTable) (keeps : Type 0)
       → edge ≤ hold frame → Takes sig p ts (frame ∷ base) edge v nodes names keeps
       → Takes sig p ts base edge (closed frame v) nodes names keeps
-  takes_closed p ts frame base edge v nodes names keeps tight t =
-      record {
-        form = t.form;
-        stack = t.stack;
-        rules = t.rules;
-        reached = t.reached;
-        reduces = λ j below. t.reduces j below ∙ reduce_tight j frame base (omega (arith, below, tight)) v;
-        kept = t.kept;
-      }
+  takes_closed p ts frame base edge v nodes names keeps tight t = grind (arith, reduce_tight)
 
   -- a lower edge, and what wants more
   pub takes_less : (p : Partial) (ts : List Lexeme) (base : List Frame) (edge lower : ℕ) (v : Form) (nodes : ℕ)
       (names : SymbolTable) (keeps more : Type 0)
       → lower ≤ edge → (more → keeps) → (depth p.context.stack ≤ max_levels → keeps → more)
       → Takes sig p ts base edge v nodes names keeps → Takes sig p ts base lower v nodes names more
-  takes_less p ts base edge lower v nodes names keeps more less all back t =
-      record {
-        form = t.form;
-        stack = t.stack;
-        rules = t.rules;
-        reached = t.reached;
-        reduces = λ j below. t.reduces j (omega (arith, below, less));
-        kept = (λ m. t.kept.0 (all m), λ d a. back d (t.kept.1 d a));
-      }
+  takes_less p ts base edge lower v nodes names keeps more less all back t = grind arith
 
   pub enclosed : (form : Form) (stack base : List Frame) (v : Form) (nodes : ℕ) (names : SymbolTable) (r : Lexeme)
       → class_of r ≡ classes.CloseParen
@@ -199,34 +162,11 @@ not_have never e h = never (subst (λ (x : Partial). IsHave x.now) (sym (same_ne
 first_first : (rule : Rule) (q r : Partial) (m : Option Transition) (f : Partial → Option Transition)
     → behind_move (record { rules = []; next = r }) (then_moves (first_keeps rule m) f)
     ≡ behind_move (record { rules = rule ∷ []; next = q }) (then_moves m f)
-first_first rule q r None f = refl
-first_first rule q r (Some m) f = by_rest (f m.next)
-  where
-    by_rest : (o : Option Transition)
-        → behind_move (record { rules = []; next = r })
-        (behind_move (record { rules = rule ∷ m.rules; next = m.next }) o)
-        ≡ behind_move (record { rules = rule ∷ []; next = q }) (behind_move m o)
-    by_rest None = refl
-    by_rest (Some n) = refl
+first_first rule q r m f = grind arith
 
 module _ (sig : List PredOf) (stack : List Frame) (nodes : ℕ) (names : SymbolTable) where
-  -- a sign behind the Integer behind the `(`
-  after_number : (at number_at : ℕ) (z : ℤ) (q0 r0 : Partial) (t : Lexeme) (ts : List Lexeme) (rules : List Rule)
-      (q : Partial) (c : Class)
-      → behind_move (record { rules = within_depth at stack ∷ []; next = q0 })
-      (then_moves (compared_move (context_at (Parens ∷ stack) nodes names) (number_side number_at z) t c)
-      (moves sig ts)) ≡ goes rules q
-      → behind_move (record { rules = []; next = r0 })
-      (then_moves (maybe_number_move (context_at stack nodes names) at number_at z t c) (moves sig ts)) ≡ goes rules q
-  after_number at number_at z q0 r0 t ts rules q (classes.Sign sign) h =
-      first_first (within_depth at stack) q0 r0
-      (signed (context_at (Parens ∷ stack) nodes names) (number_side number_at z) t.at sign)
-      (moves sig ts) ∙ h
-  after_number at number_at z q0 r0 t ts rules q _ h = absurd (no_move h)
-
   behind_nothing : (r0 : Partial) (o : Option Transition) → behind_move (record { rules = []; next = r0 }) o ≡ o
-  behind_nothing r0 None = refl
-  behind_nothing r0 (Some m) = refl
+  behind_nothing r0 o = grind arith
 
   -- behind an Integer behind the `(`
   number_too : (at number_at : ℕ) (z : ℤ) (q0 r0 : Partial) (ts : List Lexeme) (rules : List Rule) (q : Partial)
@@ -238,8 +178,7 @@ module _ (sig : List PredOf) (stack : List Frame) (nodes : ℕ) (names : SymbolT
       (moves sig ts (at_place (AfterParenNumber at number_at z) stack nodes names)) ≡ goes rules q
   unfolding moves transition
   number_too at number_at z q0 r0 [] rules q have h = absurd (not_have (λ n. n) h have)
-  number_too at number_at z q0 r0 (t ∷ ts) rules q have h =
-      after_number at number_at z q0 r0 t ts rules q (class_of t) h
+  number_too at number_at z q0 r0 (t ∷ ts) rules q have h = grind arith
 
   -- behind the `(`
   after_open : (at : ℕ) (q0 r0 : Partial) (t : Lexeme) (ts : List Lexeme) (rules : List Rule) (q : Partial)
@@ -248,15 +187,8 @@ module _ (sig : List PredOf) (stack : List Frame) (nodes : ℕ) (names : SymbolT
       (then_moves (operand_move (context_at (Parens ∷ stack) nodes names) t c) (moves sig ts)) ≡ goes rules q
       → behind_move (record { rules = []; next = r0 }) (then_moves (maybe_move (context_at stack nodes names) at t c) (moves sig ts))
       ≡ goes rules q
-  after_open at q0 r0 t ts rules q (classes.Integer z) have h =
-      let there : Partial = at_place (ExpectSign (number_side t.at z)) (Parens ∷ stack) nodes names in
-      let number : Partial = at_place (AfterParenNumber at t.at z) stack nodes names in
-      ap (behind_move (record { rules = []; next = r0 })) (behind_nothing number (moves sig ts number))
-      ∙ number_too at t.at z q0 r0 ts rules q have
-      (ap (behind_move (record { rules = within_depth at stack ∷ []; next = q0 }))
-      (sym (behind_nothing there (moves sig ts there))) ∙ h)
   after_open at q0 r0 t ts rules q c have h =
-      first_first (within_depth at stack) q0 r0 (operand_move (context_at (Parens ∷ stack) nodes names) t c) (moves sig ts) ∙ h
+      grind (arith, at_place, behind_move, behind_nothing, moves, number_too, first_first, context_at)
 
   open_too : (at : ℕ) (q0 r0 : Partial) (ts : List Lexeme) (rules : List Rule) (q : Partial) → IsHave q.now
       → behind_move (record { rules = within_depth at stack ∷ []; next = q0 })
@@ -270,11 +202,7 @@ module _ (sig : List PredOf) (stack : List Frame) (nodes : ℕ) (names : SymbolT
   after_fresh : (t : Lexeme) (ts : List Lexeme) (rules : List Rule) (q : Partial) (c : Class) → IsHave q.now
       → then_moves (operand_move (context_at stack nodes names) t c) (moves sig ts) ≡ goes rules q
       → then_moves (fresh_move (context_at stack nodes names) t c) (moves sig ts) ≡ goes rules q
-  after_fresh t ts rules q classes.OpenBracket have h = absurd (no_move h)
-  after_fresh t ts rules q classes.OpenParen have h =
-      open_too t.at (at_place ExpectOperand (Parens ∷ stack) nodes names)
-      (at_place (AfterParen t.at) stack nodes names) ts rules q have h
-  after_fresh t ts rules q c have h = h
+  after_fresh t ts rules q c have h = grind (arith, no_move, open_too, at_place)
 
   pub fresh_too : (ts : List Lexeme) (rules : List Rule) (q : Partial) → IsHave q.now
       → moves sig ts (at_place ExpectOperand stack nodes names) ≡ goes rules q
@@ -288,12 +216,4 @@ module _ (sig : List PredOf) (stack : List Frame) (nodes : ℕ) (names : SymbolT
       (keeps : Type 0)
       → Takes sig (at_place ExpectOperand stack nodes names) ts base edge v more others keeps
       → Takes sig (at_place AfterTemporal stack nodes names) ts base edge v more others keeps
-  takes_fresh ts base edge v more others keeps t =
-      record {
-        form = t.form;
-        stack = t.stack;
-        rules = t.rules;
-        reached = fresh_too ts t.rules _ tt t.reached;
-        reduces = t.reduces;
-        kept = t.kept;
-      }
+  takes_fresh ts base edge v more others keeps t = grind (arith, fresh_too)

@@ -4,11 +4,9 @@ use Rattle.std.proofs.lemmas.List.{append-nil, append_assoc}
 use Rattle.mfotl_lex.specs.Lexemes.{Lexeme}
 use Rattle.mfotl_sig.specs.Preds.{PredOf}
 use Rattle.mfotl_parse.specs.declared.class.Class.{Class}
-use Rattle.mfotl_parse.specs.Classes.{class_of}
+use Rattle.mfotl_parse.specs.{Classes.class_of, Reading.transition_at, Reading.transition, Limits.max_levels}
 use Rattle.mfotl_parse.specs.Transitions.{Rule, Transition, goes}
-use Rattle.mfotl_parse.specs.Reading.{transition_at, transition}
 use Rattle.mfotl_parse.specs.States.{Frame, SymbolTable, Stage, Context, Partial}
-use Rattle.mfotl_parse.specs.Limits.{max_levels}
 
 abbrev pub at_place : Stage → List Frame → ℕ → SymbolTable → Partial
 at_place now stack nodes names = record { context = record { stack = stack; nodes = nodes; names = names }; now = now }

@@ -1,22 +1,19 @@
 -- How atoms, comparisons and intervals are read, and what their tokens show.
 use Rattle.std.proofs.Common.{◌≡◌, ℕ, suc, ◌+◌, ◌*◌, ◌<◌, ◌≤◌, Bool, true, false, List, [], ◌∷◌, ◌++◌, length, Option}
-use Rattle.std.proofs.Common.{Some, None, refl, ap, ◌∙◌, inl, inr, arith}
-use Rattle.std.proofs.lemmas.Bool.{lt-leb, leb-false, le-ltb, ltb-false}
-use Rattle.std.proofs.lemmas.List.{append_assoc}
+use Rattle.std.proofs.Common.{Some, None, refl, ap, ◌∙◌, arith}
+use Rattle.std.proofs.{lemmas.Bool.lt-leb, lemmas.Bool.leb-false, lemmas.List.append_assoc}
 use Rattle.std.specs.Prelude.{◌&&◌, not}
 use Rattle.mfotl_lex.specs.Lexemes.{Lexeme}
-use Rattle.mfotl_model.specs.declared.interval.Interval.{Interval}
-use Rattle.mfotl_model.specs.declared.policy.Sort.{Sort}
-use Rattle.mfotl_model.specs.declared.term.Sign.{Sign}
-use Rattle.mfotl_model.specs.declared.term.Term.{Term}
+use Rattle.mfotl_model.specs.declared.{interval.Interval.Interval, policy.Sort.Sort, term.Sign.Sign}
 use Rattle.mfotl_model.specs.Formulas.{Form}
 use Rattle.mfotl_sig.specs.Preds.{PredOf, named}
-use Rattle.mfotl_parse.specs.declared.class.Class.{Class}
+use Rattle.mfotl_parse.specs.declared.{class.Class.Class, term.Side.Side}
 use Rattle.mfotl_parse.specs.declared.class.Class.TheVariants as classes
-use Rattle.mfotl_parse.specs.declared.term.Side.{Side}
 use Rattle.mfotl_parse.specs.Arguments.{call_of, known, with_argument, argument_move, first_move}
 use Rattle.mfotl_parse.specs.SortsDue.{due_sort, after_due, is_empty}
-use Rattle.mfotl_parse.specs.Classes.{class_of}
+use Rattle.mfotl_parse.specs.{Classes.class_of, SymbolTable.binder_of, SymbolTable.with_comparison, Reading.transition}
+use Rattle.mfotl_parse.specs.{Reading.transition_at, Limits.max_levels, Limits.max_nodes, Comparisons.comparison}
+use Rattle.mfotl_parse.specs.{Mentions.places_of, Operators.now_behind}
 use Rattle.mfotl_parse.specs.Grammar.{Bare, Asked, WrittenTerm, Named, Number, Quoted, WrittenArgument, Given, Hidden}
 use Rattle.mfotl_parse.specs.Grammar.{WrittenArguments, LastArgument, MoreArguments, WrittenBound, Count, Counted}
 use Rattle.mfotl_parse.specs.Grammar.{WrittenEnd, Included, Excluded, Unbounded, WrittenInterval, Omitted, From, Above}
@@ -29,18 +26,12 @@ use Rattle.mfotl_parse.specs.Meanings.{arguments_names, sorts_behind, atom, boun
 use Rattle.mfotl_parse.specs.Meanings.{argument_count, HasArity, InRange, EndKeeps, IntervalKeeps}
 use Rattle.mfotl_parse.specs.Occurrences.{hidden_count, blank_count, place_of}
 use Rattle.mfotl_parse.specs.Transitions.{Rule, goes, within_nodes, one_due, none_due}
-use Rattle.mfotl_parse.specs.SymbolTable.{binder_of, with_comparison}
-use Rattle.mfotl_parse.specs.Reading.{transition, transition_at}
-use Rattle.mfotl_parse.specs.States.{Frame, Parens, opens_level, depth, Call, SymbolTable, Stage, Context, Partial}
+use Rattle.mfotl_parse.specs.States.{Frame, opens_level, depth, Call, SymbolTable, Stage, Context, Partial}
 use Rattle.mfotl_parse.specs.States.{ExpectOperand, AfterTemporal, AfterOperand, AfterSign, FirstArgument, NextArgument}
 use Rattle.mfotl_parse.specs.States.{AfterArgument, AfterArgumentMark, AfterParen, ExpectLow, ExpectHigh}
-use Rattle.mfotl_parse.specs.Limits.{max_levels, max_nodes, max_bound}
-use Rattle.mfotl_parse.proofs.SpelledWords.{blank_text, unit_lasts}
+use Rattle.mfotl_parse.proofs.SpelledWords.{blank_text}
 use Rattle.mfotl_parse.proofs.SpelledMoves.{at_place, context_at, moves, move_is, moves_one, AreKept, Exactly}
 use Rattle.mfotl_parse.proofs.SpelledMoves.{kept_both, kept_front, kept_back}
-use Rattle.mfotl_parse.specs.Comparisons.{comparison}
-use Rattle.mfotl_parse.specs.Mentions.{places_of}
-use Rattle.mfotl_parse.specs.Operators.{now_behind}
 use Rattle.mfotl_parse.specs.Shows.{Showing, silent, name_shown, node_shown, argument_shown, arguments_shown}
 use Rattle.mfotl_parse.specs.Shows.{closing_shown, bound_shown, above_shown, end_shown, interval_shown, is_omitted}
 use Rattle.mfotl_parse.proofs.TracedMoves.{trace, Leads, leads_move, leads_one, leads_both, leads_none}
@@ -71,13 +62,11 @@ module _ (sig : List PredOf) where
       → transition sig (at_place now stack nodes names) t ≡ argument_move (context_at stack nodes names) call t c
 
   pub next_takes : (call : Call) → TakesArgument (NextArgument call) call
-  next_takes call t c class opens stack nodes names =
-      move_is sig (at_place (NextArgument call) stack nodes names) t c class
+  next_takes call t c class opens stack nodes names = search (move_is, at_place)
 
   not_closing : (call : Call) (t : Lexeme) (p : Context) (c : Class) → (c ≡ classes.CloseParen → ⊥)
       → first_move p call t c ≡ argument_move p call t c
-  not_closing call t p classes.CloseParen opens = absurd (opens refl)
-  not_closing call t p c opens = refl
+  not_closing call t p c opens = grind arith
 
   pub first_takes : (call : Call) → TakesArgument (FirstArgument call) call
   first_takes call t c class opens stack nodes names =
@@ -111,8 +100,7 @@ module _ (sig : List PredOf) where
       leads_move token (takes token classes.Blank fits (λ e. cc) stack nodes names)
 
   pub argument_nodes_are : (a : WrittenArgument) (nodes : ℕ) → argument_nodes a nodes ≡ nodes + hidden_count a
-  argument_nodes_are (Given term) nodes = omega arith
-  argument_nodes_are (Hidden token) nodes = omega arith
+  argument_nodes_are a nodes = grind arith
 
   -- behind arguments
   abbrev pub call_behind : WrittenArguments → Call → Scope → SymbolTable → Call
@@ -140,8 +128,7 @@ module _ (sig : List PredOf) where
       (at_place (AfterArgument (call_behind xs call (scope_of stack) names)) stack (arguments_nodes xs nodes)
       (arguments_names xs call.rest (scope_of stack) names))
       (arguments_rules xs call.rest nodes) (arguments_shown xs call.rest nodes)
-  arguments_leads now call (LastArgument a) stack nodes names takes fits =
-      argument_leads now call a stack nodes names takes fits
+  arguments_leads now call (LastArgument a) stack nodes names takes fits = search (argument_leads)
   arguments_leads now call (MoreArguments a comma rest) stack nodes names takes fits =
       let scope = scope_of stack in
       let call2 = with_argument call (argument_term a scope names) in
@@ -166,14 +153,11 @@ module _ (sig : List PredOf) where
 
   due_more : (sorts : List Sort) (n : ℕ) → length sorts ≡ suc n
       → (is_empty sorts ≡ false) × (length (after_due sorts) ≡ n)
-  due_more [] n h = absurd (omega (arith, h))
-  due_more (sort ∷ sorts) n h = (refl, omega (arith, h))
+  due_more sorts n h = grind arith
 
   argument_kept : (a : WrittenArgument) (sorts : List Sort) (n nodes : ℕ) → length sorts ≡ suc n
       → nodes + hidden_count a ≤ max_nodes → AreKept (argument_rules a sorts nodes)
-  argument_kept (Given term) sorts n nodes h few_nodes = ((due_more sorts n h).0, tt)
-  argument_kept (Hidden token) sorts n nodes h few_nodes =
-      ((due_more sorts n h).0, (node_fits nodes token.at (omega (arith, few_nodes)), tt))
+  argument_kept a sorts n nodes h few_nodes = grind arith
 
   pub arguments_kept : (xs : WrittenArguments) (sorts : List Sort) (nodes : ℕ) → length sorts ≡ argument_count xs
       → nodes + blank_count xs ≤ max_nodes → AreKept (arguments_rules xs sorts nodes)
@@ -185,28 +169,19 @@ module _ (sig : List PredOf) where
       (omega (arith, few_nodes, argument_nodes_are a nodes)))
 
   none_left : (sorts : List Sort) → length sorts ≡ 0 → is_empty sorts ≡ true
-  none_left [] h = refl
-  none_left (sort ∷ sorts) h = absurd (omega (arith, h))
+  none_left sorts h = grind arith
 
   is_due : (sorts : List Sort) (n : ℕ) → is_empty sorts ≡ false → length (after_due sorts) ≡ n → length sorts ≡ suc n
-  is_due [] n h k = absurd cc
-  is_due (sort ∷ sorts) n h k = omega (arith, k)
-
-  none_due_is : (sorts : List Sort) → not (is_empty sorts) ≡ false → length sorts ≡ 0
-  none_due_is [] h = refl
-  none_due_is (sort ∷ sorts) h = absurd cc
+  is_due sorts n h k = grind arith
 
   argument_due : (a : WrittenArgument) (sorts : List Sort) (nodes : ℕ) → AreKept (argument_rules a sorts nodes)
       → nodes ≤ max_nodes → (is_empty sorts ≡ false) × (argument_nodes a nodes ≤ max_nodes)
-  argument_due (Given term) sorts nodes k few_nodes = (k.0, few_nodes)
-  argument_due (Hidden token) sorts nodes k few_nodes = (k.0, omega (arith, node_fitted nodes token.at k.1.0))
+  argument_due a sorts nodes k few_nodes = grind arith
 
   arguments_due : (xs : WrittenArguments) (sorts : List Sort) (nodes : ℕ) → AreKept (arguments_rules xs sorts nodes)
       → nodes ≤ max_nodes → not (is_empty (sorts_behind xs sorts)) ≡ false
       → (length sorts ≡ argument_count xs) × (arguments_nodes xs nodes ≤ max_nodes)
-  arguments_due (LastArgument a) sorts nodes k few_nodes none =
-      let own = argument_due a sorts nodes k few_nodes in
-      (is_due sorts 0 own.0 (none_due_is (after_due sorts) none), own.1)
+  arguments_due (LastArgument a) sorts nodes k few_nodes none = grind arith
   arguments_due (MoreArguments a comma rest) sorts nodes k few_nodes none =
       let own = argument_due a sorts nodes (kept_front (argument_rules a sorts nodes) _ k) few_nodes in
       let later = arguments_due rest (after_due sorts) (argument_nodes a nodes)
@@ -229,11 +204,7 @@ module _ (sig : List PredOf) where
       (known name.at (named name.text sig) ∷ within_nodes name.at nodes ∷ [])
       ([] ∷ name_shown (named name.text sig) name.at nodes ∷ [])
   unfolding moves trace transition
-  name_leads name opening stack nodes names (inl class) opens =
-      record { moved = rw (class, opens); shows = rw (class, opens) }
-  name_leads name opening stack nodes names (inr class) opens =
-      let text = blank_text name class in
-      record { moved = rw (class, opens, ← text); shows = rw (class, opens, ← text) }
+  name_leads name opening stack nodes names h opens = grind (arith, blank_text)
 
   -- the `)` of an atom without arguments
   bare_leads : (found : Option PredOf) (closing : Lexeme) (stack : List Frame) (nodes : ℕ) (names : SymbolTable)
@@ -243,8 +214,7 @@ module _ (sig : List PredOf) where
       (at_place (AfterOperand (atom found [] (length names.bound_sorts) (length names.bound_sorts))) stack nodes names)
       (none_due closing.at (call_of found 0).rest ∷ []) (closing_shown closing.at (places_of found) ∷ [])
   unfolding moves trace transition
-  bare_leads None closing stack nodes names class = record { moved = rw class; shows = rw class }
-  bare_leads (Some pred) closing stack nodes names class = record { moved = rw class; shows = rw class }
+  bare_leads found closing stack nodes names class = grind arith
 
   -- arguments and their `)`
   closes_leads : (found : Option PredOf) (xs : WrittenArguments) (closing : Lexeme) (stack : List Frame) (nodes : ℕ)
@@ -271,13 +241,11 @@ module _ (sig : List PredOf) where
 
   arity_kept : (found : Option PredOf) (n at : ℕ) → HasArity found n
       → ((known at found).broken ≡ false) × (length (call_of found 0).rest ≡ n)
-  arity_kept None n at h = absurd h
-  arity_kept (Some pred) n at h = (refl, h)
+  arity_kept found n at h = grind arith
 
   arity_is : (found : Option PredOf) (n at : ℕ) → (known at found).broken ≡ false → length (call_of found 0).rest ≡ n
       → HasArity found n
-  arity_is None n at k h = absurd cc
-  arity_is (Some pred) n at k h = h
+  arity_is found n at k h = grind arith
 
   -- a whole atom, without arguments and with some
   pub bare_atom_leads : (name opening closing : Lexeme) (stack : List Frame) (nodes : ℕ) (names : SymbolTable)
@@ -315,13 +283,7 @@ module _ (sig : List PredOf) where
   pub bare_exactly : (found : Option PredOf) (at closing_at nodes levels : ℕ)
       → Exactly levels ((nodes < max_nodes) × HasArity found 0)
       (known at found ∷ within_nodes at nodes ∷ none_due closing_at (call_of found 0).rest ∷ [])
-  bare_exactly found at closing_at nodes levels = (
-    λ k. (
-      (arity_kept found 0 at k.1).0,
-      (node_fits nodes at k.0, (ap not (none_left (call_of found 0).rest (arity_kept found 0 at k.1).1), tt)),
-    ),
-    λ d a. (node_fitted nodes at a.1.0, arity_is found 0 at a.0 (none_due_is (call_of found 0).rest a.1.1.0)),
-  )
+  bare_exactly found at closing_at nodes levels = grind arith
 
   pub atom_exactly : (found : Option PredOf) (xs : WrittenArguments) (at closing_at nodes levels : ℕ)
       → Exactly levels ((nodes + suc (blank_count xs) ≤ max_nodes) × HasArity found (argument_count xs))
@@ -356,14 +318,7 @@ module _ (sig : List PredOf) where
       (suc nodes) (term_names left (scope_of stack) names))
       (within_nodes token.at nodes ∷ []) (silent (term_spelling left) ++ node_shown token.at nodes ∷ [])
   unfolding moves trace transition
-  left_leads (Named (Bare name)) token sign stack nodes names fits class =
-      record { moved = rw (fits, class); shows = rw (fits, class) }
-  left_leads (Named (Asked mark name)) token sign stack nodes names fits class =
-      record { moved = rw (fits.0, fits.1, class); shows = rw (fits.0, fits.1, class) }
-  left_leads (Number number z) token sign stack nodes names fits class =
-      record { moved = rw (fits, class); shows = rw (fits, class) }
-  left_leads (Quoted quoted) token sign stack nodes names fits class =
-      record { moved = rw (fits, class); shows = rw (fits, class) }
+  left_leads left token sign stack nodes names fits class = grind arith
 
   right_leads : (left : Side) (at : ℕ) (sign : Sign) (right : WrittenTerm) (stack : List Frame) (nodes : ℕ)
       (names : SymbolTable) → FitsTerm right
@@ -372,11 +327,7 @@ module _ (sig : List PredOf) where
       (with_comparison left.operand left.at at (operand_of right (scope_of stack) names) (place_of right)
       (term_names right (scope_of stack) names))) [] (silent (term_spelling right))
   unfolding moves trace transition
-  right_leads left at sign (Named (Bare name)) stack nodes names fits = record { moved = rw fits; shows = rw fits }
-  right_leads left at sign (Named (Asked mark name)) stack nodes names fits =
-      record { moved = rw (fits.0, fits.1); shows = rw (fits.0, fits.1) }
-  right_leads left at sign (Number token z) stack nodes names fits = record { moved = rw fits; shows = rw fits }
-  right_leads left at sign (Quoted token) stack nodes names fits = record { moved = rw fits; shows = rw fits }
+  right_leads left at sign right stack nodes names fits = grind arith
 
   -- a whole comparison
   pub comparison_leads : (left : WrittenTerm) (token : Lexeme) (sign : Sign) (right : WrittenTerm)
@@ -406,15 +357,7 @@ module _ (sig : List PredOf) where
   low_rules (Counted token n unit seconds) = in_range token.at n ∷ in_range token.at (n * seconds) ∷ []
 
   low_kept : (low : WrittenBound) → FitsBound low → InRange low → AreKept (low_rules low)
-  low_kept (Count token n) fits h = (le-ltb max_bound n h, tt)
-  low_kept (Counted token n unit seconds) fits h = (
-    le-ltb max_bound n (omega (arith, h, unit_lasts unit.text seconds n fits.2)),
-    (le-ltb max_bound (n * seconds) h, tt),
-  )
-
-  low_reached : (low : WrittenBound) → AreKept (low_rules low) → InRange low
-  low_reached (Count token n) k = ltb-false max_bound n k.0
-  low_reached (Counted token n unit seconds) k = ltb-false max_bound (n * seconds) k.1.0
+  low_kept low fits h = grind arith
 
   -- the rules behind `(`, where the number is looked at with its unit
   abbrev above_rules : WrittenBound → List Rule
@@ -422,32 +365,21 @@ module _ (sig : List PredOf) where
   above_rules (Counted token n unit seconds) = in_range token.at (n * seconds) ∷ []
 
   above_kept : (low : WrittenBound) → InRange low → AreKept (above_rules low)
-  above_kept (Count token n) h = (le-ltb max_bound n h, tt)
-  above_kept (Counted token n unit seconds) h = (le-ltb max_bound (n * seconds) h, tt)
-
-  above_reached : (low : WrittenBound) → AreKept (above_rules low) → InRange low
-  above_reached (Count token n) k = ltb-false max_bound n k.0
-  above_reached (Counted token n unit seconds) k = ltb-false max_bound (n * seconds) k.0
+  above_kept low h = grind arith
 
   low_leads : (at : ℕ) (low : WrittenBound) (comma : Lexeme) (stack : List Frame) (nodes : ℕ) (names : SymbolTable)
       → FitsBound low → class_of comma ≡ classes.Comma
       → Leads sig (bound_spelling low ++ comma ∷ []) (at_place (ExpectLow at) stack nodes names)
       (at_place (ExpectHigh at (bound_value low)) stack nodes names) (low_rules low) (bound_shown low ++ [] ∷ [])
   unfolding moves trace transition
-  low_leads at (Count token n) comma stack nodes names fits class =
-      record { moved = rw (fits, class); shows = rw (fits, class) }
-  low_leads at (Counted token n unit seconds) comma stack nodes names fits class =
-      record { moved = rw (fits.0, fits.1, fits.2, class); shows = rw (fits.0, fits.1, fits.2, class) }
+  low_leads at low comma stack nodes names fits class = grind arith
 
   above_leads : (at : ℕ) (low : WrittenBound) (comma : Lexeme) (stack : List Frame) (nodes : ℕ) (names : SymbolTable)
       → FitsBound low → class_of comma ≡ classes.Comma
       → Leads sig (bound_spelling low ++ comma ∷ []) (at_place (AfterParen at) stack nodes names)
       (at_place (ExpectHigh at (bound_value low + 1)) stack nodes names) (above_rules low) (above_shown low)
   unfolding moves trace transition
-  above_leads at (Count token n) comma stack nodes names fits class =
-      record { moved = rw (fits, class); shows = rw (fits, class) }
-  above_leads at (Counted token n unit seconds) comma stack nodes names fits class =
-      record { moved = rw (fits.0, fits.1, fits.2, class); shows = rw (fits.0, fits.1, fits.2, class) }
+  above_leads at low comma stack nodes names fits class = grind arith
 
   abbrev end_rules : ℕ → ℕ → WrittenEnd → List Rule
   end_rules at low (Included high closing) = low_rules high ++ not_empty at low (bound_value high + 1) ∷ []
@@ -455,21 +387,7 @@ module _ (sig : List PredOf) where
   end_rules at low (Unbounded star closing) = []
 
   end_kept : (at low : ℕ) (end : WrittenEnd) → FitsEnd end → EndKeeps low end → AreKept (end_rules at low end)
-  end_kept at low (Included high closing) fits k =
-      kept_both (low_rules high) _ (low_kept high fits.0 k.0)
-      (lt-leb (bound_value high + 1) low (omega (arith, k.1)), tt)
-  end_kept at low (Excluded high closing) fits k =
-      kept_both (low_rules high) _ (low_kept high fits.0 k.0) (lt-leb (bound_value high) low k.1, tt)
-  end_kept at low (Unbounded star closing) fits k = tt
-
-  end_reached : (at low : ℕ) (end : WrittenEnd) → AreKept (end_rules at low end) → EndKeeps low end
-  end_reached at low (Included high closing) k = (
-    low_reached high (kept_front (low_rules high) _ k),
-    omega (arith, leb-false (bound_value high + 1) low (kept_back (low_rules high) _ k).0),
-  )
-  end_reached at low (Excluded high closing) k =
-      (low_reached high (kept_front (low_rules high) _ k), leb-false _ low (kept_back (low_rules high) _ k).0)
-  end_reached at low (Unbounded star closing) k = tt
+  end_kept at low end fits k = grind arith
 
   -- an upper bound or none, and the bracket behind it
   end_leads : (at low : ℕ) (end : WrittenEnd) (stack : List Frame) (nodes : ℕ) (names : SymbolTable) → FitsEnd end
@@ -477,18 +395,7 @@ module _ (sig : List PredOf) where
       (at_place ExpectOperand (with_interval (interval_from low end) stack) nodes names)
       (end_rules at low end) (end_shown at low end)
   unfolding moves trace transition
-  end_leads at low (Included (Count token n) closing) stack nodes names fits =
-      record { moved = rw (fits.0, fits.1); shows = rw (fits.0, fits.1) }
-  end_leads at low (Included (Counted token n unit seconds) closing) stack nodes names fits =
-      let number = fits.0 in
-      record { moved = rw (number.0, number.1, number.2, fits.1); shows = rw (number.0, number.1, number.2, fits.1) }
-  end_leads at low (Excluded (Count token n) closing) stack nodes names fits =
-      record { moved = rw (fits.0, fits.1); shows = rw (fits.0, fits.1) }
-  end_leads at low (Excluded (Counted token n unit seconds) closing) stack nodes names fits =
-      let number = fits.0 in
-      record { moved = rw (number.0, number.1, number.2, fits.1); shows = rw (number.0, number.1, number.2, fits.1) }
-  end_leads at low (Unbounded star closing) stack nodes names fits =
-      record { moved = rw (fits.0, fits.1); shows = rw (fits.0, fits.1) }
+  end_leads at low end stack nodes names fits = grind arith
 
   -- an interval behind its opening bracket
   inner_leads : (p : Partial) (at from : ℕ) (low : WrittenBound) (comma : Lexeme) (end : WrittenEnd)
@@ -535,25 +442,13 @@ module _ (sig : List PredOf) where
 
   interval_kept : (timed : Bool) (interval : WrittenInterval) → FitsOperator timed interval → IntervalKeeps interval
       → AreKept (interval_rules interval)
-  interval_kept false interval omitted k = rw omitted tt
-  interval_kept true Omitted fits k = tt
-  interval_kept true (From opening low comma end) fits k =
-      kept_both (low_rules low) _ (low_kept low fits.1 k.0) (end_kept opening.at (bound_value low) end fits.3 k.1)
-  interval_kept true (Above opening low comma end) fits k =
-      kept_both (above_rules low) _ (above_kept low k.0) (end_kept opening.at (bound_value low + 1) end fits.3 k.1)
+  interval_kept timed interval omitted k = grind (arith, kept_both, low_kept, end_kept, above_kept)
 
   interval_reached : (interval : WrittenInterval) → AreKept (interval_rules interval) → IntervalKeeps interval
-  interval_reached Omitted a = tt
-  interval_reached (From opening low comma end) a =
-      (low_reached low (kept_front (low_rules low) _ a), end_reached opening.at _ end (kept_back (low_rules low) _ a))
-  interval_reached (Above opening low comma end) a = (
-    above_reached low (kept_front (above_rules low) _ a),
-    end_reached opening.at _ end (kept_back (above_rules low) _ a),
-  )
+  interval_reached interval a = grind arith
 
   level_framed : (i : Interval) (frame : Frame) → opens_level (framed i frame) ≡ opens_level frame
-  level_framed i Parens = refl
-  level_framed i _ = refl
+  level_framed i frame = grind arith
 
   -- an interval opens no level
   same_depth : (i : Interval) (frame : Interval → Frame) (base : List Frame)
@@ -567,9 +462,7 @@ module _ (sig : List PredOf) where
       (names others : SymbolTable) (v : Form) (keeps : Type 0)
       → Takes sig (at_place ExpectOperand stack nodes names) ts lower edge v more others keeps
       → Takes sig (at_place (now_behind timed) stack nodes names) ts lower edge v more others keeps
-  takes_any true stack lower ts nodes edge more names others v keeps t =
-      takes_fresh sig stack nodes names ts lower edge v more others keeps t
-  takes_any false stack lower ts nodes edge more names others v keeps t = t
+  takes_any timed stack lower ts nodes edge more names others v keeps t = grind (arith, takes_fresh)
 
   -- an operand behind an operator and its interval
   pub takes_interval : (timed : Bool) (interval : WrittenInterval) (frame : Interval → Frame)

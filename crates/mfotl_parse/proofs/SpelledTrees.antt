@@ -1,47 +1,36 @@
 -- How a whole tree is read, by what is written in it.
 use Rattle.std.proofs.Common.{◌≡◌, ℕ, suc, ◌+◌, ◌<◌, ◌≤◌, Bool, true, false, List, [], ◌∷◌, ◌++◌, length, None, refl}
-use Rattle.std.proofs.Common.{sym, subst, ◌∙◌, arith}
-use Rattle.std.proofs.lemmas.Bool.{lt-leb, leb-false}
-use Rattle.std.proofs.lemmas.List.{append_assoc}
+use Rattle.std.proofs.Common.{sym, ◌∙◌, arith}
+use Rattle.std.proofs.{lemmas.Bool.lt-leb, lemmas.Bool.leb-false, lemmas.List.append_assoc}
 use Rattle.std.specs.Prelude.{cond}
 use Rattle.mfotl_lex.specs.Lexemes.{Lexeme}
 use Rattle.mfotl_model.specs.declared.interval.Interval.{Interval}
 use Rattle.mfotl_model.specs.Formulas.{Form}
 use Rattle.mfotl_sig.specs.Preds.{PredOf, named}
-use Rattle.mfotl_parse.specs.declared.class.Class.{Class}
+use Rattle.mfotl_parse.specs.declared.{class.Class.Class, class.Operator.Operator, class.Quantifier.Quantifier}
 use Rattle.mfotl_parse.specs.declared.class.Class.TheVariants as classes
-use Rattle.mfotl_parse.specs.declared.class.Operator.{Operator}
-use Rattle.mfotl_parse.specs.declared.class.Operator.TheVariants.{Equiv}
-use Rattle.mfotl_parse.specs.declared.class.Quantifier.{Quantifier}
-use Rattle.mfotl_parse.specs.Classes.{class_of}
-use Rattle.mfotl_parse.specs.Grammar.{WrittenVariable, Bare, Asked, WrittenVariables, LastVariable, MoreVariables, Tree}
-use Rattle.mfotl_parse.specs.Grammar.{Truth, BareAtom, AtomOf, Comparison, Enclosed, Denied, Timed, Quantified, Joined}
+use Rattle.mfotl_parse.specs.{Classes.class_of, Intervals.any_distance, Reading.transition, Shows.variable_shown}
+use Rattle.mfotl_parse.specs.{SymbolTable.binder_of, SymbolTable.bound_more, Operands.truth, Quantifiers.bound_move}
+use Rattle.mfotl_parse.specs.{Operators.deepening, Limits.max_levels, Limits.max_nodes}
+use Rattle.mfotl_parse.specs.Grammar.{WrittenVariable, WrittenVariables, LastVariable, MoreVariables, Tree, Truth}
+use Rattle.mfotl_parse.specs.Grammar.{BareAtom, AtomOf, Comparison, Enclosed, Denied, Timed, Quantified, Joined}
 use Rattle.mfotl_parse.specs.Grammar.{variable_spelling, variables_spelling, interval_spelling, spelling, FitsVariable}
 use Rattle.mfotl_parse.specs.Grammar.{FitsVariables, Fits, left_precedence, is_shut, precedence, right_precedence}
 use Rattle.mfotl_parse.specs.Grammar.{is_timed, deepens}
-use Rattle.mfotl_parse.specs.Intervals.{any_distance}
 use Rattle.mfotl_parse.specs.Meanings.{Scope, variables_names, variables_scope, quantify, interval_of, names_behind}
 use Rattle.mfotl_parse.specs.Meanings.{value, node_count, right_levels, nesting, IntervalKeeps, PartsKeep, HasArity}
 use Rattle.mfotl_parse.specs.Meanings.{argument_count}
 use Rattle.mfotl_parse.specs.Occurrences.{variable_count, blank_count, name_of, place_of_variable}
-use Rattle.mfotl_parse.specs.Reading.{transition}
-use Rattle.mfotl_parse.specs.Shows.{variable_shown}
 use Rattle.mfotl_parse.specs.Transitions.{Rule, goes, within_nodes, within_depth}
-use Rattle.mfotl_parse.specs.SymbolTable.{binder_of, bound_more}
-use Rattle.mfotl_parse.specs.Operands.{truth}
-use Rattle.mfotl_parse.specs.Quantifiers.{bound_move}
-use Rattle.mfotl_parse.specs.Operators.{deepening}
 use Rattle.mfotl_parse.specs.States.{Frame, Parens, Negation, Moment, Binding, Left, depth, SymbolTable, Stage, Partial}
 use Rattle.mfotl_parse.specs.States.{ExpectOperand, AfterTemporal, ExpectVariable, AfterVariable}
-use Rattle.mfotl_parse.specs.Limits.{max_levels, max_nodes}
-use Rattle.mfotl_parse.proofs.OperatorLevels.{levels}
+use Rattle.mfotl_parse.proofs.{OperatorLevels.levels, TracedMoves.trace, TracedMoves.Leads}
 use Rattle.mfotl_parse.proofs.SpelledMoves.{at_place, context_at, moves, moves_both, AreKept}
-use Rattle.mfotl_parse.proofs.SpelledForms.{Takes, IsLoose, takes_whole, takes_behind, takes_closed, takes_less}
-use Rattle.mfotl_parse.proofs.SpelledForms.{takes_enclosed, takes_joined}
+use Rattle.mfotl_parse.proofs.SpelledForms.{Takes, IsLoose, takes_whole, takes_behind, takes_closed, takes_enclosed}
+use Rattle.mfotl_parse.proofs.SpelledForms.{takes_joined}
 use Rattle.mfotl_parse.proofs.SpelledParts.{scope_of, one, node_fits, node_fitted, bare_atom_leads, atom_leads}
 use Rattle.mfotl_parse.proofs.SpelledParts.{bare_exactly, atom_exactly, comparison_leads, takes_interval}
 use Rattle.mfotl_parse.proofs.SpelledParts.{arguments_nodes, arguments_nodes_are}
-use Rattle.mfotl_parse.proofs.TracedMoves.{trace, Leads}
 
 -- frames on the edge of a tree of this rule hold more tightly than what lies below
 abbrev pub Reaches : ℕ → ℕ → Type 0
@@ -49,8 +38,7 @@ Reaches rule edge = (edge ≤ 6) × ((o : Operator) → rule ≤ precedence o �
 
 -- a left operand's frames are closed by its operator
 apart : (o p : Operator) → left_precedence o ≤ precedence p → suc (precedence o) ≤ right_precedence p
-apart Equiv p h = (levels p).right_least
-apart o p h = let l = levels p in omega arith
+apart o p h = grind arith
 
 pub left_reaches : (o : Operator) → Reaches (left_precedence o) (suc (precedence o))
 left_reaches o = (omega (arith, (levels o).most), λ p h. apart o p h)
@@ -66,8 +54,7 @@ pub one_reaches : (edge : ℕ) → edge ≤ 1 → Reaches 1 edge
 one_reaches edge h = (omega (arith, h), λ p k. omega (arith, h, k, (levels p).right))
 
 pub looser : (rule more : ℕ) (stack : List Frame) → rule ≤ more → IsLoose rule stack → IsLoose more stack
-looser rule more [] h k = tt
-looser rule more (frame ∷ stack) h k = omega (arith, h, k)
+looser rule more stack h k = grind arith
 
 pub depth_fitted : (stack : List Frame) (at : ℕ) → (within_depth at stack).broken ≡ false → depth stack < max_levels
 depth_fitted stack at h = leb-false max_levels (depth stack) h
@@ -86,10 +73,7 @@ module _ (sig : List PredOf) where
       (names : SymbolTable) (keeps others : Type 0)
       → ts ≡ us → nodes ≡ more → (others → keeps) → (depth p.context.stack ≤ max_levels → keeps → others)
       → Takes sig p ts base edge v nodes names keeps → Takes sig p us base edge v more names others
-  takes_as p ts us base edge v nodes more names keeps others spelled same all back t =
-      takes_less sig p us base edge edge v more names keeps others (omega arith) all back
-      (subst (λ (n : ℕ). Takes sig p us base edge v n names keeps) same
-      (subst (λ (xs : List Lexeme). Takes sig p xs base edge v nodes names keeps) spelled t))
+  takes_as p ts us base edge v nodes more names keeps others spelled same all back t = grind arith
 
   -- ---- quantified variables
 
@@ -107,9 +91,7 @@ module _ (sig : List PredOf) where
       (at_place (AfterVariable q) (Binding q (length names.bound_sorts) (name_of v) ∷ stack) (suc nodes)
       (bound_more None names)) (variable_rules stack v nodes) (variable_shown v (depth stack) nodes)
   unfolding moves trace transition
-  variable_leads q (Bare name) stack nodes names fits = record { moved = rw fits; shows = rw fits }
-  variable_leads q (Asked mark name) stack nodes names fits =
-      record { moved = rw (fits.0, fits.1); shows = rw (fits.0, fits.1) }
+  variable_leads q v stack nodes names fits = grind arith
 
   -- a variable and the mark behind it
   bound_read : (q : Quantifier) (v : WrittenVariable) (mark : Lexeme) (now : Stage) (c : Class) (stack : List Frame)
@@ -183,24 +165,20 @@ module _ (sig : List PredOf) where
   joins_kept : (deep : Bool) (at nodes inner : ℕ) (stack : List Frame)
       → depth stack + right_levels deep inner ≤ max_levels → nodes < max_nodes
       → AreKept (deepening deep at stack (within_nodes at nodes ∷ []))
-  joins_kept true at nodes inner stack h k = (depth_fits stack at (omega (arith, h)), (node_fits nodes at k, tt))
-  joins_kept false at nodes inner stack h k = (node_fits nodes at k, tt)
+  joins_kept deep at nodes inner stack h k = grind arith
 
   joins_open : (deep : Bool) (at nodes : ℕ) (stack : List Frame) → depth stack ≤ max_levels
       → AreKept (deepening deep at stack (within_nodes at nodes ∷ []))
       → cond deep (suc (depth stack)) (depth stack) ≤ max_levels
-  joins_open true at nodes stack h k = omega (arith, depth_fitted stack at k.0)
-  joins_open false at nodes stack h k = h
+  joins_open deep at nodes stack h k = grind arith
 
   right_fitted : (deep : Bool) (inner levels : ℕ) → cond deep (suc levels) levels + inner ≤ max_levels
       → levels + right_levels deep inner ≤ max_levels
-  right_fitted true inner levels h = omega (arith, h)
-  right_fitted false inner levels h = omega (arith, h)
+  right_fitted deep inner levels h = grind arith
 
   right_fits : (deep : Bool) (inner levels : ℕ) → levels + right_levels deep inner ≤ max_levels
       → cond deep (suc levels) levels + inner ≤ max_levels
-  right_fits true inner levels h = omega (arith, h)
-  right_fits false inner levels h = omega (arith, h)
+  right_fits deep inner levels h = grind arith
 
   -- a tree that fits is read, with any frames below that are loose enough
   pub reads : (tree : Tree) (rule edge : ℕ) → Fits rule tree → Reaches rule edge → (is_shut tree ≡ false → edge ≤ 1)

@@ -1,19 +1,16 @@
 -- The frames in memory and the stack that clauses see.
 use Rattle.std.proofs.Common.{◌≡◌, ℕ, suc, ◌+◌, ◌<◌, ◌≤◌, true, false, cond, List, [], ◌∷◌, ◌++◌, length, map, reverse}
-use Rattle.std.proofs.Common.{Option, Some, None, option_to_list, IsSome, MatchOption, subst, refl, sym, ap, ◌∙◌, arith}
-use Rattle.std.proofs.Common.{add-one}
-use Rattle.std.proofs.lemmas.Bool.{le-ltb, lt-ltb}
+use Rattle.std.proofs.Common.{Option, None, option_to_list, IsSome, MatchOption, refl, ap, ◌∙◌, arith}
+use Rattle.std.proofs.{lemmas.Bool.le-ltb, lemmas.Bool.lt-ltb, lemmas.Grind.common_steps}
 use Rattle.std.proofs.lemmas.List.{map-append, reverse-append, length-append}
 use Rattle.mfotl_model.specs.Formulas.{Form}
 use Rattle.mfotl_parse.specs.declared.frame.Frame.{Frame as FrameValue}
 use Rattle.mfotl_model.specs.declared.interval.Interval.{Interval}
-use Rattle.mfotl_parse.specs.Intervals.{with_interval}
+use Rattle.mfotl_parse.specs.{Intervals.with_interval, Operators.around, Reading.is_closed, Views.frame_of}
+use Rattle.mfotl_parse.specs.{Views.stack_of}
 use Rattle.mfotl_parse.specs.SymbolTable.{bound_as, inner_or, binder_of}
-use Rattle.mfotl_parse.specs.Operators.{around}
-use Rattle.mfotl_parse.specs.Reading.{is_closed}
 use Rattle.mfotl_parse.specs.Reduction.{reduce, hold, closed}
 use Rattle.mfotl_parse.specs.States.{Frame, opens_level, depth}
-use Rattle.mfotl_parse.specs.Views.{frame_of, stack_of}
 
 -- the newest frame stands first on the stack
 pub stack_of_push : (xs : List FrameValue) (x : FrameValue) → stack_of (xs ++ x ∷ []) ≡ frame_of x ∷ stack_of xs
@@ -28,31 +25,25 @@ depth_of_frame frame stack = refl
 
 pub depth_of_empty : (xs : List FrameValue) → length xs ≡ 0 → depth (stack_of xs) ≡ 0
 unfolding depth stack_of
-depth_of_empty [] none = refl
-depth_of_empty (x ∷ xs) none = absurd (omega arith)
+depth_of_empty xs none = grind (arith, common_steps)
 
 -- nothing is open
 pub reduce_nothing : (rule : ℕ) (xs : List FrameValue) → length xs ≡ 0 → (f : Form) → reduce rule f (stack_of xs)
     ≡ record { form = f; stack = stack_of xs }
 unfolding reduce stack_of
-reduce_nothing rule [] none f = refl
-reduce_nothing rule (x ∷ xs) none f = absurd (omega arith)
+reduce_nothing rule xs none f = grind (arith, common_steps)
 
 -- the innermost frame doesn't hold more tightly than the rule
 pub reduce_loose : (rule : ℕ) (frame : Frame) (stack : List Frame) → hold frame ≤ rule → (f : Form)
     → reduce rule f (frame ∷ stack) ≡ record { form = f; stack = frame ∷ stack }
 unfolding reduce
-reduce_loose rule frame stack loose f =
-    ap (λ b. cond b (reduce rule (closed frame f) stack) (record { form = f; stack = frame ∷ stack }))
-    (le-ltb _ _ loose)
+reduce_loose rule frame stack loose f = cc (le-ltb _ _ loose)
 
 -- the innermost frame does
 pub reduce_tight : (rule : ℕ) (frame : Frame) (stack : List Frame) → rule < hold frame → (f : Form)
     → reduce rule f (frame ∷ stack) ≡ reduce rule (closed frame f) stack
 unfolding reduce
-reduce_tight rule frame stack tight f =
-    ap (λ b. cond b (reduce rule (closed frame f) stack) (record { form = f; stack = frame ∷ stack }))
-    (lt-ltb _ _ tight)
+reduce_tight rule frame stack tight f = cc (lt-ltb _ _ tight)
 
 -- the newest frame, and those below
 pub stack_of_last : (xs front : List FrameValue) (x : FrameValue) → xs ≡ front ++ x ∷ [] → stack_of xs
@@ -61,16 +52,11 @@ stack_of_last xs front x cut = ap stack_of cut ∙ stack_of_push front x
 
 pub depth_more : (xs front : List FrameValue) (x : FrameValue) → xs ≡ front ++ x ∷ [] → opens_level (frame_of x)
     ≡ true → depth (stack_of xs) ≡ depth (stack_of front) + 1
-depth_more xs front x cut opens =
-    ap depth (stack_of_last xs front x cut) ∙ depth_of_frame (frame_of x) (stack_of front)
-    ∙ ap (λ b. cond b (suc (depth (stack_of front))) (depth (stack_of front))) opens
-    ∙ sym (add-one (depth (stack_of front)))
+depth_more xs front x cut opens = grind (arith, stack_of_last, depth_of_frame)
 
 pub depth_same : (xs front : List FrameValue) (x : FrameValue) → xs ≡ front ++ x ∷ [] → opens_level (frame_of x)
     ≡ false → depth (stack_of xs) ≡ depth (stack_of front)
-depth_same xs front x cut opens =
-    ap depth (stack_of_last xs front x cut) ∙ depth_of_frame (frame_of x) (stack_of front)
-    ∙ ap (λ b. cond b (suc (depth (stack_of front))) (depth (stack_of front))) opens
+depth_same xs front x cut opens = cc (stack_of_last xs front x cut, depth_of_frame (frame_of x) (stack_of front))
 
 -- the variable of the newest frame, or of those below
 pub binder_of_last : (name : List ℕ) (xs front : List FrameValue) (x : FrameValue) → xs ≡ front ++ x ∷ []
@@ -80,15 +66,13 @@ binder_of_last name xs front x cut = ap (binder_of name) (stack_of_last xs front
 
 pub binder_of_nothing : (name : List ℕ) (xs : List FrameValue) → length xs ≡ 0 → binder_of name (stack_of xs) ≡ None
 unfolding binder_of stack_of
-binder_of_nothing name [] none = refl
-binder_of_nothing name (x ∷ xs) none = absurd (omega arith)
+binder_of_nothing name xs none = grind (arith, common_steps)
 
 -- nothing was popped: nothing is open
 pub with_interval_nothing : (interval : Interval) (old new : List FrameValue) → old ≡ new ++ [] → length new ≡ 0
     → stack_of new ≡ with_interval interval (stack_of old)
 unfolding stack_of
-with_interval_nothing interval old [] same none = ap (λ ys. with_interval interval (stack_of ys)) (sym same)
-with_interval_nothing interval old (x ∷ new) same none = absurd (omega arith)
+with_interval_nothing interval old new same none = grind (arith, common_steps)
 
 none_is_some : IsSome {T = FrameValue} None → ⊥
 none_is_some h = absurd cc
@@ -99,31 +83,20 @@ pub closes_popped : (rule : ℕ) (old front new : List FrameValue) (last : Frame
     → (0 < length old → IsSome popped)
     → MatchOption popped ((f : Form) → reduce rule f (stack_of old) ≡ record { form = f; stack = stack_of new })
     (λ frame. (f : Form) → reduce rule f (stack_of old) ≡ reduce rule (closed (frame_of frame) f) (stack_of new))
-closes_popped rule old front new last None cut tight taken there =
-    absurd (none_is_some (there (omega (arith, ap length cut, length-append front (last ∷ [])))))
-closes_popped rule old front new last (Some frame) cut tight taken there =
-    let one : frame_of last ∷ stack_of front ≡ frame_of frame ∷ stack_of new = sym (stack_of_last old front last cut)
-    ∙ stack_of_last old new frame taken in
-    let same : frame_of last ≡ frame_of frame = cc in
-    let tight_too : rule < hold (frame_of frame) = subst (λ (x : Frame). rule < hold x) same tight in
-    λ f. ap (reduce rule f) (stack_of_last old new frame taken)
-    ∙ reduce_tight rule (frame_of frame) (stack_of new) tight_too f
+closes_popped rule old front new last popped cut tight taken there =
+    grind (arith, common_steps, none_is_some, length-append, stack_of_last, reduce_tight)
 
 -- a newest frame that doesn't
 pub keeps_loose : (rule : ℕ) (xs front : List FrameValue) (last : FrameValue) → xs ≡ front ++ last ∷ []
     → hold (frame_of last) ≤ rule
     → (f : Form) → reduce rule f (stack_of xs) ≡ record { form = f; stack = stack_of xs }
 keeps_loose rule xs front last cut loose f =
-    let same = stack_of_last xs front last cut in
-    ap (reduce rule f) same ∙ reduce_loose rule (frame_of last) (stack_of front) loose f
-    ∙ ap (λ (s : List Frame). record { form = f; stack = s }) (sym same)
+    cc (stack_of_last xs front last cut, reduce_loose rule (frame_of last) (stack_of front) loose f)
 
 pub around_nothing : (xs : List FrameValue) → length xs ≡ 0 → around (stack_of xs) ≡ None
 unfolding stack_of
-around_nothing [] none = refl
-around_nothing (x ∷ xs) none = absurd (omega arith)
+around_nothing xs none = grind (arith, common_steps)
 
 pub closed_nothing : (xs : List FrameValue) → length xs ≡ 0 → true ≡ is_closed (stack_of xs)
 unfolding stack_of
-closed_nothing [] none = refl
-closed_nothing (x ∷ xs) none = absurd (omega arith)
+closed_nothing xs none = grind (arith, common_steps)

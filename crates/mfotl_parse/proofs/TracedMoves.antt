@@ -1,17 +1,14 @@
 -- What each of some tokens shows, by the reader's moves.
 use Rattle.std.proofs.Common.{◌≡◌, ℕ, Bool, true, false, List, [], ◌∷◌, ◌++◌, Option, Some, None, refl, ap, sym, ◌∙◌}
+use Rattle.std.proofs.Common.{arith}
 use Rattle.mfotl_lex.specs.Lexemes.{Lexeme}
 use Rattle.mfotl_sig.specs.Preds.{PredOf}
-use Rattle.mfotl_parse.specs.declared.class.Class.{Class}
+use Rattle.mfotl_parse.specs.declared.{class.Class.Class, fault.PolicyFault.PolicyFault}
+use Rattle.mfotl_parse.specs.declared.{fault.PolicyFault.TheVariants.Syntax}
 use Rattle.mfotl_parse.specs.declared.class.Class.TheVariants as classes
-use Rattle.mfotl_parse.specs.declared.fault.PolicyFault.{PolicyFault}
-use Rattle.mfotl_parse.specs.declared.fault.PolicyFault.TheVariants.{Syntax}
-use Rattle.mfotl_parse.specs.Classes.{class_of}
+use Rattle.mfotl_parse.specs.{Classes.class_of, Operands.operand_move, Operands.fresh_move, Operators.now_behind}
+use Rattle.mfotl_parse.specs.{Reading.transition_at, Reading.transition, Shows.Showing, Shows.if_broken}
 use Rattle.mfotl_parse.specs.Transitions.{Rule, Transition, goes, fault_of}
-use Rattle.mfotl_parse.specs.Operands.{operand_move, fresh_move}
-use Rattle.mfotl_parse.specs.Operators.{now_behind}
-use Rattle.mfotl_parse.specs.Reading.{transition_at, transition}
-use Rattle.mfotl_parse.specs.Shows.{Showing, if_broken}
 use Rattle.mfotl_parse.specs.States.{Frame, SymbolTable, Context, Partial, ExpectOperand, AfterTemporal}
 use Rattle.mfotl_parse.proofs.SpelledMoves.{at_place, moves, move_is, moves_one, moves_both, moves_cons, same_next}
 
@@ -60,9 +57,7 @@ module _ (sig : List PredOf) where
   -- an operand that begins with no bracket is read alike where an interval may stand
   fresh_same : (p : Context) (t : Lexeme) (c : Class) → (c ≡ classes.OpenBracket → ⊥) → (c ≡ classes.OpenParen → ⊥)
       → fresh_move p t c ≡ operand_move p t c
-  fresh_same p t classes.OpenBracket square round = absurd (square refl)
-  fresh_same p t classes.OpenParen square round = absurd (round refl)
-  fresh_same p t _ square round = refl
+  fresh_same p t c square round = grind arith
 
   pub trace_any : (timed : Bool) (t : Lexeme) (ts : List Lexeme) (c : Class) (stack : List Frame) (nodes : ℕ)
       (names : SymbolTable) → class_of t ≡ c → (c ≡ classes.OpenBracket → ⊥) → (c ≡ classes.OpenParen → ⊥)
@@ -81,8 +76,7 @@ module _ {sig : List PredOf} where
   pub leads_move : {p q : Partial} {rules : List Rule} (t : Lexeme) → transition sig p t ≡ goes rules q
       → Leads sig (t ∷ []) p q rules (broken rules ∷ [])
   unfolding trace
-  leads_move {p = p} {q = q} {rules = rules} t e =
-      record { moved = moves_one sig t p q rules e; shows = trace_move sig t [] p q rules e }
+  leads_move {p = p} {q = q} {rules = rules} t e = search (moves_one, trace_move)
 
   pub leads_one : {q : Partial} {rules : List Rule} (t : Lexeme) (c : Class) (p : Partial) → class_of t ≡ c
       → transition_at p.now sig p.context t c ≡ goes rules q → Leads sig (t ∷ []) p q rules (broken rules ∷ [])
@@ -91,16 +85,12 @@ module _ {sig : List PredOf} where
   -- some tokens, and then others
   pub leads_then : {a : List Lexeme} {p q : Partial} {rules : List Rule} {x : Showing} (b : List Lexeme)
       → Leads sig a p q rules x → trace sig (a ++ b) p ≡ x ++ trace sig b q
-  leads_then {a = a} {p = p} {q = q} {rules = rules} b l =
-      trace_both sig a b p q rules l.moved ∙ ap (λ (s : Showing). s ++ trace sig b q) l.shows
+  leads_then {a = a} {p = p} {q = q} {rules = rules} b l = cc (trace_both sig a b p q rules l.moved)
 
   pub leads_both : {a b : List Lexeme} {p q r : Partial} {rules others : List Rule} {x y : Showing}
       → Leads sig a p q rules x → Leads sig b q r others y → Leads sig (a ++ b) p r (rules ++ others) (x ++ y)
   leads_both {a = a} {b = b} {p = p} {q = q} {r = r} {rules = rules} {others = others} {x = x} l k =
-      record {
-        moved = moves_both sig a b p q r rules others l.moved k.moved;
-        shows = leads_then b l ∙ ap (λ (s : Showing). x ++ s) k.shows;
-      }
+      grind (arith, moves_both, leads_then)
 
   pub leads_none : (p : Partial) → Leads sig [] p p [] []
   unfolding trace moves

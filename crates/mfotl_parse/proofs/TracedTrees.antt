@@ -1,33 +1,24 @@
 -- What each token of a whole tree shows.
 use Rattle.std.proofs.Common.{◌≡◌, ℕ, ℤ, suc, ◌+◌, ◌≤◌, Bool, true, false, List, [], ◌∷◌, ◌++◌, length, Option, Some}
-use Rattle.std.proofs.Common.{None, refl, ap, sym, ◌∙◌, inl, inr, arith}
+use Rattle.std.proofs.Common.{None, refl, ap, sym, ◌∙◌, arith}
 use Rattle.std.proofs.lemmas.List.{append_assoc}
 use Rattle.std.specs.Prelude.{cond, ◌&&◌}
 use Rattle.mfotl_lex.specs.Lexemes.{Lexeme}
 use Rattle.mfotl_model.specs.declared.interval.Interval.{Interval}
 use Rattle.mfotl_sig.specs.Preds.{PredOf}
-use Rattle.mfotl_parse.specs.declared.class.Class.{Class}
+use Rattle.mfotl_parse.specs.declared.{class.Class.Class, class.Quantifier.Quantifier, fault.PolicyFault.PolicyFault}
 use Rattle.mfotl_parse.specs.declared.class.Class.TheVariants as classes
-use Rattle.mfotl_parse.specs.declared.class.Quantifier.{Quantifier}
-use Rattle.mfotl_parse.specs.declared.fault.PolicyFault.{PolicyFault}
-use Rattle.mfotl_parse.specs.Classes.{class_of}
-use Rattle.mfotl_parse.specs.Grammar.{WrittenVariable, Bare, Asked, WrittenTerm, Named, Number, Quoted}
-use Rattle.mfotl_parse.specs.Grammar.{WrittenVariables, LastVariable, MoreVariables, Tree, Truth, BareAtom, AtomOf}
-use Rattle.mfotl_parse.specs.Grammar.{Comparison, Enclosed, Denied, Timed, Quantified, Joined, term_spelling}
+use Rattle.mfotl_parse.specs.{Classes.class_of, Intervals.any_distance, Occurrences.variable_count, Occurrences.name_of}
+use Rattle.mfotl_parse.specs.{SymbolTable.binder_of, SymbolTable.bound_more, Operands.operand_move}
+use Rattle.mfotl_parse.specs.{Comparisons.compared_move, Lookahead.maybe_move, Lookahead.maybe_number_move}
+use Rattle.mfotl_parse.specs.{Operators.deepening, Operators.now_behind, Reading.transition, Reduction.reduce}
+use Rattle.mfotl_parse.specs.Grammar.{WrittenTerm, WrittenVariables, LastVariable, MoreVariables, Tree, Truth, BareAtom}
+use Rattle.mfotl_parse.specs.Grammar.{AtomOf, Comparison, Enclosed, Denied, Timed, Quantified, Joined, term_spelling}
 use Rattle.mfotl_parse.specs.Grammar.{variable_spelling, variables_spelling, interval_spelling, spelling, FitsTerm}
-use Rattle.mfotl_parse.specs.Grammar.{FitsVariable, FitsVariables, Fits, IsAtomName, left_precedence, is_shut}
-use Rattle.mfotl_parse.specs.Grammar.{precedence, right_precedence, is_timed, deepens}
-use Rattle.mfotl_parse.specs.Intervals.{any_distance}
+use Rattle.mfotl_parse.specs.Grammar.{FitsVariables, Fits, IsAtomName, left_precedence, is_shut, precedence}
+use Rattle.mfotl_parse.specs.Grammar.{right_precedence, is_timed, deepens}
 use Rattle.mfotl_parse.specs.Meanings.{interval_of, names_behind, value, node_count}
-use Rattle.mfotl_parse.specs.Occurrences.{variable_count, name_of}
 use Rattle.mfotl_parse.specs.Transitions.{Rule, Transition, goes, first_keeps, within_depth, within_nodes}
-use Rattle.mfotl_parse.specs.SymbolTable.{binder_of, bound_more}
-use Rattle.mfotl_parse.specs.Operands.{operand_move}
-use Rattle.mfotl_parse.specs.Comparisons.{compared_move}
-use Rattle.mfotl_parse.specs.Lookahead.{maybe_move, maybe_number_move}
-use Rattle.mfotl_parse.specs.Operators.{deepening, now_behind}
-use Rattle.mfotl_parse.specs.Reading.{transition}
-use Rattle.mfotl_parse.specs.Reduction.{reduce}
 use Rattle.mfotl_parse.specs.Shows.{Showing, level_first, postponed, is_integer, begins_with_number, enclosed_shown}
 use Rattle.mfotl_parse.specs.Shows.{prefix_shown, variable_shown, variables_shown, joint_shown, levels_right}
 use Rattle.mfotl_parse.specs.Shows.{interval_shown, is_omitted, tree_shown, shown_by}
@@ -55,8 +46,7 @@ module _ (sig : List PredOf) (stack : List Frame) (nodes : ℕ) (names : SymbolT
       ≡ level_first at (depth stack)
       (traced t.at (compared_move (context_at (Parens ∷ stack) nodes names) (number_side number_at z) t c)
       (trace sig ts))
-  by_sign at number_at z t ts rules q (classes.Sign sign) e = refl
-  by_sign at number_at z t ts rules q _ e = absurd (no_move e)
+  by_sign at number_at z t ts rules q c e = grind arith
 
   behind_number : (at number_at : ℕ) (z : ℤ) (ts : List Lexeme) (rules : List Rule) (q : Partial) → IsHave q.now
       → moves sig ts
@@ -73,8 +63,7 @@ module _ (sig : List PredOf) (stack : List Frame) (nodes : ℕ) (names : SymbolT
       → then_moves m (moves sig ts) ≡ goes rules q
       → traced number_at (first_keeps (within_depth at stack) m) (trace sig ts)
       ≡ level_first at (depth stack) (traced number_at m (trace sig ts))
-  first_kept at number_at None ts rules q e = absurd (no_move e)
-  first_kept at number_at (Some m) ts rules q e = refl
+  first_kept at number_at m ts rules q e = grind arith
 
   rest_of : (m : Transition) (o : Option Transition) (rules : List Rule) (q : Partial) → behind_move m o
       ≡ goes rules q → (others : List Rule) × (o ≡ goes others q)
@@ -85,11 +74,8 @@ module _ (sig : List PredOf) (stack : List Frame) (nodes : ℕ) (names : SymbolT
       → then_moves (operand_move (context_at (Parens ∷ stack) nodes names) t c) (moves sig ts) ≡ goes rules q
       → traced t.at (maybe_move (context_at stack nodes names) at t c) (trace sig ts)
       ≡ postponed at (depth stack) (is_integer c) (traced t.at (operand_move (context_at (Parens ∷ stack) nodes names) t c) (trace sig ts))
-  by_class at t ts rules q (classes.Integer z) have e =
-      let there : Partial = at_place (ExpectSign (number_side t.at z)) (Parens ∷ stack) nodes names in
-      let rest = rest_of (record { rules = []; next = there }) (moves sig ts there) rules q e in
-      ap (λ (s : Showing). [] ∷ s) (behind_number at t.at z ts rest.0 q have rest.1)
-  by_class at t ts rules q c have e = first_kept at t.at (operand_move (context_at (Parens ∷ stack) nodes names) t c) ts rules q e
+  by_class at t ts rules q c have e =
+      grind (arith, at_place, number_side, rest_of, moves, behind_number, first_kept, context_at)
 
   maybe_trace : (at : ℕ) (ts : List Lexeme) (rules : List Rule) (q : Partial) → IsHave q.now
       → moves sig ts (at_place ExpectOperand (Parens ∷ stack) nodes names) ≡ goes rules q
@@ -97,8 +83,7 @@ module _ (sig : List PredOf) (stack : List Frame) (nodes : ℕ) (names : SymbolT
       ≡ postponed at (depth stack) (begins_with_number ts)
       (trace sig ts (at_place ExpectOperand (Parens ∷ stack) nodes names))
   unfolding moves trace transition
-  maybe_trace at [] rules q have e = absurd (not_have (λ n. n) e have)
-  maybe_trace at (t ∷ ts) rules q have e = by_class at t ts rules q (class_of t) have e
+  maybe_trace at ts rules q have e = grind (arith, not_have, by_class)
 
   pub enclosed_trace : (timed : Bool) (opening : Lexeme) (ts : List Lexeme) (rules : List Rule) (q : Partial)
       → class_of opening ≡ classes.OpenParen → IsHave q.now
@@ -164,42 +149,29 @@ module _ (sig : List PredOf) where
 
   joint_broken : (deep : Bool) (at nodes : ℕ) (stack : List Frame)
       → broken (deepening deep at stack (within_nodes at nodes ∷ [])) ≡ joint_shown deep at (depth stack) nodes
-  joint_broken true at nodes stack = refl
-  joint_broken false at nodes stack = refl
+  joint_broken deep at nodes stack = grind arith
 
   levels_are : (deep : Bool) (levels : ℕ) → cond deep (suc levels) levels ≡ levels_right deep levels
-  levels_are true levels = refl
-  levels_are false levels = refl
+  levels_are deep levels = grind arith
 
   -- an operand is read alike where an interval may stand
   reached_any : (timed : Bool) (ts : List Lexeme) (stack : List Frame) (nodes : ℕ) (names : SymbolTable)
       (rules : List Rule) (q : Partial) → IsHave q.now
       → moves sig ts (at_place ExpectOperand stack nodes names) ≡ goes rules q
       → moves sig ts (at_place (now_behind timed) stack nodes names) ≡ goes rules q
-  reached_any false ts stack nodes names rules q have e = e
-  reached_any true ts stack nodes names rules q have e = fresh_too sig stack nodes names ts rules q have e
+  reached_any timed ts stack nodes names rules q have e = grind (arith, fresh_too)
 
   comparison_any : (timed : Bool) (left : WrittenTerm) (ts : List Lexeme) (stack : List Frame) (nodes : ℕ)
       (names : SymbolTable) → FitsTerm left
       → trace sig (term_spelling left ++ ts) (at_place (now_behind timed) stack nodes names)
       ≡ trace sig (term_spelling left ++ ts) (at_place ExpectOperand stack nodes names)
-  comparison_any timed (Named (Bare name)) ts stack nodes names fits =
-      trace_any sig timed name _ classes.Name stack nodes names fits (λ e. cc) (λ e. cc)
-  comparison_any timed (Named (Asked mark name)) ts stack nodes names fits =
-      trace_any sig timed mark _ classes.Question stack nodes names fits.0 (λ e. cc) (λ e. cc)
-  comparison_any timed (Number token z) ts stack nodes names fits =
-      trace_any sig timed token _ (classes.Integer z) stack nodes names fits (λ e. cc) (λ e. cc)
-  comparison_any timed (Quoted token) ts stack nodes names fits =
-      trace_any sig timed token _ classes.Text stack nodes names fits (λ e. cc) (λ e. cc)
+  comparison_any timed left ts stack nodes names fits = grind (arith, trace_any)
 
   atom_any : (timed : Bool) (name : Lexeme) (ts : List Lexeme) (stack : List Frame) (nodes : ℕ) (names : SymbolTable)
       → IsAtomName name
       → trace sig (name ∷ ts) (at_place (now_behind timed) stack nodes names)
       ≡ trace sig (name ∷ ts) (at_place ExpectOperand stack nodes names)
-  atom_any timed name ts stack nodes names (inl class) =
-      trace_any sig timed name ts classes.Name stack nodes names class (λ e. cc) (λ e. cc)
-  atom_any timed name ts stack nodes names (inr class) =
-      trace_any sig timed name ts classes.Blank stack nodes names class (λ e. cc) (λ e. cc)
+  atom_any timed name ts stack nodes names h = grind (arith, trace_any)
 
   -- a tree that fits shows what its tokens show, whatever is open around it
   pub shows : (tree : Tree) (rule edge : ℕ) → Fits rule tree → Reaches rule edge → (is_shut tree ≡ false → edge ≤ 1)

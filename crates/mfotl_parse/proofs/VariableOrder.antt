@@ -1,44 +1,28 @@
 -- The free variables of a policy that was read are numbered in the order in which they first occur.
-use Rattle.std.proofs.Common.{◌≡◌, ℕ, zero, suc, ◌+◌, ◌-◌, ◌<◌, ◌≤◌, Bool, true, false, cond, not, ◌&&◌, ◌||◌, nat_eq}
+use Rattle.std.proofs.Common.{◌≡◌, ℕ, zero, suc, ◌+◌, ◌<◌, ◌≤◌, Bool, true, false, cond, not, ◌&&◌, ◌||◌, nat_eq}
 use Rattle.std.proofs.Common.{List, [], ◌∷◌, ◌++◌, length, Option, Some, None, refl, sym, ap, ◌∙◌, arith}
 use Rattle.std.proofs.lemmas.Bool.{lt-ltb, le-ltb, eqb-true}
-use Rattle.std.proofs.lemmas.List.{append-nil, length-append}
-use Rattle.std.proofs.lemmas.List.Elements.{filter-append}
-use Rattle.std.proofs.lemmas.Map.Views.{any-filter_same}
-use Rattle.std.specs.Prelude.{nat_lt}
-use Rattle.std.specs.List.{filter, range_with_len}
-use Rattle.mfotl_model.specs.declared.interval.Interval.{Interval}
-use Rattle.mfotl_model.specs.declared.policy.Sort.{Sort}
-use Rattle.mfotl_model.specs.declared.term.Term.{Term}
-use Rattle.mfotl_model.specs.declared.term.Term.TheVariants.{Var, Const}
-use Rattle.mfotl_model.specs.Formulas as forms
+use Rattle.std.proofs.{lemmas.List.append-nil, lemmas.List.length-append, lemmas.List.Elements.filter-append}
+use Rattle.std.proofs.{lemmas.Map.Views.any-filter_same, lemmas.Grind.common_steps}
+use Rattle.std.specs.{Prelude.nat_lt, List.filter, List.range_with_len}
+use Rattle.mfotl_model.specs.declared.{interval.Interval.Interval, policy.Sort.Sort, term.Term.Term}
 use Rattle.mfotl_model.specs.Formulas.{Form}
 use Rattle.mfotl_model.specs.FreeVariables.{among, without, joined, variable_in, variables_in, fv}
 use Rattle.mfotl_model.proofs.VariableLemmas.{filter-filter, joined_assoc, variables_in-cons, joined_nothing}
 use Rattle.mfotl_model.proofs.LogicLemmas.{among_range}
-use Rattle.mfotl_sig.specs.Preds.{PredOf, named}
-use Rattle.mfotl_parse.specs.declared.class.Operator.{Operator}
-use Rattle.mfotl_parse.specs.declared.class.Operator.TheVariants as operators
-use Rattle.mfotl_parse.specs.declared.class.Quantifier.{Quantifier}
-use Rattle.mfotl_parse.specs.declared.class.Quantifier.TheVariants as quantifiers
-use Rattle.mfotl_parse.specs.declared.class.Temporal.{Temporal}
-use Rattle.mfotl_parse.specs.declared.class.Temporal.TheVariants as temporals
-use Rattle.mfotl_parse.specs.Arguments.{call_of, blanks}
-use Rattle.mfotl_parse.specs.SortsDue.{due_sort, after_due}
-use Rattle.mfotl_parse.specs.Grammar.{WrittenTerm, Named, Number, Quoted, WrittenArgument, Given, Hidden}
-use Rattle.mfotl_parse.specs.Grammar.{WrittenArguments, LastArgument, MoreArguments, WrittenVariables, LastVariable}
-use Rattle.mfotl_parse.specs.Grammar.{MoreVariables, Tree, Truth, BareAtom, AtomOf, Comparison, Enclosed, Denied, Timed}
-use Rattle.mfotl_parse.specs.Grammar.{Quantified, Joined}
+use Rattle.mfotl_sig.specs.Preds.{PredOf}
+use Rattle.mfotl_parse.specs.declared.{class.Operator.Operator, class.Quantifier.Quantifier, class.Temporal.Temporal}
+use Rattle.mfotl_parse.specs.{Arguments.blanks, SortsDue.due_sort, SortsDue.after_due, Operands.truth}
+use Rattle.mfotl_parse.specs.{States.SymbolTable, Limits.max_free}
+use Rattle.mfotl_parse.specs.Grammar.{WrittenTerm, WrittenArgument, WrittenArguments, LastArgument, MoreArguments}
+use Rattle.mfotl_parse.specs.Grammar.{WrittenVariables, LastVariable, MoreVariables, Tree, Truth, BareAtom, AtomOf}
+use Rattle.mfotl_parse.specs.Grammar.{Comparison, Enclosed, Denied, Timed, Quantified, Joined}
 use Rattle.mfotl_parse.specs.Meanings.{Scope, operand_of, term_names, argument_term, argument_names, arguments_terms}
 use Rattle.mfotl_parse.specs.Meanings.{arguments_names, atom, variables_names, variables_scope, quantify, interval_of}
 use Rattle.mfotl_parse.specs.Meanings.{names_behind, value}
-use Rattle.mfotl_parse.specs.Occurrences.{name_of, place_of_variable, place_of}
 use Rattle.mfotl_parse.specs.SymbolTable.{number_of, free_place, free_or_new, with_free, bound_or_free, occurring}
 use Rattle.mfotl_parse.specs.SymbolTable.{bound_more, term_of}
-use Rattle.mfotl_parse.specs.Operands.{truth}
 use Rattle.mfotl_parse.specs.Reduction.{momentary, operator_form, quantified}
-use Rattle.mfotl_parse.specs.States.{SymbolTable}
-use Rattle.mfotl_parse.specs.Limits.{max_free}
 use Rattle.mfotl_parse.proofs.FreeNames.{placed_free, compared_free, variables_free}
 use Rattle.mfotl_parse.proofs.NamesOrder.{Grows, term_grows, arguments_grow, tree_grows, found_within}
 
@@ -55,10 +39,7 @@ among_free : (y : ℕ) (xs : List ℕ) → among y (free_in xs) ≡ (is_free y &
 among_free y xs = any-filter_same (nat_eq y) is_free (is_free y) (λ z e. ap is_free (sym (eqb-true y z e))) xs
 
 both_tests : (p a : Bool) → (not a && p) ≡ (p && not (p && a))
-both_tests true true = refl
-both_tests true false = refl
-both_tests false true = refl
-both_tests false false = refl
+both_tests p a = grind arith
 
 pub free_joined : (xs ys : List ℕ) → free_in (joined xs ys) ≡ joined (free_in xs) (free_in ys)
 free_joined xs ys =
@@ -72,11 +53,7 @@ free_joined xs ys =
     (λ y. both_tests (is_free y) (among y xs) ∙ ap (λ (b : Bool). is_free y && not b) (sym (among_free y xs))) ys))
 
 bound_differs : (x y : ℕ) → max_free ≤ x → is_free y ≡ (not (nat_eq y x) && is_free y)
-bound_differs x y above = by_test (nat_eq y x) refl
-  where
-    by_test : (b : Bool) → nat_eq y x ≡ b → is_free y ≡ (not b && is_free y)
-    by_test true e = let same = eqb-true y x e in le-ltb y max_free (omega (arith, same, above))
-    by_test false e = refl
+bound_differs x y above = grind arith
 
 pub free_without : (x : ℕ) (xs : List ℕ) → max_free ≤ x → free_in (without x xs) ≡ free_in xs
 free_without x xs above = filter-filter is_free (λ y. not (nat_eq y x)) is_free (λ y. bound_differs x y above) xs
@@ -141,9 +118,7 @@ name_order name at n None few = by_place (free_place name n) refl few
 
 term_order : (t : WrittenTerm) (scope : Scope) (n : SymbolTable) → length (term_names t scope n).free ≤ max_free
     → joined (seen n) (free_in (variable_in (term_of (operand_of t scope n)))) ≡ seen (term_names t scope n)
-term_order (Named v) scope n few = name_order (name_of v) (place_of_variable v) n (scope (name_of v)) few
-term_order (Number token z) scope n few = joined_nothing (seen n)
-term_order (Quoted token) scope n few = joined_nothing (seen n)
+term_order t scope n few = grind (arith, name_order, joined_nothing)
 
 seen_same : (n m : SymbolTable) → n.free ≡ m.free → seen n ≡ seen m
 seen_same n m e = ap (λ (xs : List (List ℕ × ℕ)). range_with_len 0 (length xs)) e
@@ -156,31 +131,20 @@ fewer n m g few = omega (arith, g.free, few)
 argument_order : (a : WrittenArgument) (sort : Sort) (scope : Scope) (n : SymbolTable)
     → length (argument_names a sort scope n).free ≤ max_free
     → joined (seen n) (free_in (variable_in (argument_term a scope n))) ≡ seen (argument_names a sort scope n)
-argument_order (Given t) sort scope n few =
-    let there = term_names t scope n in
-    let same = placed_free (operand_of t scope n) (place_of t) sort there in
-    term_order t scope n (omega (arith, ap length same, few))
-    ∙ seen_same there (argument_names (Given t) sort scope n) (sym same)
-argument_order (Hidden token) sort scope n few =
-    ap (joined (seen n)) (free_none (length n.bound_sorts)) ∙ joined_nothing (seen n)
+argument_order a sort scope n few = grind (arith, placed_free, term_order, seen_same, free_none, joined_nothing)
 
 one_then : (n m k : SymbolTable) (xs ys : List ℕ) → joined (seen n) (free_in xs) ≡ seen m
     → joined (seen m) (free_in ys) ≡ seen k → joined (seen n) (free_in (joined xs ys)) ≡ seen k
-one_then n m k xs ys e f =
-    ap (joined (seen n)) (free_joined xs ys) ∙ sym (joined_assoc (seen n) (free_in xs) (free_in ys))
-    ∙ ap (λ (s : List ℕ). joined s (free_in ys)) e ∙ f
+one_then n m k xs ys e f = cc (free_joined xs ys, joined_assoc (seen n) (free_in xs) (free_in ys))
 
 pub last_only : (t : Term) → variables_in (t ∷ []) ≡ variable_in t
-last_only (Var x) = refl
-last_only (Const c) = refl
+last_only t = grind arith
 
 arguments_order : (xs : WrittenArguments) (places : List Sort) (scope : Scope) (n : SymbolTable)
     → length (arguments_names xs places scope n).free ≤ max_free
     → joined (seen n) (free_in (variables_in (arguments_terms xs places scope n)))
     ≡ seen (arguments_names xs places scope n)
-arguments_order (LastArgument a) places scope n few =
-    ap (λ (vs : List ℕ). joined (seen n) (free_in vs)) (last_only (argument_term a scope n))
-    ∙ argument_order a (due_sort places) scope n few
+arguments_order (LastArgument a) places scope n few = search (last_only, argument_order)
 arguments_order (MoreArguments a comma rest) places scope n few =
     let between = argument_names a (due_sort places) scope n in
     ap (λ (vs : List ℕ). joined (seen n) (free_in vs))
@@ -195,47 +159,36 @@ arguments_order (MoreArguments a comma rest) places scope n few =
 blanks_order : (count first : ℕ) (f : Form) → free_in (fv (blanks count first f)) ≡ free_in (fv f)
 unfolding fv
 blanks_order zero first f = refl
-blanks_order (suc count) first f =
-    free_without (max_free + first) (fv (blanks count (suc first) f)) (omega arith) ∙ blanks_order count (suc first) f
+blanks_order (suc count) first f = grind (arith, free_without, blanks_order count (suc first) f)
 
 pub one_order : (q : Quantifier) (k : ℕ) (name : List ℕ) (f : Form) → fv (quantified q k name f)
     ≡ without (max_free + k) (fv f)
 unfolding fv
-one_order quantifiers.Exists k name f = refl
-one_order quantifiers.Forall k name f = refl
+one_order q k name f = grind arith
 
 quantify_order : (q : Quantifier) (vs : WrittenVariables) (n : SymbolTable) (f : Form)
     → free_in (fv (quantify q vs n f)) ≡ free_in (fv f)
-quantify_order q (LastVariable v) n f =
-    ap free_in (one_order q (length n.bound_sorts) (name_of v) f)
-    ∙ free_without (max_free + length n.bound_sorts) (fv f) (omega arith)
+quantify_order q (LastVariable v) n f = grind (arith, one_order, free_without)
 quantify_order q (MoreVariables v comma rest) n f =
-    let body = quantify q rest (bound_more None n) f in
-    ap free_in (one_order q (length n.bound_sorts) (name_of v) body)
-    ∙ free_without (max_free + length n.bound_sorts) (fv body) (omega arith)
-    ∙ quantify_order q rest (bound_more None n) f
+    grind (arith, one_order, free_without, quantify_order q rest (bound_more None n) f)
 
 pub moment_order : (o : Temporal) (i : Interval) (f : Form) → fv (momentary o i f) ≡ fv f
 unfolding fv
-moment_order temporals.Previous i f = refl
-moment_order _ i f = refl
+moment_order o i f = grind arith
 
 pub joined_order : (o : Operator) (i : Interval) (f g : Form) → fv (operator_form o i f g) ≡ joined (fv f) (fv g)
 unfolding fv
-joined_order operators.And i f g = refl
-joined_order _ i f g = refl
+joined_order o i f g = grind arith
 
 pub truth_order : (which : Bool) → fv (truth which) ≡ []
 unfolding fv
-truth_order true = refl
-truth_order false = refl
+truth_order which = grind arith
 
 -- an atom's variables, and a comparison's
 atom_fv : (found : Option PredOf) (args : List Term) (outer inner : ℕ) → free_in (fv (atom found args outer inner))
     ≡ free_in (variables_in args)
 unfolding fv
-atom_fv found args outer inner =
-    blanks_order (inner - outer) outer (forms.Atom (record { pred = (call_of found outer).pred; args = args }))
+atom_fv found args outer inner = simp (blanks_order)
 
 sides_order : (left right : WrittenTerm) (scope : Scope) (n : SymbolTable)
     → length (term_names right scope (term_names left scope n)).free ≤ max_free
@@ -244,43 +197,20 @@ sides_order : (left right : WrittenTerm) (scope : Scope) (n : SymbolTable)
     (term_of (operand_of left scope n) ∷ term_of (operand_of right scope (term_names left scope n)) ∷ [])))
     ≡ seen (term_names right scope (term_names left scope n))
 sides_order left right scope n few =
-    let first = term_names left scope n in
-    let l = term_of (operand_of left scope n) in
-    let r = term_of (operand_of right scope first) in
-    ap (λ (vs : List ℕ). joined (seen n) (free_in vs))
-    (variables_in-cons l (r ∷ []) ∙ ap (joined (variable_in l)) (last_only r))
-    ∙ one_then n first (term_names right scope first) (variable_in l) (variable_in r)
-    (term_order left scope n (fewer first (term_names right scope first) (term_grows right scope first) few))
-    (term_order right scope first few)
+    grind (arith, common_steps, variables_in-cons, last_only, one_then, term_order, fewer, term_grows)
 
 -- the free variables of a formula come behind those that were met before it
 pub tree_order : (sig : List PredOf) (tree : Tree) (scope : Scope) (n : SymbolTable)
     → length (names_behind sig tree scope n).free ≤ max_free
     → joined (seen n) (free_in (fv (value sig tree scope n))) ≡ seen (names_behind sig tree scope n)
 unfolding fv
-tree_order sig (Truth token which) scope n few =
-    ap (λ (vs : List ℕ). joined (seen n) (free_in vs)) (truth_order which) ∙ joined_nothing (seen n)
-tree_order sig (BareAtom name opening closing) scope n few =
-    ap (joined (seen n)) (atom_fv (named name.text sig) [] (length n.bound_sorts) (length n.bound_sorts))
-    ∙ joined_nothing (seen n)
-tree_order sig (AtomOf name opening arguments closing) scope n few =
-    let places = (call_of (named name.text sig) 0).rest in
-    ap (joined (seen n))
-    (atom_fv (named name.text sig) (arguments_terms arguments places scope n) (length n.bound_sorts)
-    (length (arguments_names arguments places scope n).bound_sorts))
-    ∙ arguments_order arguments places scope n few
-tree_order sig (Comparison left token sign right) scope n few =
-    let first = term_names left scope n in
-    let second = term_names right scope first in
-    let same = compared_free (operand_of left scope n) (place_of left) token.at (operand_of right scope first)
-    (place_of right) second in
-    sides_order left right scope n (omega (arith, ap length same, few))
-    ∙ seen_same second (names_behind sig (Comparison left token sign right) scope n) (sym same)
+tree_order sig (Truth token which) scope n few = cc (truth_order which, joined_nothing (seen n))
+tree_order sig (BareAtom name opening closing) scope n few = simp (atom_fv, joined_nothing)
+tree_order sig (AtomOf name opening arguments closing) scope n few = simp (atom_fv, arguments_order)
+tree_order sig (Comparison left token sign right) scope n few = grind (arith, compared_free, sides_order, seen_same)
 tree_order sig (Enclosed opening body closing) scope n few = tree_order sig body scope n few
 tree_order sig (Denied token body) scope n few = tree_order sig body scope n few
-tree_order sig (Timed token operator interval body) scope n few =
-    ap (λ (vs : List ℕ). joined (seen n) (free_in vs))
-    (moment_order operator (interval_of interval) (value sig body scope n)) ∙ tree_order sig body scope n few
+tree_order sig (Timed token operator interval body) scope n few = simp (moment_order, tree_order sig body scope n few)
 tree_order sig (Quantified token quantifier variables dot body) scope n few =
     let between = variables_names variables n in
     let same = variables_free variables n in

@@ -1,26 +1,21 @@
 -- From every state some tokens lead on to a whole text.
 use Rattle.std.proofs.Common.{◌≡◌, ℕ, zero, suc, Bool, true, false, List, [], ◌∷◌, ◌++◌, Option, Some, None, refl, ap}
-use Rattle.std.proofs.Common.{◌∙◌}
+use Rattle.std.proofs.Common.{◌∙◌, arith}
 use Rattle.std.specs.Prelude.{codes}
 use Rattle.mfotl_lex.specs.declared.kind.Kind.{Kind}
 use Rattle.mfotl_lex.specs.declared.kind.Kind.TheVariants as kinds
-use Rattle.mfotl_lex.specs.Lexemes.{Lexeme}
-use Rattle.mfotl_lex.specs.Numbers.{digits_value, integer_value}
+use Rattle.mfotl_lex.specs.{Lexemes.Lexeme, Numbers.digits_value, Numbers.integer_value}
 use Rattle.mfotl_model.specs.Formulas.{Form}
 use Rattle.mfotl_sig.specs.Preds.{PredOf}
-use Rattle.mfotl_parse.specs.declared.class.Operator.TheVariants.{And}
 use Rattle.mfotl_parse.specs.Classes.{word_class, operator_class, temporal_class}
-use Rattle.mfotl_parse.specs.Transitions.{Transition}
-use Rattle.mfotl_parse.specs.Operators.{around, enclosed_move}
-use Rattle.mfotl_parse.specs.Reading.{transition, is_closed}
-use Rattle.mfotl_parse.specs.Reduction.{Reduced, reduce, closed}
+use Rattle.mfotl_parse.specs.{Transitions.Transition, Reading.transition, Reduction.reduce, Reduction.closed}
+use Rattle.mfotl_parse.specs.{Viability.if_moved, Viability.accepts}
 use Rattle.mfotl_parse.specs.States.{Frame, Parens, Negation, Moment, Binding, Left, Context, Partial, Stage}
 use Rattle.mfotl_parse.specs.States.{with_stack, ExpectOperand, AfterTemporal, AfterOperand, AfterWord, AfterBlank}
 use Rattle.mfotl_parse.specs.States.{AfterMark, ExpectSign, AfterSign, AfterSignMark, FirstArgument, NextArgument}
 use Rattle.mfotl_parse.specs.States.{AfterArgument, AfterArgumentMark, ExpectVariable, AfterVariableMark, AfterVariable}
 use Rattle.mfotl_parse.specs.States.{AfterParen, AfterParenNumber, ExpectLow, AfterLowNumber, AfterLow, ExpectHigh}
 use Rattle.mfotl_parse.specs.States.{AfterHighNumber, AfterHigh, AfterStar}
-use Rattle.mfotl_parse.specs.Viability.{if_moved, accepts}
 
 -- ---- the tokens that are due
 
@@ -93,8 +88,7 @@ has_operand (Some p) = is_operand p.now
 due_operand : (sig : List PredOf) (c : Context) (now : Stage)
     → has_operand (shifts sig (due now) (record { context = c; now = now })) ≡ true
 unfolding shifts transition word_class operator_class temporal_class integer_value digits_value
-due_operand sig c ExpectOperand = refl
-due_operand sig c _ = refl
+due_operand sig c now = grind arith
 
 -- ---- the parentheses that are due
 
@@ -110,49 +104,30 @@ parens_in (_ ∷ stack) = parens_in stack
 abbrev having : Context → List Frame → Form → Partial
 having c stack f = record { context = with_stack c stack; now = AfterOperand f }
 
--- a `)` doesn't see the frames that it closes
-enclosed_alike : (test : Partial → Bool) (c : Context) (above below : List Frame) (f : Form) (o : Option (List Frame))
-    → if_moved (enclosed_move (with_stack c above) f o) test ≡ if_moved (enclosed_move (with_stack c below) f o) test
-enclosed_alike test c above below f None = refl
-enclosed_alike test c above below f (Some stack) = refl
-
 -- neither does the end
 closed_alike : (sig : List PredOf) (n : ℕ) (c : Context) (above below : List Frame) (f g : Form) → reduce 0 f above
     ≡ reduce 0 g below
     → accepts sig (parens n) (having c above f) ≡ accepts sig (parens n) (having c below g)
 unfolding accepts transition
-closed_alike sig zero c above below f g same = ap (λ (r : Reduced). is_closed r.stack) same
-closed_alike sig (suc n) c above below f g same =
-    ap (λ (r : Reduced). if_moved (enclosed_move (with_stack c above) r.form (around r.stack))
-    (accepts sig (parens n))) same
-    ∙ enclosed_alike (accepts sig (parens n)) c above below (reduce 0 g below).form (around (reduce 0 g below).stack)
+closed_alike sig n c above below f g same = grind arith
 
 closes_left : (f : Form) (operator : _) (interval : _) (left : Form) (stack : List Frame)
     → reduce 0 f (Left operator interval left ∷ stack) ≡ reduce 0 (closed (Left operator interval left) f) stack
 unfolding reduce
-closes_left f And interval left stack = refl
-closes_left f _ interval left stack = refl
+closes_left f operator interval left stack = grind arith
 
 closing : (sig : List PredOf) (stack : List Frame) (c : Context) (f : Form)
     → accepts sig (parens (parens_in stack)) (having c stack f) ≡ true
 unfolding accepts transition reduce
 closing sig [] c f = refl
 closing sig (Parens ∷ stack) c f = closing sig stack c f
-closing sig (Negation ∷ stack) c f =
-    closed_alike sig (parens_in stack) c (Negation ∷ stack) stack f (closed Negation f) refl
-    ∙ closing sig stack c (closed Negation f)
+closing sig (Negation ∷ stack) c f = grind (arith, closed_alike, closing sig stack c (closed Negation f))
 closing sig (Moment operator interval ∷ stack) c f =
-    closed_alike sig (parens_in stack) c (Moment operator interval ∷ stack) stack f
-    (closed (Moment operator interval) f) refl
-    ∙ closing sig stack c (closed (Moment operator interval) f)
+    grind (arith, closed_alike, closing sig stack c (closed (Moment operator interval) f))
 closing sig (Binding quantifier variable bound ∷ stack) c f =
-    closed_alike sig (parens_in stack) c (Binding quantifier variable bound ∷ stack) stack f
-    (closed (Binding quantifier variable bound) f) refl
-    ∙ closing sig stack c (closed (Binding quantifier variable bound) f)
+    grind (arith, closed_alike, closing sig stack c (closed (Binding quantifier variable bound) f))
 closing sig (Left operator interval left ∷ stack) c f =
-    closed_alike sig (parens_in stack) c (Left operator interval left ∷ stack) stack f
-    (closed (Left operator interval left) f) (closes_left f operator interval left stack)
-    ∙ closing sig stack c (closed (Left operator interval left) f)
+    grind (arith, closed_alike, closes_left, closing sig stack c (closed (Left operator interval left) f))
 
 -- ---- every state leads on
 

@@ -1,24 +1,20 @@
 -- A whole formula is accepted from the start on, and where the reader stands behind it.
 use Rattle.std.proofs.Common.{◌≡◌, ℕ, ◌+◌, true, List, [], ◌++◌, Ok, refl, ap, sym, subst, ◌∙◌, arith}
 use Rattle.std.proofs.lemmas.List.{append-nil}
-use Rattle.mfotl_lex.specs.FirstFault.{run}
-use Rattle.mfotl_lex.specs.Lexemes.{Lexeme}
+use Rattle.mfotl_lex.specs.{FirstFault.run, Lexemes.Lexeme}
 use Rattle.mfotl_sig.specs.Preds.{PredOf}
 use Rattle.mfotl_parse.specs.Grammar.{Tree, Fits, spelling, IsFormula, BeginsFormula}
-use Rattle.mfotl_parse.specs.GrammarLaws.{AcceptedExactly}
+use Rattle.mfotl_parse.specs.{GrammarLaws.AcceptedExactly, Reduction.Reduced, Reduction.reduce, SymbolTable.binder_of}
+use Rattle.mfotl_parse.specs.{Transitions.Rule, Transitions.goes}
 use Rattle.mfotl_parse.specs.Meanings.{no_scope, all_names, value, node_count}
-use Rattle.mfotl_parse.specs.Reading.{step, checked_at_end, closed_at_end, ended_at, is_closed}
-use Rattle.mfotl_parse.specs.Reduction.{Reduced, reduce}
+use Rattle.mfotl_parse.specs.Reading.{step, checked_at_end, ended_at, is_closed}
 use Rattle.mfotl_parse.specs.States.{no_names, depth, Partial, AfterOperand, nothing_read}
-use Rattle.mfotl_parse.specs.SymbolTable.{binder_of}
-use Rattle.mfotl_parse.specs.Transitions.{Rule, goes}
 use Rattle.mfotl_parse.specs.Viability.{is_whole, accepts, IsViable}
-use Rattle.mfotl_parse.proofs.AcceptedLaw.{accepted_formula}
+use Rattle.mfotl_parse.proofs.{AcceptedLaw.accepted_formula, SpelledForms.Takes, SpelledForms.reduce_here}
+use Rattle.mfotl_parse.proofs.{ViabilityLemmas.completes}
 use Rattle.mfotl_parse.proofs.ReadMoves.{read_moves, accepts_moves, accepts_read}
-use Rattle.mfotl_parse.proofs.SpelledForms.{Takes, reduce_here}
 use Rattle.mfotl_parse.proofs.SpelledMoves.{at_place, moves, same_next, same_rules, AreKept}
 use Rattle.mfotl_parse.proofs.SpelledTrees.{Keeps, reads, one_reaches}
-use Rattle.mfotl_parse.proofs.ViabilityLemmas.{completes}
 
 -- a formula is read from the start on
 pub whole : (sig : List PredOf) (tree : Tree) → Fits 1 tree
@@ -30,8 +26,7 @@ whole sig tree fits = reads sig tree 1 1 fits (one_reaches 1 (omega arith)) (λ 
 all_closed : (sig : List PredOf) (tree : Tree) (fits : Fits 1 tree)
     → reduce 0 (whole sig tree fits).form (whole sig tree fits).stack
     ≡ record { form = value sig tree no_scope no_names; stack = [] }
-all_closed sig tree fits =
-    (whole sig tree fits).reduces 0 (omega arith) ∙ reduce_here 0 (value sig tree no_scope no_names) [] tt
+all_closed sig tree fits = grind (arith, whole, reduce_here)
 
 -- nothing stands behind the tokens
 accepts_nothing : (sig : List PredOf) (p : Partial) → accepts sig [] p ≡ is_whole p.now p.context.stack
@@ -46,8 +41,7 @@ accepted sig tree fits =
     ∙ ap (λ (r : Reduced). is_closed r.stack) (all_closed sig tree fits)
 
 pub formula_accepted : (sig : List PredOf) (ts : List Lexeme) → IsFormula ts → accepts sig ts nothing_read ≡ true
-formula_accepted sig ts formula =
-    ap (λ (xs : List Lexeme). accepts sig xs nothing_read) formula.2 ∙ accepted sig formula.0 formula.1
+formula_accepted sig ts formula = cc (accepted sig formula.0 formula.1)
 
 pub accepted_exactly : AcceptedExactly
 accepted_exactly sig ts = (accepted_formula sig ts, formula_accepted sig ts)
@@ -68,9 +62,7 @@ module _ (sig : List PredOf) (ts : List Lexeme) (p : Partial) (ran : run (step s
       (due.0, accepted_formula sig (ts ++ due.0) (accepts_read sig ts due.0 nothing_read p ran ∙ due.1))
 
   stands_whole : accepts sig ts nothing_read ≡ is_whole p.now p.context.stack
-  stands_whole =
-      ap (λ us. accepts sig us nothing_read) (sym (append-nil ts)) ∙ accepts_read sig ts [] nothing_read p ran
-      ∙ accepts_nothing sig p
+  stands_whole = grind (arith, append-nil ts, accepts_read sig ts, accepts_nothing sig p)
 
   -- they are one where an operand was read and nothing is open
   pub whole_formula : is_whole p.now p.context.stack ≡ true → IsFormula ts
@@ -83,8 +75,7 @@ module _ (sig : List PredOf) (ts : List Lexeme) (p : Partial) (ran : run (step s
     reached : (rules : List Rule) → moves sig ts nothing_read ≡ goes rules p
         → goes (whole sig tree fits).rules (at_place (AfterOperand (whole sig tree fits).form)
         (whole sig tree fits).stack (0 + node_count tree) (all_names sig tree)) ≡ goes rules p
-    reached rules e =
-        sym (whole sig tree fits).reached ∙ ap (λ us. moves sig us nothing_read) (sym spelled) ∙ e
+    reached rules e = grind arith
 
     -- all rules on the way were kept
     pub rules_kept : AreKept (whole sig tree fits).rules
@@ -94,8 +85,4 @@ module _ (sig : List PredOf) (ts : List Lexeme) (p : Partial) (ran : run (step s
     pub finished_by : (end : ℕ) → ended_at p.now p.context end
         ≡ checked_at_end (all_names sig tree) (value sig tree no_scope no_names)
     unfolding ended_at
-    finished_by end =
-        let m = read_moves sig ts nothing_read p ran in
-        ap (λ (q : Partial). ended_at q.now q.context end) (sym (same_next (reached m.0 m.1)))
-        ∙ ap (λ (r : Reduced). closed_at_end (all_names sig tree) r.form (is_closed r.stack) end)
-        (all_closed sig tree fits)
+    finished_by end = grind (arith, read_moves, same_next, reached, all_closed)

@@ -1,6 +1,5 @@
 use Rattle.std.proofs.Common.{subst}
-use Rattle.mfotl_parse.specs.Reading.{reading_on, reading}
-use Rattle.mfotl_parse.specs.Views.{policy_of, Gives}
+use Rattle.mfotl_parse.specs.{Reading.reading_on, Reading.reading, Views.policy_of, Views.Gives}
 use Rattle.mfotl_parse.proofs.reading.read.Goals as goal
 
 pub returns : goal.returns

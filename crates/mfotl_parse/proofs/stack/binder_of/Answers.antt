@@ -1,6 +1,5 @@
 use Rattle.std.proofs.Common.{◌∙◌, sym, ap}
-use Rattle.mfotl_parse.specs.SymbolTable.{inner_or, binder_of}
-use Rattle.mfotl_parse.specs.Views.{stack_of}
+use Rattle.mfotl_parse.specs.{SymbolTable.inner_or, SymbolTable.binder_of, Views.stack_of}
 use Rattle.mfotl_parse.proofs.StackLemmas.{binder_of_last, binder_of_nothing}
 use Rattle.mfotl_parse.proofs.stack.binder_of.Goals as goal
 

@@ -1,6 +1,5 @@
 use Rattle.std.proofs.Common.{◌≡◌, length}
-use Rattle.mfotl_parse.specs.SymbolTable.{binder_of}
-use Rattle.mfotl_parse.specs.Views.{stack_of}
+use Rattle.mfotl_parse.specs.{SymbolTable.binder_of, Views.stack_of}
 use Rattle.mfotl_parse.proofs.stack.binder_of.Given as goal
 
 abbrev pub invariant-loop-frame : goal.invariant-loop-frame

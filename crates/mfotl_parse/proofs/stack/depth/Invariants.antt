@@ -1,6 +1,5 @@
 use Rattle.std.proofs.Common.{◌≡◌, ◌+◌, ◌≤◌, length}
-use Rattle.mfotl_parse.specs.States.{depth}
-use Rattle.mfotl_parse.specs.Views.{stack_of}
+use Rattle.mfotl_parse.specs.{States.depth, Views.stack_of}
 use Rattle.mfotl_parse.proofs.stack.depth.Given as goal
 
 abbrev pub invariant-loop-frame : goal.invariant-loop-frame

@@ -1,6 +1,5 @@
 use Rattle.std.proofs.Common.{◌∙◌, Bool, Some, None, cond, sym, ap, arith}
-use Rattle.mfotl_parse.specs.Operators.{around}
-use Rattle.mfotl_parse.specs.Views.{stack_of}
+use Rattle.mfotl_parse.specs.{Operators.around, Views.stack_of}
 use Rattle.mfotl_parse.proofs.StackLemmas.{stack_of_last, around_nothing}
 use Rattle.mfotl_parse.proofs.stack.pop_parens.Goals as goal
 

@@ -1,7 +1,6 @@
 use Rattle.std.proofs.Common.{◌≡◌, vec_len}
 use Rattle.mfotl_model.specs.Formulas.{form}
-use Rattle.mfotl_parse.specs.Reduction.{reduce}
-use Rattle.mfotl_parse.specs.Views.{stack_of}
+use Rattle.mfotl_parse.specs.{Reduction.reduce, Views.stack_of}
 use Rattle.mfotl_parse.proofs.stack.reduce.Given as goal
 
 abbrev pub invariant-loop-frame : goal.invariant-loop-frame

@@ -1,6 +1,5 @@
 use Rattle.std.proofs.Common.{◌∙◌, ◌∷◌, sym, ap, arith}
-use Rattle.mfotl_parse.specs.Intervals.{with_interval}
-use Rattle.mfotl_parse.specs.Views.{stack_of}
+use Rattle.mfotl_parse.specs.{Intervals.with_interval, Views.stack_of}
 use Rattle.mfotl_parse.proofs.StackLemmas.{stack_of_last, with_interval_nothing}
 use Rattle.mfotl_parse.proofs.stack.set_interval.Goals as goal
 

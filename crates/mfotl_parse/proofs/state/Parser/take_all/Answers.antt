@@ -1,7 +1,6 @@
 use Rattle.std.proofs.Common.{◌∙◌, ap, sym, subst, Ok, length}
 use Rattle.std.proofs.lemmas.Result.{err_from_is_err_and}
-use Rattle.mfotl_parse.specs.Reading.{ended_at}
-use Rattle.mfotl_parse.specs.Views.{partial_of, with_next}
+use Rattle.mfotl_parse.specs.{Reading.ended_at, Views.partial_of, Views.with_next}
 use Rattle.mfotl_parse.proofs.ReadingLemmas.{Leads, begins_so, goes_on, shorter, ends, fails}
 use Rattle.mfotl_parse.proofs.state.Parser.take_all.Goals as goal
 

@@ -1,5 +1,4 @@
-use Rattle.std.proofs.Common.{sym, subst}
-use Rattle.std.proofs.lemmas.Result.{err_from_is_err_and}
+use Rattle.std.proofs.{Common.sym, Common.subst, lemmas.Result.err_from_is_err_and}
 use Rattle.mfotl_parse.specs.Views.{policy_of, Gives}
 use Rattle.mfotl_parse.proofs.state.Parser.take_text.Goals as goal
 

@@ -2,8 +2,7 @@ use Rattle.std.proofs.Common.{◌∙◌, ◌≤◌, ◌+◌, ◌++◌, ◌∷◌
 use Rattle.std.proofs.Common.{arith}
 use Rattle.std.proofs.lemmas.List.{append-nil, length-map}
 use Rattle.mfotl_model.specs.declared.policy.Var.{Var}
-use Rattle.mfotl_parse.specs.SymbolTable.{vars_of}
-use Rattle.mfotl_parse.specs.Views.{known_of}
+use Rattle.mfotl_parse.specs.{SymbolTable.vars_of, Views.known_of}
 use Rattle.mfotl_parse.proofs.NamesLemmas.{vars_of_more, vars_of_all}
 use Rattle.mfotl_parse.proofs.symbol_table.SymbolTable.vars.Goals as goal
 

@@ -1,6 +1,5 @@
 use Rattle.std.proofs.Common.{◌≡◌, ◌++◌, drop}
-use Rattle.mfotl_parse.specs.SymbolTable.{vars_of}
-use Rattle.mfotl_parse.specs.Views.{names_met}
+use Rattle.mfotl_parse.specs.{SymbolTable.vars_of, Views.names_met}
 use Rattle.mfotl_parse.proofs.symbol_table.SymbolTable.vars.Given as goal
 
 abbrev pub invariant-loop-place : goal.invariant-loop-place
