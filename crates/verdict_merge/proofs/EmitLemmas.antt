@@ -1,15 +1,11 @@
 -- What was gathered settles what comes out.
-use Rattle.std.proofs.Common.{◌≡◌, ◌∙◌, sym, ap, refl, Some, None}
+use Rattle.std.proofs.Common.{◌∙◌, sym, refl, Some, None}
 use Rattle.std.proofs.lemmas.Option.{same_Some}
-use Rattle.verdict_merge.specs.Emitted.{merged}
 use Rattle.verdict_merge.specs.Laws.{EmitsOne}
 
 pub emits_one : EmitsOne
 emits_one old new other None None (none, same) (nothing, stays) = (refl, same ∙ sym stays)
-emits_one old new other None (Some verdict) (none, same) (ts, complete, comes, goes) =
-    absurd (let e : None ≡ Some ts = sym none ∙ complete in cc)
-emits_one old new other (Some verdict) None (ts, complete, comes, goes) (none, same) =
-    absurd (let e : None ≡ Some ts = sym none ∙ complete in cc)
+emits_one old new other None (Some verdict) (none, same) (ts, complete, comes, goes) = cc
+emits_one old new other (Some verdict) None (ts, complete, comes, goes) (none, same) = cc
 emits_one old new other (Some verdict) (Some found) (ts, complete, comes, goes) (time, whole, found_is, left) =
-    let same : ts ≡ time = same_Some ts time (sym complete ∙ whole) in
-    (ap Some (comes ∙ ap (merged old) same ∙ sym found_is), goes ∙ sym left)
+    search (same_Some)

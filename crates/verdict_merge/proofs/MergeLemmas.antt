@@ -1,14 +1,9 @@
 -- Rows merged are an ascending list, where they are a partition of it.
 use Rattle.std.proofs.Common.{◌≡◌, ◌∙◌, ◌<◌, List, [], ◌∷◌, length, refl, sym, arith}
-use Rattle.std.proofs.lemmas.List.Sorted.{list_any-IsPermutation}
-use Rattle.std.proofs.lemmas.Map.Lookups.{btree_set_from_contains}
-use Rattle.std.specs.BTreeSet.{BTreeSet}
-use Rattle.std.specs.List.Sorted.{IsPermutation, IsStrictlySortedBy}
-use Rattle.std.specs.Ordering.{eq_by_cmp}
-use Rattle.mfotl_model.proofs.AscendingLemmas.{any_ascending, sorted_ascending}
-use Rattle.mfotl_model.proofs.RowLemmas.{row_exact}
-use Rattle.mfotl_model.specs.Ascending.{ascending}
-use Rattle.mfotl_model.specs.Values.{row_cmp, row_total}
+use Rattle.std.proofs.{lemmas.List.Sorted.list_any-IsPermutation, lemmas.Map.Lookups.btree_set_from_contains}
+use Rattle.std.specs.{BTreeSet.BTreeSet, List.Sorted.IsPermutation, List.Sorted.IsStrictlySortedBy, Ordering.eq_by_cmp}
+use Rattle.mfotl_model.proofs.{AscendingLemmas.any_ascending, AscendingLemmas.sorted_ascending, RowLemmas.row_exact}
+use Rattle.mfotl_model.specs.{Ascending.ascending, Values.row_cmp, Values.row_total}
 use Rattle.mfotl_model.specs.declared.value.Value.{Value}
 
 -- the members of an ascending list, moved about, come out as that list

@@ -1,11 +1,9 @@
 -- What a merge of vectors gives are their items.
-use Rattle.std.proofs.Common.{◌≡◌, ◌∙◌, Bool, true, List, [], ◌∷◌, ◌++◌, length, map, refl, sym, ap, subst, map-id}
-use Rattle.std.proofs.Common.{Vec, arith, ◌<◌, Result, Ok, Err, IfOk, IsPermutation, flat_map}
-use Rattle.std.proofs.lemmas.List.{append-nil}
-use Rattle.std.proofs.lemmas.Iterator.Adapters.{YieldsList-from_vec}
-use Rattle.std.specs.Iterator.{DrainsIf}
-use Rattle.std.specs.Iterator.Runs.{WholeRun, YieldsRun}
-use Rattle.std.specs.Vec.Iter.{into_iter_items, into_iter_steps}
+use Rattle.std.proofs.Common.{◌≡◌, ◌∙◌, Bool, true, List, [], ◌∷◌, ◌++◌, length, map, refl, ap, subst, map-id, Vec}
+use Rattle.std.proofs.Common.{arith, ◌<◌, Result, Ok, Err, IfOk, IsPermutation, flat_map}
+use Rattle.std.proofs.{lemmas.List.append-nil, lemmas.Iterator.Adapters.YieldsList-from_vec, lemmas.Grind.common_steps}
+use Rattle.std.specs.{Iterator.DrainsIf, Iterator.Runs.WholeRun, Iterator.Runs.YieldsRun, Vec.Iter.into_iter_items}
+use Rattle.std.specs.{Vec.Iter.into_iter_steps}
 use Rattle.std.specs.declared.vec.IntoIter.{IntoIter}
 use Rattle.itertools.proofs.AdaptorLemmas.{items_from_whole_run}
 use Rattle.itertools.specs.KMerge.{SourcesGive, MergeGivesAll, joined_lists, kmerge_steps}
@@ -34,9 +32,7 @@ module _ {X Z : Type 0} (gives : Vec X Z → IntoIter X Z → Type 0)
         let items =
         items_from_whole_run (YieldsList-from_vec lists same (it.rest.ok.0
         ∙ ap length same)) merges.0 merges.1 merges.2 in
-        merges.3 (map (λ l. l.items) lists)
-        (subst (λ us. SourcesGive gives into_iter_steps us (map (λ l. l.items) lists))
-        (sym (sym (map-id merges.0.items) ∙ items)) (sources lists))
+        grind (arith, map-id, sources)
 
     -- all that the merge gives, up to its end
     pub merged_all : (out : List X) → WholeRun (kmerge_steps into_iter_steps computes) m (λ p. out ≡ p.items)
@@ -47,19 +43,15 @@ module _ {X Z : Type 0} (gives : Vec X Z → IntoIter X Z → Type 0)
         let drained =
         subst (λ s. DrainsIf (kmerge_steps into_iter_steps computes) (p.whole ≡ true) s p.items) run.1 p.gave.0 in
         let given = all_given p.items p.whole drained in
-        subst (λ xs. IsPermutation (joined_lists (map (λ l. l.items) lists)) xs)
-        (ap (λ rest. p.items ++ rest) (given.2 run.2) ∙ append-nil p.items ∙ sym run.3) given.1
+        grind (arith, append-nil)
 
     pub merged_ok : {E O : Type 0} (r : Result (Vec X O) E)
         → IfOk r (λ v. WholeRun (kmerge_steps into_iter_steps computes) m (λ p. v.items ≡ p.items))
         → IfOk r (λ v. IsPermutation (flat_map (λ l. l.items) lists) v.items)
-    merged_ok (Ok v) run =
-        subst (λ xs. IsPermutation xs v.items) (joined_map (λ l. l.items) lists) (merged_all v.items run)
+    merged_ok (Ok v) run = grind (arith, joined_map, merged_all v.items run)
     merged_ok (Err e) run = tt
 
 -- the last of a list that has no other
 pub alone : {X Z : Type 0} (xs ys : List (Vec X Z)) (l : Vec X Z) → length xs < 2 → xs ≡ ys ++ l ∷ []
     → l.items ≡ flat_map (λ v. v.items) xs
-alone {X} {Z} xs [] l few split = sym (ap (flat_map (λ v. v.items)) split ∙ append-nil l.items)
-alone {X} {Z} xs (y ∷ []) l few split = absurd (let two = ap length split in omega (arith, few, two))
-alone {X} {Z} xs (y ∷ z ∷ ys) l few split = absurd (let two = ap length split in omega (arith, few, two))
+alone xs ys l few split = grind (arith, common_steps, flat_map, append-nil)

@@ -1,11 +1,9 @@
 -- Rows by their numbers.
 use Rattle.std.proofs.Common.{◌≡◌, ◌∙◌, ℕ, zero, suc, ◌<◌, ◌≤◌, Bool, true, false, cond, nat_eq, List, [], ◌∷◌, ◌++◌}
 use Rattle.std.proofs.Common.{map, filter, refl, sym, ap, arith, eq-eqb, ne_eqb}
-use Rattle.std.proofs.lemmas.List.{map-append}
-use Rattle.std.proofs.lemmas.List.Elements.{filter-append}
+use Rattle.std.proofs.{lemmas.List.map-append, lemmas.List.Elements.filter-append}
 use Rattle.std.specs.List.{AllByRecursion}
-use Rattle.verdict_merge.specs.declared.arrived.Arrived.{Arrived}
-use Rattle.verdict_merge.specs.declared.rows.Rows.{Rows}
+use Rattle.verdict_merge.specs.declared.{arrived.Arrived.Arrived, rows.Rows.Rows}
 use Rattle.verdict_merge.specs.Slots.{by_numbers, rows_of_number}
 
 module _ {X : Type 0} (f : X → Bool) where
@@ -19,8 +17,7 @@ module _ {X : Type 0} (f : X → Bool) where
 
   kept_by : (b : Bool) (x : X) (xs : List X) → filter f (cond b (x ∷ xs) xs)
       ≡ cond b (cond (f x) (x ∷ filter f xs) (filter f xs)) (filter f xs)
-  kept_by true x xs = refl
-  kept_by false x xs = refl
+  kept_by b x xs = grind arith
 
 module _ {X : Type 0} (P Q : X → Type 0) (holds : (x : X) → P x → Q x) where
   pub each : (xs : List X) → AllByRecursion P xs → AllByRecursion Q xs
@@ -30,34 +27,16 @@ module _ {X : Type 0} (P Q : X → Type 0) (holds : (x : X) → P x → Q x) whe
 -- two tests, the one or the other first
 kept_twice : {X : Type 0} (f g : X → Bool) (xs : List X) → filter f (filter g xs) ≡ filter g (filter f xs)
 kept_twice f g [] = refl
-kept_twice f g (x ∷ xs) =
-    kept_by f (g x) x (filter g xs) ∙ by (f x) (g x) (kept_twice f g xs) ∙ sym (kept_by g (f x) x (filter f xs))
-  where
-    by : (b c : Bool) → filter f (filter g xs) ≡ filter g (filter f xs)
-        → cond c (cond b (x ∷ filter f (filter g xs)) (filter f (filter g xs))) (filter f (filter g xs))
-        ≡ cond b (cond c (x ∷ filter g (filter f xs)) (filter g (filter f xs))) (filter g (filter f xs))
-    by true true h = ap (λ ys. x ∷ ys) h
-    by true false h = h
-    by false true h = h
-    by false false h = h
+kept_twice f g (x ∷ xs) = grind (arith, kept_by, kept_twice f g xs)
 
 -- a test of what is read of each element
 kept_map : {X Y : Type 0} (g : X → Y) (f : Y → Bool) (xs : List X)
     → filter f (map g xs) ≡ map g (filter (λ x. f (g x)) xs)
 kept_map g f [] = refl
-kept_map g f (x ∷ xs) = at (f (g x)) (kept_map g f xs)
-  where
-    at : (b : Bool) → filter f (map g xs) ≡ map g (filter (λ y. f (g y)) xs)
-        → cond b (g x ∷ filter f (map g xs)) (filter f (map g xs))
-        ≡ map g (cond b (x ∷ filter (λ y. f (g y)) xs) (filter (λ y. f (g y)) xs))
-    at true h = ap (λ ys. g x ∷ ys) h
-    at false h = h
+kept_map g f (x ∷ xs) = grind (arith, kept_map g f xs)
 
 pub none_numbered : (n : ℕ) (all : List Arrived) → AllByRecursion (λ a. a.number < n) all → rows_of_number n all ≡ []
-none_numbered n all below =
-    ap (map (λ a. a.rows)) (none_kept (λ a. nat_eq a.number n) all
-    (each (λ a. a.number < n) (λ a. nat_eq a.number n ≡ false)
-    (λ a low. ne_eqb a.number n (λ e. omega (arith, e, low))) all below))
+none_numbered n all below = grind (arith, none_kept, each, ne_eqb)
 
 pub none_in_order : (n : ℕ) → by_numbers n [] ≡ []
 none_in_order zero = refl
@@ -67,20 +46,11 @@ none_in_order (suc n) = ap (λ rs. rs ++ []) (none_in_order n)
 pub kept_in_order : (f : Rows → Bool) (n : ℕ) (all : List Arrived)
     → filter f (by_numbers n all) ≡ by_numbers n (filter (λ a. f a.rows) all)
 kept_in_order f zero all = refl
-kept_in_order f (suc n) all =
-    let kept = filter (λ a. f a.rows) all in
-    let same : filter f (rows_of_number n all) ≡ rows_of_number n kept =
-    kept_map (λ a. a.rows) f (filter (λ a. nat_eq a.number n) all)
-    ∙ ap (map (λ a. a.rows)) (kept_twice (λ a. f a.rows) (λ a. nat_eq a.number n) all) in
-    filter-append f (by_numbers n all) (rows_of_number n all)
-    ∙ ap (λ rs. rs ++ filter f (rows_of_number n all)) (kept_in_order f n all)
-    ∙ ap (λ rs. by_numbers n kept ++ rs) same
+kept_in_order f (suc n) all = simp (kept_map, kept_twice, filter-append, kept_in_order f n all)
 
 numbered_both : (n : ℕ) (xs ys : List Arrived)
     → rows_of_number n (xs ++ ys) ≡ rows_of_number n xs ++ rows_of_number n ys
-numbered_both n xs ys =
-    ap (map (λ a. a.rows)) (filter-append (λ a. nat_eq a.number n) xs ys)
-    ∙ map-append (λ a. a.rows) (filter (λ a. nat_eq a.number n) xs) (filter (λ a. nat_eq a.number n) ys)
+numbered_both n xs ys = simp (filter-append, map-append)
 
 module _ (a : Arrived) (xs ys : List Arrived) where
   -- Rows of a number that isn't asked for
@@ -88,9 +58,7 @@ module _ (a : Arrived) (xs ys : List Arrived) where
   passed_over zero low = refl
   passed_over (suc n) low =
       let other : nat_eq a.number n ≡ false = ne_eqb a.number n (λ e. omega (arith, e, low)) in
-      let same : rows_of_number n (a ∷ ys) ≡ rows_of_number n ys =
-      ap (λ b. map (λ c. c.rows) (cond b (a ∷ filter (λ c. nat_eq c.number n) ys)
-      (filter (λ c. nat_eq c.number n) ys))) other in
+      let same : rows_of_number n (a ∷ ys) ≡ rows_of_number n ys = cc in
       ap (λ rs. rs ++ rows_of_number n (xs ++ a ∷ ys)) (passed_over n (omega (arith, low)))
       ∙ ap (λ rs. by_numbers n (xs ++ ys) ++ rs)
       (numbered_both n xs (a ∷ ys) ∙ ap (λ rs. rows_of_number n xs ++ rs) same ∙ sym (numbered_both n xs ys))
@@ -99,11 +67,4 @@ module _ (a : Arrived) (xs ys : List Arrived) where
   pub comes_last : (n : ℕ) → a.number ≡ n → AllByRecursion (λ c. c.number < n) xs
       → AllByRecursion (λ c. c.number < n) ys
       → by_numbers (suc n) (xs ++ a ∷ ys) ≡ by_numbers n (xs ++ ys) ++ a.rows ∷ []
-  comes_last n is before after =
-      let here : rows_of_number n (a ∷ ys) ≡ a.rows ∷ rows_of_number n ys =
-      ap (λ b. map (λ c. c.rows) (cond b (a ∷ filter (λ c. nat_eq c.number n) ys)
-      (filter (λ c. nat_eq c.number n) ys))) (eq-eqb a.number n is) in
-      ap (λ rs. rs ++ rows_of_number n (xs ++ a ∷ ys)) (passed_over n (omega (arith, is)))
-      ∙ ap (λ rs. by_numbers n (xs ++ ys) ++ rs)
-      (numbered_both n xs (a ∷ ys) ∙ ap (λ rs. rs ++ rows_of_number n (a ∷ ys)) (none_numbered n xs before) ∙ here
-      ∙ ap (λ rs. a.rows ∷ rs) (none_numbered n ys after))
+  comes_last n is before after = grind (arith, eq-eqb, passed_over, numbered_both, none_numbered)

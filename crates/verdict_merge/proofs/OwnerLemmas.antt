@@ -1,21 +1,12 @@
 -- Rows merged are an ascending list, where they are by owner a partition of it.
-use Rattle.std.proofs.Common.{◌≡◌, ◌≢◌, ◌⊎◌, inl, inr, ⊎_elim, ℕ, ◌<◌, Bool, true, false, ◌||◌, cond, nat_eq}
-use Rattle.std.proofs.Common.{List, [], ◌∷◌, ◌++◌, map, filter, refl, sym, ap, subst, arith, eq-eqb, ◌∙◌}
-use Rattle.std.proofs.lemmas.List.Folds.{list_any-append}
-use Rattle.std.proofs.lemmas.Map.Lookups.{btree_set_from_contains}
-use Rattle.std.proofs.Math.Bool.{or-true}
-use Rattle.std.specs.BTreeSet.{BTreeSet}
-use Rattle.std.specs.List.{list_any, AllByRecursion}
-use Rattle.std.specs.Ordering.{eq_by_cmp}
-use Rattle.std.specs.Cmp.{both_ways}
+use Rattle.std.proofs.Common.{◌≡◌, ◌≢◌, ◌⊎◌, inl, inr, ⊎_elim, ℕ, ◌<◌, Bool, true, false, ◌||◌, cond, nat_eq, List, []}
+use Rattle.std.proofs.Common.{◌∷◌, ◌++◌, map, filter, refl, sym, ap, subst, arith, eq-eqb, ◌∙◌}
+use Rattle.std.proofs.{lemmas.List.Folds.list_any-append, lemmas.Map.Lookups.btree_set_from_contains, Math.Bool.or-true}
+use Rattle.std.specs.{BTreeSet.BTreeSet, List.list_any, List.AllByRecursion, Ordering.eq_by_cmp, Cmp.both_ways}
 use native.Mathlib.Decide.{ℕ_discrete}
-use Rattle.mfotl_model.proofs.AscendingLemmas.{any_ascending, sorted_ascending}
-use Rattle.mfotl_model.proofs.NumberLemmas.{at_most, every_there}
-use Rattle.mfotl_model.proofs.RowLemmas.{row_exact}
-use Rattle.mfotl_model.proofs.LogicLemmas.{filtered_found}
-use Rattle.mfotl_model.specs.Ascending.{ascending}
-use Rattle.mfotl_model.specs.Numbers.{NotIn}
-use Rattle.mfotl_model.specs.Values.{row_cmp, row_total}
+use Rattle.mfotl_model.proofs.{AscendingLemmas.any_ascending, AscendingLemmas.sorted_ascending, NumberLemmas.at_most}
+use Rattle.mfotl_model.proofs.{NumberLemmas.every_there, RowLemmas.row_exact, LogicLemmas.filtered_found}
+use Rattle.mfotl_model.specs.{Ascending.ascending, Numbers.NotIn, Values.row_cmp, Values.row_total}
 use Rattle.mfotl_model.specs.declared.value.Value.{Value}
 use Rattle.verdict_merge.specs.Gathers.{gathered_rows}
 use Rattle.verdict_merge.specs.Laws.{EveryWorker, IsPartition, OwnersMerge}

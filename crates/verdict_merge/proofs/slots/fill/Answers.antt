@@ -1,6 +1,5 @@
 use Rattle.std.proofs.Common.{◌≡◌, ◌∙◌, ◌+◌, ◌≤◌, [], ◌∷◌, None, length, map, ap, arith}
-use Rattle.std.proofs.lemmas.Grind.{common_steps}
-use Rattle.std.proofs.lemmas.List.{length-map, map-append}
+use Rattle.std.proofs.{lemmas.Grind.common_steps, lemmas.List.length-map, lemmas.List.map-append}
 use Rattle.verdict_merge.proofs.PutLemmas.{put_past}
 use Rattle.verdict_merge.specs.Slots.{held, put_in}
 use Rattle.verdict_merge.proofs.slots.fill.Goals as goal

@@ -1,6 +1,5 @@
 use Rattle.std.proofs.Common.{◌∙◌, ◌<◌, ◌++◌, [], ◌∷◌, length, map, sym, ap, arith}
-use Rattle.std.proofs.lemmas.Grind.{common_steps}
-use Rattle.std.proofs.lemmas.List.{length-map}
+use Rattle.std.proofs.{lemmas.Grind.common_steps, lemmas.List.length-map}
 use Rattle.verdict_merge.proofs.PutLemmas.{put_at, put_behind}
 use Rattle.verdict_merge.specs.Slots.{held}
 use Rattle.verdict_merge.proofs.slots.put.Goals as goal

@@ -1,6 +1,5 @@
 use Rattle.std.proofs.Common.{◌≡◌, sym, subst}
-use Rattle.verdict_merge.specs.Gathers.{GatherOf, workers_in}
-use Rattle.verdict_merge.specs.Generations.{AreBegun}
+use Rattle.verdict_merge.specs.{Gathers.GatherOf, Gathers.workers_in, Generations.AreBegun}
 use Rattle.verdict_merge.proofs.BegunLemmas.{begun_push}
 use Rattle.verdict_merge.proofs.gather.Gather.begin.Goals as goal
 

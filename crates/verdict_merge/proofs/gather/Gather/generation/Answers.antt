@@ -1,6 +1,5 @@
 use Rattle.std.proofs.Common.{◌∙◌, rules, tests}
-use Rattle.std.proofs.lemmas.Iterator.Adapters.{YieldsList-from_rev_slice}
-use Rattle.std.proofs.lemmas.Iterator.Search.{find_from_yields_List}
+use Rattle.std.proofs.{lemmas.Iterator.Adapters.YieldsList-from_rev_slice, lemmas.Iterator.Search.find_from_yields_List}
 use Rattle.verdict_merge.specs.Gathers.{is_generation}
 use Rattle.verdict_merge.proofs.BegunLemmas.{found_back}
 use Rattle.verdict_merge.proofs.gather.Gather.generation.Goals as goal

@@ -1,7 +1,6 @@
 use Rattle.std.proofs.Common.{◌≡◌, ◌∙◌, ◌+◌, map, sym, ap, arith}
 use Rattle.std.proofs.lemmas.Grind.{common_steps}
-use Rattle.mfotl_model.specs.Ascending.{ascending}
-use Rattle.mfotl_model.specs.Values.{row_cmp}
+use Rattle.mfotl_model.specs.{Ascending.ascending, Values.row_cmp}
 use Rattle.verdict_merge.proofs.SlotLemmas.{first_rows, others_left}
 use Rattle.verdict_merge.specs.Gathers.{gathered_rows}
 use Rattle.verdict_merge.specs.Slots.{held, by_numbers, all_held}
