@@ -2,23 +2,14 @@
 use Rattle.std.proofs.Common.{◌≡◌, ◌∙◌, ap, sym, arith, ℕ, ◌<◌, true, List, [], ◌∷◌}
 use Rattle.std.specs.List.{filter, list_any}
 use Rattle.mfotl_model.proofs.LogicLemmas.{any_alike, funext, with_true}
-use Rattle.mfotl_model.specs.FreeVariables.{variables_in}
-use Rattle.mfotl_model.specs.Matching.{is_match, is_seen, reads}
-use Rattle.mfotl_model.specs.Regions.{Region}
-use Rattle.mfotl_model.specs.Satisfaction.{Valuation}
-use Rattle.mfotl_model.specs.Slices.{sees}
-use Rattle.mfotl_model.specs.declared.event.Event.{Event}
-use Rattle.mfotl_model.specs.declared.event.TimePoint.{TimePoint}
-use Rattle.mfotl_model.specs.declared.term.Atom.{Atom as OneAtom}
+use Rattle.mfotl_model.specs.{Matching.is_seen, Regions.Region, Satisfaction.Valuation, Slices.sees}
+use Rattle.mfotl_model.specs.declared.{event.Event.Event, event.TimePoint.TimePoint, term.Atom.Atom as OneAtom}
 use Rattle.event_splitter.specs.Parts.{parts_for}
 
 -- a region that has each row sees each event that some atom stands for
 seen_alike : (near : Region) → ((vs : List ℕ) (v : Valuation) → near vs v ≡ true) → (atoms : List OneAtom)
     (event : Event) → list_any (sees near event) atoms ≡ is_seen atoms event
-seen_alike near whole atoms event =
-    any_alike (sees near event) (λ atom. is_match atom event) atoms
-    (λ atom. with_true (is_match atom event) (near (variables_in atom.args) (reads atom event))
-    (whole (variables_in atom.args) (reads atom event)))
+seen_alike near whole atoms event = search (any_alike, with_true)
 
 -- each of some worker's regions has the row
 abbrev Covered : (near : ℕ → Region) (count : ℕ) → Type 0
@@ -37,7 +28,4 @@ pub only_part : (near : ℕ → Region) (count : ℕ) → count ≡ 1 → Covere
     (point : TimePoint) → parts_for count near atoms point
     ≡ record { ts = point.ts; db = filter (is_seen atoms) point.db } ∷ []
 only_part near count one covers atoms point =
-    ap (λ n. parts_for n near atoms point) one
-    ∙ ap (λ p. record { ts = point.ts; db = filter p point.db } ∷ [])
-    (funext (λ event. list_any (sees (near 0) event) atoms) (is_seen atoms)
-    (seen_alike (near 0) (only_near near count one covers) atoms))
+    grind (arith, funext, seen_alike (near 0) (only_near near count one covers) atoms, only_near near count one covers)

@@ -1,26 +1,16 @@
 -- The events of parts.
-use Rattle.std.proofs.Common.{◌≡◌, ◌∙◌, ap, ap₂, sym, refl, arith, ℕ, zero, suc, ◌+◌, Bool, true, false, cond}
-use Rattle.std.proofs.Common.{◌&&◌, List, [], ◌∷◌, ◌++◌, map, length, replicate, take, drop, append-nil}
-use Rattle.std.proofs.lemmas.List.{drop_all, take_all}
-use Rattle.std.proofs.lemmas.List.Elements.{filter-append}
+use Rattle.std.proofs.Common.{◌≡◌, ◌∙◌, ap, ap₂, sym, refl, arith, ℕ, zero, suc, ◌+◌, Bool, true, false, cond, List, []}
+use Rattle.std.proofs.Common.{◌∷◌, ◌++◌, map, length, replicate, take, drop, append-nil}
+use Rattle.std.proofs.{lemmas.List.drop_all, lemmas.List.take_all, lemmas.List.Elements.filter-append}
 use Rattle.std.specs.BTreeSet.{insert_key}
-use Rattle.std.specs.List.{filter, flat_map, list_any, range_with_len}
-use Rattle.std.specs.Cmp.{both_ways}
-use Rattle.mfotl_model.proofs.AscendingLemmas.{insert_behind}
-use Rattle.mfotl_model.proofs.EventLemmas.{events_filtered}
+use Rattle.std.specs.List.{filter, list_any, range_with_len}
+use Rattle.mfotl_model.proofs.{AscendingLemmas.insert_behind, EventLemmas.events_filtered, RowLemmas.event_exact}
+use Rattle.mfotl_model.proofs.{ColumnLemmas.read_own}
 use Rattle.mfotl_model.proofs.LogicLemmas.{among_distinct, any_alike, any_map, funext, any_filter}
-use Rattle.mfotl_model.proofs.RowLemmas.{event_exact}
-use Rattle.mfotl_model.proofs.ColumnLemmas.{read_own}
-use Rattle.mfotl_model.specs.Ascending.{ascending}
-use Rattle.mfotl_model.specs.Events.{event_cmp, event_total}
-use Rattle.mfotl_model.specs.FreeVariables.{variable_in, variables_in}
-use Rattle.mfotl_model.specs.Matching.{is_match, reads}
-use Rattle.mfotl_model.specs.Regions.{Passes, Region}
-use Rattle.mfotl_model.specs.Slices.{sees, slice}
-use Rattle.mfotl_model.specs.Tables.{valuation}
-use Rattle.mfotl_model.specs.declared.event.Event.{Event}
-use Rattle.mfotl_model.specs.declared.event.TimePoint.{TimePoint}
-use Rattle.mfotl_model.specs.declared.term.Atom.{Atom as OneAtom}
+use Rattle.mfotl_model.specs.{Ascending.ascending, Events.event_cmp, Events.event_total, FreeVariables.variables_in}
+use Rattle.mfotl_model.specs.{Matching.is_match, Matching.reads, Regions.Passes, Regions.Region, Slices.sees}
+use Rattle.mfotl_model.specs.{Slices.slice}
+use Rattle.mfotl_model.specs.declared.{event.Event.Event, event.TimePoint.TimePoint, term.Atom.Atom as OneAtom}
 use Rattle.slice_strategy.specs.Sharing.{given_to}
 use Rattle.event_splitter.specs.Parts.{with_event}
 use Rattle.event_splitter.specs.Readings.{is_near, reading_of, readings_of, some_near}
@@ -29,24 +19,13 @@ module _ (free : List ℕ) (near : Region) (passes : Passes free near) where
   -- a region doesn't ask how often the variables stand there
   near_alike : (event : Event) (atom : OneAtom)
       → is_near near (reading_of event atom) ≡ near (variables_in atom.args) (reads atom event)
-  near_alike event atom =
-      let vs = flat_map variable_in atom.args in
-      let r = reads atom event in
-      both_ways (near vs (valuation vs (map r vs))) (near (variables_in atom.args) r)
-      (passes vs (variables_in atom.args) (valuation vs (map r vs)) r
-      (λ y m f. (sym (among_distinct y vs) ∙ m, read_own r vs y (sym (among_distinct y vs) ∙ m))))
-      (passes (variables_in atom.args) vs r (valuation vs (map r vs))
-      (λ y m f. (among_distinct y vs ∙ m, sym (read_own r vs y m))))
+  near_alike event atom = grind (arith, among_distinct, read_own)
 
   -- a reading is near exactly where some atom sees the event
   near_sees : (atoms : List OneAtom) (event : Event)
       → list_any (is_near near) (readings_of atoms event) ≡ list_any (sees near event) atoms
   unfolding readings_of
-  near_sees atoms event =
-      any_map (is_near near) (reading_of event) (filter (λ atom. is_match atom event) atoms)
-      ∙ any_filter (λ atom. is_near near (reading_of event atom)) (λ atom. is_match atom event) atoms
-      ∙ any_alike (λ atom. is_match atom event && is_near near (reading_of event atom)) (sees near event) atoms
-      (λ atom. ap (λ b. is_match atom event && b) (near_alike event atom))
+  near_sees atoms event = simp (any_map, any_filter, any_alike, near_alike)
 
   -- the slice with one event more
   pub slice_more : (atoms : List OneAtom) (events : List Event) (event : Event)
@@ -80,8 +59,7 @@ given_range : (test : ℕ → Bool) (event : Event) (f : ℕ → TimePoint) (y n
     → given_to (with_event event) test y (map f (range_with_len y n))
     ≡ map (λ k. cond (test k) (with_event event (f k)) (f k)) (range_with_len y n)
 given_range test event f y zero = refl
-given_range test event f y (suc n) =
-    ap (λ ps. cond (test y) (with_event event (f y)) (f y) ∷ ps) (given_range test event f (y + 1) n)
+given_range test event f y (suc n) = cc (given_range test event f (y + 1) n)
 
 -- the parts with one event more
 pub parts_more : (free : List ℕ) (near : ℕ → Region) → ((k : ℕ) → Passes free (near k))
@@ -124,10 +102,7 @@ parts_none near n ts atoms = by 0 n
 -- the parts stay as many, so what is written back is all of them
 pub written_back : (new old : List TimePoint) (count : ℕ) → length new ≡ length old → length old ≡ count
     → take count (new ++ drop (length new) old) ≡ new
-written_back new old count same size =
-    ap (λ ps. take count (new ++ ps)) (drop_all (length new) old (omega (arith, same)))
-    ∙ ap (take count) (append-nil new)
-    ∙ take_all count new (omega (arith, same, size))
+written_back new old count same size = grind (arith, drop_all, append-nil, take_all)
 
 -- ---- one atom after another
 

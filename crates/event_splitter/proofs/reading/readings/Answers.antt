@@ -1,5 +1,4 @@
-use Rattle.std.proofs.Common.{arith}
-use Rattle.std.proofs.lemmas.Grind.{common_steps}
+use Rattle.std.proofs.{Common.arith, lemmas.Grind.common_steps}
 use Rattle.event_splitter.proofs.PartLemmas.{atom_left, atom_taken, no_readings}
 use Rattle.event_splitter.proofs.reading.readings.Goals as goal
 

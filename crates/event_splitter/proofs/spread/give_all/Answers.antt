@@ -2,10 +2,8 @@ use Rattle.std.proofs.Common.{◌∙◌, ◌++◌, ◌∷◌, ap, sym, arith, []
 use Rattle.std.proofs.lemmas.List.{take_all, take_more}
 use Rattle.std.specs.List.{range_with_len}
 use Rattle.slice_strategy.specs.Sharing.{given_to}
-use Rattle.event_splitter.proofs.PartLemmas.{part_of, parts_more}
-use Rattle.event_splitter.proofs.SpreadLemmas.{range_binds}
-use Rattle.event_splitter.specs.Parts.{with_event}
-use Rattle.event_splitter.specs.Readings.{readings_of, some_near}
+use Rattle.event_splitter.proofs.{PartLemmas.part_of, PartLemmas.parts_more, SpreadLemmas.range_binds}
+use Rattle.event_splitter.specs.{Parts.with_event, Readings.readings_of, Readings.some_near}
 use Rattle.event_splitter.proofs.spread.give_all.Goals as goal
 
 pub loop-event-preserved : goal.loop-event-preserved

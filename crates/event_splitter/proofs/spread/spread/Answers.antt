@@ -1,8 +1,7 @@
 use Rattle.std.proofs.Common.{◌≡◌, ◌∙◌, ap, subst, sym, arith, ℕ, ◌+◌, Bool, set, get_or}
 use Rattle.std.specs.BTreeSet.{insert_key}
 use Rattle.mfotl_model.specs.Events.{event_cmp}
-use Rattle.event_splitter.specs.Parts.{with_event}
-use Rattle.event_splitter.specs.Readings.{some_near}
+use Rattle.event_splitter.specs.{Parts.with_event, Readings.some_near}
 use Rattle.slice_strategy.proofs.SharingLemmas.{given_end, given_next, given_start}
 use Rattle.event_splitter.proofs.spread.spread.Goals as goal
 use Rattle.slice_strategy.specs.Slicers.{NoneFrom}

@@ -1,8 +1,7 @@
 use Rattle.std.proofs.Common.{◌≡◌, ◌-◌, ◌≤◌}
 use Rattle.slice_strategy.proofs.SharingLemmas.{up_to}
 use Rattle.slice_strategy.specs.Sharing.{given_to}
-use Rattle.event_splitter.specs.Parts.{with_event}
-use Rattle.event_splitter.specs.Readings.{some_near}
+use Rattle.event_splitter.specs.{Parts.with_event, Readings.some_near}
 use Rattle.event_splitter.proofs.spread.spread.Given as goal
 
 abbrev pub invariant-loop-k : goal.invariant-loop-k

@@ -1,4 +1,4 @@
-use Rattle.std.proofs.Common.{◌≡◌, ◌∙◌, [], ◌∷◌, ap, sym}
+use Rattle.std.proofs.Common.{◌∙◌, [], ◌∷◌, ap, sym}
 use Rattle.event_splitter.proofs.OwnedLemmas.{only_part}
 use Rattle.event_splitter.specs.Parts.{parts_for}
 use Rattle.event_splitter.proofs.time_point.only_part.Goals as goal

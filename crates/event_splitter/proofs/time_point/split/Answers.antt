@@ -1,7 +1,6 @@
 use Rattle.std.proofs.Common.{◌≡◌, ◌∙◌, ap, sym, replicate, [], length}
 use Rattle.std.proofs.lemmas.List.FromFn.{length-map-range_with_len}
-use Rattle.mfotl_model.specs.Ascending.{ascending}
-use Rattle.mfotl_model.specs.Events.{event_cmp}
+use Rattle.mfotl_model.specs.{Ascending.ascending, Events.event_cmp}
 use Rattle.event_splitter.proofs.PartLemmas.{part_of, parts_none, written_back}
 use Rattle.event_splitter.proofs.time_point.split.Goals as goal
 use Rattle.event_splitter.specs.Parts.{parts_for}
