@@ -1,51 +1,41 @@
 -- A step fails exactly where its token shows a fault, and with that fault.
-use Rattle.std.proofs.Common.{◌≡◌, ◌≢◌, ◌≤◌, inl, inr, ℕ, true, List, [], ◌∷◌, ◌++◌, Option, Some, None, Result, Ok, Err}
-use Rattle.std.proofs.Common.{IfErr, refl, sym, ap, subst, ◌∙◌, nat_lt}
+use Rattle.std.proofs.Common.{◌≡◌, ◌≢◌, ◌≤◌, inl, inr, ℕ, true, List, [], ◌∷◌, ◌++◌, Option, Some, None, Result, Ok}
+use Rattle.std.proofs.Common.{Err, IfErr, refl, sym, ap, subst, ◌∙◌, nat_lt, arith}
 use Rattle.std.specs.Prelude.{option_and_then}
 use Rattle.std.proofs.lemmas.Bool.{cond_both, ltb-true, ltb-false, lt-ltb, le-ltb}
 use Rattle.std.proofs.lemmas.List.{map-append}
-use Rattle.mfotl_lex.specs.FirstFault.{◌>>=◌, run}
-use Rattle.mfotl_lex.specs.Lexemes.{Lexeme}
-use Rattle.mfotl_lex.specs.Numbers.{integer_value, is_int64}
+use Rattle.mfotl_lex.specs.{FirstFault.◌>>=◌, FirstFault.run, Lexemes.Lexeme}
 use Rattle.mfotl_model.specs.declared.policy.Sort.{Sort}
 use Rattle.mfotl_model.specs.declared.policy.Sort.TheVariants as sorts
 use Rattle.mfotl_sig.specs.Preds.{PredOf, named}
-use Rattle.log_reader.specs.declared.fault.LogFault.{LogFault}
+use Rattle.log_reader.specs.declared.{fault.LogFault.LogFault, limits.Limits.Limits, stage.Stage.Stage}
 use Rattle.log_reader.specs.declared.fault.LogFault.TheVariants.{Syntax, UnknownPredicate, WrongArity, WrongSort}
 use Rattle.log_reader.specs.declared.fault.LogFault.TheVariants.{IntRange, TimestampRange, FallingTime, TooManyEvents}
 use Rattle.log_reader.specs.declared.fault.LogFault.TheVariants.{TooManyPoints}
-use Rattle.log_reader.specs.declared.limits.Limits.{Limits}
-use Rattle.log_reader.specs.declared.stage.Stage.{Stage}
 use Rattle.log_reader.specs.declared.stage.Stage.TheVariants.{Between, AfterAt, AfterStamp, AfterName, AfterOpen}
 use Rattle.log_reader.specs.declared.stage.Stage.TheVariants.{AfterValue, AfterClose}
 use Rattle.log_reader.specs.Causes.{Plays, IsCause, IsIntegerDue, IsNoInteger, IsWide}
-use Rattle.log_reader.specs.Fronts.{symbols_before, due_sorts}
-use Rattle.log_reader.specs.Grammar.{symbols_of, IsViable}
-use Rattle.log_reader.specs.Partials.{Partial, nothing_read}
-use Rattle.log_reader.specs.Stages.{stage_after}
+use Rattle.log_reader.specs.{Fronts.symbols_before, Fronts.due_sorts, Grammar.symbols_of, Grammar.IsViable}
+use Rattle.log_reader.specs.{Partials.Partial, Partials.nothing_read, Stages.stage_after}
 use Rattle.log_reader.specs.Steps.{step, stepped, point_opened, stamped, naming, grouped, valued, group_closed}
 use Rattle.log_reader.specs.Symbols.{Symbol, Written, Bare, Quoted, symbol, token_content, written}
-use Rattle.log_reader.specs.ValuesRead.{value_at, integer_at, is_number, timestamp_of}
+use Rattle.log_reader.specs.ValuesRead.{value_at, integer_at, timestamp_of}
 use Rattle.log_reader.proofs.FrontSteps.{Stands, is_in_brackets, role_to, role_is, same_stage, run_stands}
 use Rattle.log_reader.proofs.Paths.{paths, paths-append, viable_by, viable_path}
 use Rattle.log_reader.proofs.Runs.{run_paths}
-use Rattle.log_reader.proofs.Transitions.{Transition, gives_first, gives_more, closes_empty, closes, transition}
+use Rattle.log_reader.proofs.Transitions.{Transition, closes_empty, closes, transition}
 
 -- one symbol more on a path
 one_more : (o : Option Stage) → option_and_then (λ g. Some g) o ≡ o
-one_more (Some g) = refl
-one_more None = refl
+one_more o = grind arith
 
 path_further : (front : List Lexeme) (t : Lexeme) (s : Stage) → paths Between (symbols_of front) ≡ Some s
     → paths Between (symbols_of (front ++ t ∷ [])) ≡ stage_after s (symbol t)
-path_further front t s e =
-    ap (paths Between) (map-append symbol front (t ∷ [])) ∙ paths-append Between (symbols_of front) (symbol t ∷ [])
-    ∙ ap (option_and_then (λ g. paths g (symbol t ∷ []))) e ∙ one_more (stage_after s (symbol t))
+path_further front t s e = grind (arith, paths, map-append, paths-append, one_more)
 
 -- values and `)` stand within brackets
 value_inside : (s : Stage) (x : Symbol) → Transition s x AfterValue → is_in_brackets s ≡ true
-value_inside _ _ (gives_first w) = refl
-value_inside _ _ (gives_more w) = refl
+value_inside s x h = grind arith
 
 close_inside : (s : Stage) (x : Symbol) → Transition s x AfterClose → is_in_brackets s ≡ true
 close_inside _ _ closes_empty = refl
@@ -59,17 +49,14 @@ LeadsTo stage p t = stage_after p.stage (symbol t) ≡ Some stage
 
 no_integer : (at : ℕ) (w : Written) → IsNoInteger w → value_at sorts.Int at w ≡ Err (WrongSort at)
 unfolding integer_at
-no_integer at (Bare word) none = rw none refl
-no_integer at (Quoted text) none = refl
+no_integer at w none = grind arith
 
 wide : (at : ℕ) (w : Written) → IsWide w → value_at sorts.Int at w ≡ Err (IntRange at)
 unfolding integer_at
-wide at (Bare word) w = rw (w.0, w.1) refl
-wide at (Quoted text) w = absurd w
+wide at w h = grind arith
 
 closed_early : (at : ℕ) (p : Partial) (due : List Sort) → due ≢ [] → group_closed at p due ≡ Err (WrongArity at)
-closed_early at p [] some = absurd (some refl)
-closed_early at p (sort ∷ more) some = refl
+closed_early at p due some = grind arith
 
 -- ---- a token behind a front
 
@@ -111,8 +98,7 @@ module _ (sig : List PredOf) (limits : Limits) (front : List Lexeme) (p : Partia
 
   none_there : (found : Option Stage) → stage_after p.stage (symbol t) ≡ found → (IsViable (front ++ t ∷ []) → ⊥)
       → stage_after p.stage (symbol t) ≡ None
-  none_there None e ends = e
-  none_there (Some g) e ends = absurd (ends (viable_there g e))
+  none_there found e ends = grind (arith, viable_there)
 
   -- ---- a fault has its cause
 
@@ -121,8 +107,7 @@ module _ (sig : List PredOf) (limits : Limits) (front : List Lexeme) (p : Partia
   Explains r = IfErr r (IsCause sig limits front t)
 
   then_fine : {A B : Type 0} (r : Result A LogFault) (f : A → B) → Explains r → Explains (r >>= λ x. Ok (f x))
-  then_fine (Ok x) f why = tt
-  then_fine (Err fault) f why = why
+  then_fine r f why = grind arith
 
   opened_why : LeadsTo AfterAt p t → Explains (point_opened limits t.at p)
   opened_why g = cond_both (nat_lt p.points limits.points) _ _ Explains (λ _. tt) (λ h. (
@@ -152,10 +137,7 @@ module _ (sig : List PredOf) (limits : Limits) (front : List Lexeme) (p : Partia
   integer_why : LeadsTo AfterValue p t → IsIntegerDue sig front → (word : List ℕ) → written t ≡ Bare word
       → Explains (integer_at t.at word)
   unfolding integer_at
-  integer_why g due word is = cond_both (is_number word) _ _ Explains
-      (λ number. cond_both (is_int64 (integer_value word)) _ _ Explains (λ _. tt)
-      (λ wide. (refl, plays AfterValue g, due, rw is (number, wide))))
-      (λ none. (refl, plays AfterValue g, due, rw is none))
+  integer_why g due word is = grind (arith, cond_both, plays AfterValue g, wide)
 
   value_why : LeadsTo AfterValue p t → (sort : Sort) (more : List Sort)
       → due_sorts sig (symbols_before front) ≡ sort ∷ more → (w : Written) → written t ≡ w
@@ -172,15 +154,11 @@ module _ (sig : List PredOf) (limits : Limits) (front : List Lexeme) (p : Partia
 
   closed_why : LeadsTo AfterClose p t → (due : List Sort) → p.due ≡ due → Explains (group_closed t.at p due)
   closed_why g [] none = tt
-  closed_why g (sort ∷ more) due = (
-    refl,
-    inr (plays AfterClose g, λ none. let lost : sort ∷ more ≡ [] = sym due ∙ close_due g ∙ none in cc),
-  )
+  closed_why g (sort ∷ more) due = grind (arith, plays AfterClose g, close_due g)
 
   stepped_why : (found : Option Stage) → stage_after p.stage (symbol t) ≡ found
       → Explains (stepped sig limits p t found)
-  stepped_why None none =
-      record { ends = λ viable. let there = goes_there viable in no_way there.0 none there.1; stands = refl }
+  stepped_why None none = grind (arith, goes_there, no_way, stands)
   stepped_why (Some AfterAt) g = opened_why g
   stepped_why (Some AfterStamp) g = stamped_why g (timestamp_of (token_content t)) refl
   stepped_why (Some AfterName) g = naming_why g (named (token_content t) sig) refl
@@ -191,8 +169,7 @@ module _ (sig : List PredOf) (limits : Limits) (front : List Lexeme) (p : Partia
 
   pub step_why : (fault : LogFault) → step sig limits p t ≡ Err fault → IsCause sig limits front t fault
   unfolding step
-  step_why fault e = subst (λ (r : Result Partial LogFault). IfErr r (IsCause sig limits front t)) e
-      (stepped_why (stage_after p.stage (symbol t)) refl)
+  step_why fault e = grind (arith, stepped_why (stage_after p.stage (symbol t)) refl)
 
   -- ---- a cause shows its fault
 
@@ -213,15 +190,13 @@ module _ (sig : List PredOf) (limits : Limits) (front : List Lexeme) (p : Partia
 
   pub step_shows : (fault : LogFault) → IsCause sig limits front t fault → step sig limits p t ≡ Err fault
   unfolding step
-  step_shows (Syntax at) cause = rw cause.stands
-      (ap (stepped sig limits p t) (none_there (stage_after p.stage (symbol t)) refl cause.ends))
+  step_shows (Syntax at) cause = cc (none_there (stage_after p.stage (symbol t)) refl cause.ends)
   step_shows (UnknownPredicate at) (place, part, none) = rw place (taken AfterName _ part (ap (naming t.at p) none))
   step_shows (WrongArity at) (place, inl (part, none)) =
       rw place (taken AfterValue _ part
       (ap (valued t.at (written t) p) (value_due (leads_to AfterValue part) ∙ none)))
   step_shows (WrongArity at) (place, inr (part, some)) =
-      rw place (taken AfterClose _ part
-      (closed_early t.at p p.due (λ none. some (sym (close_due (leads_to AfterClose part)) ∙ none))))
+      grind (arith, taken, closed_early, close_due (leads_to AfterClose part), leads_to AfterClose part)
   step_shows (WrongSort at) (place, part, (more, due), none) =
       rw place (value_fails _ more part due (no_integer t.at (written t) none))
   step_shows (IntRange at) (place, part, (more, due), w) =

@@ -1,25 +1,18 @@
 -- The time-points that tokens give are those of their completed fronts.
-use Rattle.std.proofs.Common.{◌≡◌, ◌⊎◌, inl, inr, ℕ, Bool, true, false, List, [], ◌∷◌, ◌++◌, Result, Ok, Err}
-use Rattle.std.proofs.Common.{refl, sym, ap, subst, ◌∙◌, append_assoc}
+use Rattle.std.proofs.Common.{◌≡◌, ◌⊎◌, inl, inr, ℕ, Bool, true, false, List, [], ◌∷◌, ◌++◌, Result, Ok, Err, refl, sym}
+use Rattle.std.proofs.Common.{ap, subst, ◌∙◌, append_assoc}
 use Rattle.std.proofs.lemmas.Bool.{and_parts}
-use Rattle.mfotl_lex.specs.FirstFault.{Tail}
-use Rattle.mfotl_lex.specs.Lexemes.{Lexeme}
+use Rattle.mfotl_lex.specs.{FirstFault.Tail, Lexemes.Lexeme}
 use Rattle.mfotl_model.specs.declared.event.TimePoint.{TimePoint}
 use Rattle.mfotl_sig.specs.Preds.{PredOf}
-use Rattle.log_reader.specs.declared.fault.LogFault.{LogFault}
-use Rattle.log_reader.specs.declared.limits.Limits.{Limits}
-use Rattle.log_reader.specs.declared.stage.Stage.{Stage}
+use Rattle.log_reader.specs.declared.{fault.LogFault.LogFault, limits.Limits.Limits, stage.Stage.Stage}
 use Rattle.log_reader.specs.declared.stage.Stage.TheVariants.{Between, AfterStamp, AfterClose}
-use Rattle.log_reader.specs.CompletedPoints.{Closes}
-use Rattle.log_reader.specs.Grammar.{symbols_of}
-use Rattle.log_reader.specs.Partials.{Partial, point_of}
+use Rattle.log_reader.specs.{CompletedPoints.Closes, Grammar.symbols_of, Partials.Partial, Partials.point_of}
+use Rattle.log_reader.specs.{Stages.is_whole, Stages.completes, Steps.step, Steps.completed, Symbols.symbol}
+use Rattle.log_reader.specs.{Symbols.ends_point}
 use Rattle.log_reader.specs.Readings.{Reading, Ending, behind, went_on, run, finish_at}
-use Rattle.log_reader.specs.Stages.{is_whole, completes}
-use Rattle.log_reader.specs.Steps.{step, completed}
-use Rattle.log_reader.specs.Symbols.{symbol, ends_point}
-use Rattle.log_reader.proofs.LogJudging.{last, whole_finish}
-use Rattle.log_reader.proofs.LogLaws.{whole}
-use Rattle.log_reader.proofs.StepStages.{completed_none, completed_one}
+use Rattle.log_reader.proofs.{LogJudging.last, LogJudging.whole_finish, LogLaws.whole, StepStages.completed_none}
+use Rattle.log_reader.proofs.{StepStages.completed_one}
 
 -- ---- lists
 

@@ -2,19 +2,12 @@
 use Rattle.std.proofs.Common.{◌≡◌, ℕ, ◌+◌, ◌*◌, ◌-◌, ◌<◌, ◌≤◌, ◌^◌, true, false, List, [], ◌∷◌, length, Some, Ok, pos}
 use Rattle.std.proofs.Common.{refl, ap, ◌∙◌, arith}
 use Rattle.std.proofs.lemmas.Bool.{le-leb, lt-ltb, ne_eqb}
-use Rattle.std.proofs.lemmas.Bool.Decides.{nat_tests}
-use Rattle.std.proofs.lemmas.Fmt.{decimal_is_IsNumeral, length-decimal-le}
-use Rattle.std.proofs.lemmas.Str.Parse.{digit_from_value}
-use Rattle.std.proofs.lemmas.Str.{digit_value_digit}
-use Rattle.std.specs.Prelude.{◌==◌}
-use Rattle.std.specs.Char.{is_ascii_digit, digit_value}
-use Rattle.std.specs.Fmt.{decimal}
-use Rattle.std.specs.List.{list_all}
-use Rattle.std.specs.Str.Parse.{AllDigits, digits_value_after}
-use Rattle.mfotl_lex.specs.Bytes.{in_log_word, minus}
-use Rattle.mfotl_lex.specs.Numbers.{digits_value, integer_value}
+use Rattle.std.proofs.{lemmas.Bool.Decides.nat_tests, lemmas.Fmt.decimal_is_IsNumeral, lemmas.Fmt.length-decimal-le}
+use Rattle.std.proofs.{lemmas.Str.Parse.digit_from_value, lemmas.Str.digit_value_digit}
+use Rattle.std.specs.{Prelude.◌==◌, Char.is_ascii_digit, Char.digit_value, Fmt.decimal, List.list_all}
+use Rattle.std.specs.{Str.Parse.AllDigits, Str.Parse.digits_value_after}
+use Rattle.mfotl_lex.specs.{Bytes.in_log_word, Bytes.minus, Numbers.digits_value, Numbers.integer_value}
 use Rattle.mfotl_model.specs.declared.value.Value.TheVariants.{Int}
-use Rattle.log_reader.specs.Limits.{last_timestamp}
 use Rattle.log_reader.specs.Symbols.{is_digits}
 use Rattle.log_reader.specs.ValuesRead.{is_number, integer_at, timestamp_of}
 
@@ -35,30 +28,24 @@ all_in_word [] d = refl
 all_in_word (c ∷ ds) d = rw (digit_in_word c d.0, all_in_word ds d.1) refl
 
 digits_are : (ds : List ℕ) → 0 < length ds → AllDigits 10 ds → is_digits ds ≡ true
-digits_are [] some d = absurd (omega arith)
-digits_are (c ∷ ds) some d = all_are_digits (c ∷ ds) d
+digits_are ds some d = grind (arith, all_are_digits)
 
 no_minus : (c : ℕ) → digit_value c < 10 → (c == minus) ≡ false
 no_minus c d = let range = digit_from_value c d in ne_eqb c minus (λ e. omega arith)
 
 number_is : (ds : List ℕ) → 0 < length ds → AllDigits 10 ds → is_number ds ≡ true
-number_is [] some d = absurd (omega arith)
-number_is (c ∷ ds) some d = rw (no_minus c d.0) (all_are_digits (c ∷ ds) d)
+number_is ds some d = grind (arith, no_minus, all_are_digits)
 
 -- ---- what they write
 
 same_value : (ds : List ℕ) (n : ℕ) → AllDigits 10 ds → digits_value n ds ≡ digits_value_after 10 n ds
 unfolding digits_value
 same_value [] n d = refl
-same_value (c ∷ ds) n d =
-    let digit = digit_value_digit c (digit_from_value c d.0) in
-    let e : 10 * n + (c - 48) ≡ n * 10 + digit_value c = omega (arith, digit) in
-    rw e (same_value ds (n * 10 + digit_value c) d.1)
+same_value (c ∷ ds) n d = grind (arith, digit_value_digit, digit_from_value, same_value ds (n * 10 + digit_value c) d.1)
 
 same_integer : (ds : List ℕ) → AllDigits 10 ds → integer_value ds ≡ pos (digits_value 0 ds)
 unfolding integer_value digits_value
-same_integer [] d = refl
-same_integer (c ∷ ds) d = rw (no_minus c d.0) refl
+same_integer ds d = grind arith
 
 module _ (n : ℕ) (small : n < 2 ^ 64) where
   pub decimal_digits : is_digits (decimal n) ≡ true
@@ -84,12 +71,9 @@ module _ (n : ℕ) (small : n < 2 ^ 64) where
 
 -- a timestamp
 pub decimal_timestamp : (n : ℕ) → n ≤ 2 ^ 62 → timestamp_of (decimal n) ≡ Some n
-decimal_timestamp n small =
-    rw (decimal_value n (omega (arith, small)), le-leb n last_timestamp small) refl
+decimal_timestamp n small = grind (arith, decimal_value, le-leb)
 
 -- an integer
 pub decimal_read : (n at : ℕ) → n < 2 ^ 63 → integer_at at (decimal n) ≡ Ok (Int (pos n))
 unfolding integer_at
-decimal_read n at small =
-    rw (decimal_is_number n (omega (arith, small)), decimal_integer n (omega (arith, small)))
-    (rw (lt-ltb n (2 ^ 63) small) refl)
+decimal_read n at small = grind (arith, decimal_is_number, decimal_integer, lt-ltb)

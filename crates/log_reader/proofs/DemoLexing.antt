@@ -1,14 +1,12 @@
 -- The demo's log is cut into tokens that spell its time-points.
-use Rattle.std.proofs.Common.{◌≡◌, ℕ, ◌<◌, ◌^◌, true, List, [], ◌∷◌, ◌++◌, length, map, codes, refl, sym, ap, ◌∙◌}
-use Rattle.std.proofs.Common.{subst, arith, append_assoc}
+use Rattle.std.proofs.Common.{◌≡◌, ℕ, ◌<◌, ◌^◌, true, List, [], ◌∷◌, ◌++◌, length, map, codes, refl, sym, ◌∙◌, subst}
+use Rattle.std.proofs.Common.{arith, append_assoc}
 use Rattle.std.specs.Fmt.{decimal}
 use Rattle.std.specs.List.{list_all, flat_map, AllByRecursion}
 use Rattle.mfotl_lex.specs.Bytes.{in_log_word}
 use Rattle.mfotl_lex.specs.declared.kind.Kind.TheVariants.{OpenParen, CloseParen, Comma, At, Semicolon}
-use Rattle.log_reader.specs.declared.demo_event.DemoEvent.{DemoEvent}
+use Rattle.log_reader.specs.declared.{demo_event.DemoEvent.DemoEvent, demo_event.Person.Person}
 use Rattle.log_reader.specs.declared.demo_event.DemoEvent.TheVariants.{Request, Grant, Drop}
-use Rattle.log_reader.specs.declared.demo_event.Person.{Person}
-use Rattle.log_reader.specs.declared.demo_event.Person.TheVariants.{Ann}
 use Rattle.log_reader.specs.DemoEvents.{Moment, name_of, written, line_of}
 use Rattle.log_reader.specs.Grammar.{Mention, PointText, spell_mentions, spell_point, spell_log}
 use Rattle.log_reader.specs.Symbols.{Symbol, Says, Bare, Opening, Closing, Separator, Terminator}
@@ -42,16 +40,13 @@ numbered_cut id more symbols small cuts =
     (sym (append_assoc (decimal id) (codes ")") more)) number)
 
 name_in_word : (who : Person) → list_all in_log_word (name_of who) ≡ true
-name_in_word Ann = refl
-name_in_word _ = refl
+name_in_word who = grind arith
 
 pub length-name : (who : Person) → length (name_of who) ≡ 3
-length-name Ann = refl
-length-name _ = refl
+length-name who = grind arith
 
 regrouped : (a b c d more : List ℕ) → ((((a ++ b) ++ c) ++ d) ++ more) ≡ a ++ (b ++ (c ++ (d ++ more)))
-regrouped a b c d more =
-    append_assoc ((a ++ b) ++ c) d more ∙ append_assoc (a ++ b) c (d ++ more) ∙ append_assoc a b (c ++ (d ++ more))
+regrouped a b c d more = simp (append_assoc)
 
 -- a number and a name in brackets
 named_cut : (id : ℕ) (who : Person) (more : List ℕ) (symbols : List Symbol) → id < 100 → CutsInto more symbols
@@ -88,21 +83,15 @@ events_cut : (events : List DemoEvent) (more : List ℕ) (symbols : List Symbol)
     → CutsInto (flat_map written events ++ more) (spell_mentions (map mention_of events) symbols)
 events_cut [] more symbols small cuts = cuts
 events_cut (e ∷ events) more symbols small cuts =
-    subst (λ bytes. CutsInto bytes (spell_mentions (map mention_of (e ∷ events)) symbols))
-    (sym (append_assoc (written e) (flat_map written events) more))
-    (event_cut e (flat_map written events ++ more) (map mention_of events) symbols small.0
-    (events_cut events more symbols small.1 cuts))
+    search (append_assoc, event_cut, events_cut events more symbols small.1 cuts)
 
 event_apart : (e : DemoEvent) (more : List ℕ) → begins_apart (written e ++ more) ≡ true
-event_apart (Request id who) more = refl
-event_apart _ more = refl
+event_apart e more = grind arith
 
 events_apart : (events : List DemoEvent) (more : List ℕ) → begins_apart more ≡ true
     → begins_apart (flat_map written events ++ more) ≡ true
 events_apart [] more apart = apart
-events_apart (e ∷ events) more apart =
-    ap begins_apart (append_assoc (written e) (flat_map written events) more)
-    ∙ event_apart e (flat_map written events ++ more)
+events_apart (e ∷ events) more apart = simp (begins_apart, append_assoc, event_apart)
 
 -- a time-point as the grammar sees it
 abbrev pub point_text : Moment → PointText
@@ -128,6 +117,4 @@ line_cut earliest last m more symbols small sound cuts =
 pub log_cut : (ms : List Moment) (earliest last : ℕ) → last < 2 ^ 64 → AreSound earliest last ms
     → CutsInto (flat_map line_of ms) (spell_log (map point_text ms))
 log_cut [] earliest last small sound = nothing_cut
-log_cut (m ∷ ms) earliest last small sound =
-    line_cut earliest last m (flat_map line_of ms) (spell_log (map point_text ms)) small sound.0
-    (log_cut ms m.time last small sound.1)
+log_cut (m ∷ ms) earliest last small sound = search (line_cut, log_cut ms m.time last small sound.1)

@@ -1,13 +1,11 @@
 -- The bounds of what the demo draws.
-use Rattle.std.proofs.Common.{◌≡◌, ℕ, zero, suc, ◌+◌, ◌*◌, ◌<◌, ◌≤◌, cond, List, [], ◌∷◌, length, nat_lt, refl, arith}
+use Rattle.std.proofs.Common.{◌≡◌, ℕ, zero, suc, ◌+◌, ◌*◌, ◌<◌, ◌≤◌, List, [], ◌∷◌, length, refl, arith}
 use Rattle.std.proofs.Math.Nat.{mod-lt}
-use Rattle.std.proofs.lemmas.Bool.{cond_both}
 use Rattle.std.specs.List.{AllByRecursion}
 use Rattle.log_reader.specs.declared.demo_event.DemoEvent.{DemoEvent}
 use Rattle.log_reader.specs.declared.demo_event.DemoEvent.TheVariants.{Request, Grant, Drop}
 use Rattle.log_reader.specs.DemoDraws.{drawn, moved_on}
-use Rattle.log_reader.specs.DemoEvents.{Moment, person_at, event_behind, state_behind, events_behind, state_behind_all}
-use Rattle.log_reader.specs.DemoEvents.{moments}
+use Rattle.log_reader.specs.DemoEvents.{Moment, event_behind, state_behind, events_behind, state_behind_all, moments}
 
 -- an event's identity is small
 abbrev pub IsSmall : DemoEvent → Type 0
@@ -31,12 +29,7 @@ drawn_below : (m s : ℕ) → 0 < m → drawn m s < m
 drawn_below m s some = mod-lt _ some
 
 event_small : (s : ℕ) → IsSmall (event_behind s)
-event_small s =
-    let id = drawn 100 (moved_on s) in
-    let small : id < 100 = drawn_below 100 (moved_on s) (omega arith) in
-    cond_both (nat_lt (drawn 8 s) 4) (Request id (person_at (drawn 5 (moved_on (moved_on s)))))
-    (cond (nat_lt (drawn 8 s) 7) (Grant id) (Drop id)) IsSmall (λ _. small)
-    (λ _. cond_both (nat_lt (drawn 8 s) 7) (Grant id) (Drop id) IsSmall (λ _. small) (λ _. small))
+event_small s = grind arith
 
 events_small : (count s : ℕ) → AllByRecursion IsSmall (events_behind count s)
 unfolding events_behind
@@ -52,8 +45,7 @@ pub length-moments : (count time s : ℕ) → length (moments count time s) ≡ 
 unfolding moments
 length-moments zero time s = refl
 length-moments (suc count) time s =
-    let rest = length-moments count (time + drawn 4 s)
-    (state_behind_all (drawn 6 (moved_on s)) (moved_on (moved_on s))) in omega (arith, rest)
+    cc (length-moments count (time + drawn 4 s) (state_behind_all (drawn 6 (moved_on s)) (moved_on (moved_on s))))
 
 pub moments_sound : (count time s last : ℕ) → time + 3 * count ≤ last → AreSound time last (moments count time s)
 unfolding moments

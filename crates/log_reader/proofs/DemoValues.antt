@@ -1,17 +1,12 @@
 -- What the demo's log stands for by the rules of logs, and how long it is.
-use Rattle.std.proofs.Common.{◌≡◌, ℕ, zero, suc, ◌*◌, ◌<◌, ◌≤◌, ◌^◌, List, [], ◌∷◌, ◌++◌, length, map, codes, Some}
-use Rattle.std.proofs.Common.{refl, ap, ◌∙◌, arith, length-append}
+use Rattle.std.proofs.Common.{◌≡◌, ℕ, zero, suc, ◌*◌, ◌<◌, ◌≤◌, ◌^◌, List, [], ◌∷◌, length, map, codes, Some, refl}
+use Rattle.std.proofs.Common.{arith, length-append}
 use Rattle.std.proofs.lemmas.Bool.{le-ltb}
-use Rattle.std.specs.BTreeSet.{insert_key}
-use Rattle.std.specs.Fmt.{decimal}
-use Rattle.std.specs.List.{flat_map, AllByRecursion}
+use Rattle.std.specs.{BTreeSet.insert_key, List.flat_map, List.AllByRecursion}
 use Rattle.mfotl_model.specs.Events.{event_cmp}
-use Rattle.mfotl_model.specs.declared.event.Event.{Event}
-use Rattle.mfotl_model.specs.declared.event.TimePoint.{TimePoint}
-use Rattle.log_reader.specs.declared.demo_event.DemoEvent.{DemoEvent}
-use Rattle.log_reader.specs.declared.demo_event.DemoEvent.TheVariants.{Request, Grant, Drop}
-use Rattle.log_reader.specs.declared.limits.Limits.{Limits}
-use Rattle.log_reader.specs.DemoEvents.{Moment, name_of, written, line_of}
+use Rattle.mfotl_model.specs.declared.{event.Event.Event, event.TimePoint.TimePoint}
+use Rattle.log_reader.specs.declared.{demo_event.DemoEvent.DemoEvent, limits.Limits.Limits}
+use Rattle.log_reader.specs.DemoEvents.{Moment, written, line_of}
 use Rattle.log_reader.specs.Grammar.{Mention}
 use Rattle.log_reader.specs.Rules.{groups_value, mentions_value, values_of, group_count, point_value, log_value}
 use Rattle.log_reader.specs.DemoPoints.{demo_preds, event_of_demo, events_of, point_of}
@@ -25,9 +20,7 @@ event_value : (e : DemoEvent) (before : List Event) (mentions : List Mention) �
     → mentions_value demo_preds before (mention_of e ∷ mentions)
     ≡ mentions_value demo_preds (insert_key event_cmp before (event_of_demo e)) mentions
 unfolding mentions_value groups_value values_of
-event_value (Request id who) before mentions small = rw (decimal_read id 0 (omega (arith, small))) refl
-event_value (Grant id) before mentions small = rw (decimal_read id 0 (omega (arith, small))) refl
-event_value (Drop id) before mentions small = rw (decimal_read id 0 (omega (arith, small))) refl
+event_value e before mentions small = grind (arith, decimal_read)
 
 no_mention : (before : List Event) → mentions_value demo_preds before [] ≡ Some before
 unfolding mentions_value
@@ -37,18 +30,15 @@ events_value : (events : List DemoEvent) (before : List Event) → AllByRecursio
     → mentions_value demo_preds before (map mention_of events) ≡ Some (events_of before events)
 events_value [] before small = no_mention before
 events_value (e ∷ events) before small =
-    event_value e before (map mention_of events) small.0
-    ∙ events_value events (insert_key event_cmp before (event_of_demo e)) small.1
+    search (event_value, mention_of, events_value events (insert_key event_cmp before (event_of_demo e)) small.1)
 
 one_group : (e : DemoEvent) (mentions : List Mention)
     → group_count (mention_of e ∷ mentions) ≡ suc (group_count mentions)
-one_group (Request id who) mentions = omega arith
-one_group _ mentions = omega arith
+one_group e mentions = grind arith
 
 groups_counted : (events : List DemoEvent) → group_count (map mention_of events) ≡ length events
 groups_counted [] = refl
-groups_counted (e ∷ events) =
-    one_group e (map mention_of events) ∙ ap suc (groups_counted events) ∙ omega arith
+groups_counted (e ∷ events) = grind (arith, one_group, mention_of, groups_counted events)
 
 -- ---- time-points
 
@@ -57,10 +47,7 @@ module _ (limits : Limits) (enough : 5 ≤ limits.events) where
       → point_value demo_preds limits (point_text m) ≡ Some (point_of m)
   unfolding point_value
   moment_value earliest last m small sound =
-      let few = le-ltb limits.events (group_count (map mention_of m.events))
-      (omega (arith, enough, sound.few, groups_counted m.events)) in
-      let stamp = decimal_timestamp m.time (omega (arith, small, sound.within)) in
-      rw (stamp, events_value m.events [] sound.small, few) refl
+      grind (arith, le-ltb, mention_of, groups_counted, decimal_timestamp, events_value)
 
   first_value : (earliest room : ℕ) (m : Moment) (ms : List Moment) (points : List TimePoint)
       → point_value demo_preds limits (point_text m) ≡ Some (point_of m)
@@ -68,13 +55,11 @@ module _ (limits : Limits) (enough : 5 ≤ limits.events) where
       → log_value demo_preds limits m.time room (map point_text ms) ≡ Some points
       → log_value demo_preds limits earliest (suc room) (map point_text (m ∷ ms)) ≡ Some (point_of m ∷ points)
   unfolding log_value
-  first_value earliest room m ms points first later rest =
-      rw (first, le-ltb m.time earliest later, rest) refl
+  first_value earliest room m ms points first later rest = cc (le-ltb m.time earliest later)
 
   no_value : (earliest room : ℕ) → log_value demo_preds limits earliest room [] ≡ Some []
   unfolding log_value
-  no_value earliest zero = refl
-  no_value earliest (suc room) = refl
+  no_value earliest room = cc
 
   pub moments_value : (ms : List Moment) (earliest last room : ℕ) → last ≤ 2 ^ 62 → AreSound earliest last ms
       → length ms ≤ room
@@ -88,45 +73,15 @@ module _ (limits : Limits) (enough : 5 ≤ limits.events) where
 -- ---- lengths
 
 event_short : (e : DemoEvent) → IsSmall e → length (written e) ≤ 40
-event_short (Request id who) small =
-    let digits = decimal_short id (omega (arith, small)) in
-    omega (
-      arith,
-      digits,
-      length-name who,
-      length-append (decimal id) (codes ","),
-      length-append (decimal id ++ codes ",") (name_of who),
-      length-append ((decimal id ++ codes ",") ++ name_of who) (codes ")"),
-    )
-event_short (Grant id) small =
-    let digits = decimal_short id (omega (arith, small)) in
-    omega (arith, digits, length-append (decimal id) (codes ")"))
-event_short (Drop id) small =
-    let digits = decimal_short id (omega (arith, small)) in
-    omega (arith, digits, length-append (decimal id) (codes ")"))
+event_short e small = grind (arith, decimal_short, length-name, length-append, codes)
 
 events_short : (events : List DemoEvent) → AllByRecursion IsSmall events
     → length (flat_map written events) ≤ 40 * length events
 events_short [] small = omega arith
-events_short (e ∷ events) small =
-    omega (
-      arith,
-      event_short e small.0,
-      events_short events small.1,
-      length-append (written e) (flat_map written events),
-    )
+events_short (e ∷ events) small = grind (arith, event_short, length-append, events_short events small.1)
 
 line_short : (earliest last : ℕ) (m : Moment) → last < 2 ^ 64 → IsSound earliest last m → length (line_of m) ≤ 300
-line_short earliest last m small sound =
-    let digits = decimal_short m.time (omega (arith, small, sound.within)) in
-    omega (
-      arith,
-      digits,
-      sound.few,
-      events_short m.events sound.small,
-      length-append (decimal m.time) (flat_map written m.events),
-      length-append (decimal m.time ++ flat_map written m.events) (codes ";\n"),
-    )
+line_short earliest last m small sound = grind (arith, decimal_short, events_short, length-append, codes)
 
 pub moments_short : (ms : List Moment) (earliest last : ℕ) → last < 2 ^ 64 → AreSound earliest last ms
     → length (flat_map line_of ms) ≤ 300 * length ms

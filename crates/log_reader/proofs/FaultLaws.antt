@@ -1,21 +1,15 @@
 -- A log's reader follows the grammar: what the layer of first faults asks of it.
-use Rattle.std.proofs.Common.{◌≡◌, ℕ, Bool, true, false, List, Some, Ok}
-use Rattle.std.proofs.Common.{Err, refl, sym, ap, subst, ◌∙◌}
+use Rattle.std.proofs.Common.{◌≡◌, ℕ, Bool, true, false, List, Some, Ok, Err, refl, sym, ap, subst, ◌∙◌, arith}
 use Rattle.std.proofs.lemmas.Option.{same_Some}
 use Rattle.mfotl_lex.proofs.FirstFaultLaws.{exact_faults}
-use Rattle.mfotl_lex.specs.FirstFault.{Tail, Broken, End, More, run, FollowsGrammar}
+use Rattle.mfotl_lex.specs.FirstFault.{Tail, End, run, FollowsGrammar}
 use Rattle.mfotl_lex.specs.Lexemes.{Lexeme}
 use Rattle.mfotl_sig.specs.Preds.{PredOf}
-use Rattle.log_reader.specs.declared.fault.LogFault.{LogFault}
-use Rattle.log_reader.specs.declared.fault.LogFault.TheVariants.{Syntax}
-use Rattle.log_reader.specs.declared.limits.Limits.{Limits}
-use Rattle.log_reader.specs.declared.stage.Stage.TheVariants.{Between}
-use Rattle.log_reader.specs.Causes.{IsCause, IsLast}
+use Rattle.log_reader.specs.declared.{fault.LogFault.LogFault, fault.LogFault.TheVariants.Syntax, limits.Limits.Limits}
+use Rattle.log_reader.specs.declared.{stage.Stage.TheVariants.Between}
+use Rattle.log_reader.specs.{Causes.IsCause, Causes.IsLast, Laws.ExactFaults, LogTexts.log_text, Partials.Partial}
+use Rattle.log_reader.specs.{Partials.nothing_read, Steps.step}
 use Rattle.log_reader.specs.Grammar.{symbols_of, IsAccepted, IsViable}
-use Rattle.log_reader.specs.Laws.{ExactFaults}
-use Rattle.log_reader.specs.LogTexts.{log_text}
-use Rattle.log_reader.specs.Partials.{Partial, nothing_read}
-use Rattle.log_reader.specs.Steps.{step}
 use Rattle.log_reader.proofs.CauseSteps.{step_why, step_shows}
 use Rattle.log_reader.proofs.Paths.{paths, accepts, accepted_by, accepted_ends, viable_by}
 use Rattle.log_reader.proofs.Runs.{ended_at, at_tail, ending_by, fault_by, run_paths, log_ending}
@@ -39,37 +33,21 @@ module _ (ts : List Lexeme) (n : ℕ) (p : Partial) (path : paths Between (symbo
       })
 
   unaccepted : (b : Bool) → accepts p.stage ≡ b → (IsAccepted ts → ⊥) → ended_at n p p.stage ≡ Err (Syntax n)
-  unaccepted true e refuses = absurd (refuses (accepted_by ts p.stage path e))
-  unaccepted false e refuses = rw e refl
+  unaccepted b e refuses = grind (arith, accepted_by)
 
 module _ (sig : List PredOf) (limits : Limits) where
   tail_why : (ts : List Lexeme) (p : Partial) (tail : Tail LogFault) (fault : LogFault)
       → run (step sig limits) ts nothing_read ≡ Ok p
       → at_tail tail p ≡ Err fault → IsLast ts tail fault
-  tail_why ts p (Broken shown) fault sound e = cc
-  tail_why ts p (End n) fault sound e =
-      refused ts n p (run_paths sig limits nothing_read p ts sound) (accepts p.stage) refl fault e
-  tail_why ts p More fault sound e = absurd cc
+  tail_why ts p tail fault sound e = grind (arith, refused, run_paths, accepts)
 
   tail_shows : (ts : List Lexeme) (p : Partial) (tail : Tail LogFault) (fault : LogFault)
       → run (step sig limits) ts nothing_read ≡ Ok p
       → IsLast ts tail fault → at_tail tail p ≡ Err fault
-  tail_shows ts p (Broken shown) fault sound why = ap (λ (f : LogFault). Err f) (sym why)
-  tail_shows ts p (End n) (Syntax at) sound why =
-      let end = why.stands in
-      let place : n ≡ at = cc (end) in
-      unaccepted ts n p (run_paths sig limits nothing_read p ts sound) (accepts p.stage) refl why.unaccepted
-      ∙ ap (λ (k : ℕ). Err (Syntax k)) place
-  tail_shows ts p More (Syntax at) sound why = absurd (let untold = why.stands in cc (untold))
-  tail_shows ts p tail fault sound why = absurd why
+  tail_shows ts p tail fault sound why = grind (arith, unaccepted, run_paths, accepts)
 
   pub follows : FollowsGrammar (step sig limits) nothing_read at_tail IsViable (IsCause sig limits) IsLast
-  follows = record {
-    viable = λ ts s sound. viable_by ts s.stage (run_paths sig limits nothing_read s ts sound);
-    token = λ front s t fault sound.
-        (step_why sig limits front s t sound fault, step_shows sig limits front s t sound fault);
-    tail = λ ts s tail fault sound. (tail_why ts s tail fault sound, tail_shows ts s tail fault sound);
-  }
+  follows = grind (arith, viable_by, run_paths, step_why, step_shows, tail_why, tail_shows)
 
 pub exact_faults_law : ExactFaults
 exact_faults_law sig limits bytes ended fault =

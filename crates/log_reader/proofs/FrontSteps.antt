@@ -1,33 +1,26 @@
 -- What a reader knows of the tokens that it has read is what stands before the next one: a step keeps it.
-use Rattle.std.proofs.Common.{arith, ◌≡◌, ℕ, ◌+◌, Bool, true, false, List, [], ◌∷◌, ◌++◌, drop, Option, Some, None}
-use Rattle.std.proofs.Common.{Result, Ok, Err, IfOk, refl, sym, ap, ◌∙◌, nat_lt, subst, append_assoc}
-use Rattle.std.proofs.lemmas.Bool.{cond_both}
+use Rattle.std.proofs.Common.{arith, ◌≡◌, ℕ, ◌+◌, Bool, true, false, List, [], ◌∷◌, ◌++◌, drop, Some, Result, Ok, Err}
+use Rattle.std.proofs.Common.{IfOk, refl, sym, ap, ◌∙◌, subst, append_assoc}
 use Rattle.std.proofs.lemmas.List.{drop-drop, append-nil, reverse-append}
-use Rattle.mfotl_lex.specs.FirstFault.{◌>>=◌, run}
-use Rattle.mfotl_lex.specs.Lexemes.{Lexeme}
-use Rattle.mfotl_model.specs.declared.policy.Sort.{Sort}
-use Rattle.mfotl_model.specs.declared.value.Value.{Value}
-use Rattle.mfotl_sig.specs.Preds.{PredOf, named}
+use Rattle.mfotl_lex.specs.{FirstFault.◌>>=◌, FirstFault.run, Lexemes.Lexeme}
+use Rattle.mfotl_model.specs.declared.{policy.Sort.Sort, value.Value.Value}
+use Rattle.mfotl_sig.specs.Preds.{PredOf}
 use Rattle.mfotl_lex.proofs.FirstFaultLaws.{bind_ok}
-use Rattle.log_reader.specs.declared.fault.LogFault.{LogFault}
-use Rattle.log_reader.specs.declared.limits.Limits.{Limits}
-use Rattle.log_reader.specs.declared.stage.Stage.{Stage}
+use Rattle.log_reader.specs.declared.{fault.LogFault.LogFault, limits.Limits.Limits, stage.Stage.Stage}
 use Rattle.log_reader.specs.declared.stage.Stage.TheVariants.{Between, AfterAt, AfterStamp, AfterName, AfterOpen}
 use Rattle.log_reader.specs.declared.stage.Stage.TheVariants.{AfterValue, AfterComma, AfterClose}
 use Rattle.log_reader.specs.Fronts.{is_behind_at, is_in_group, points_begun, last_time, groups_begun, last_sorts}
 use Rattle.log_reader.specs.Fronts.{values_begun, due_sorts, Role, PointBegins, Timestamp, Name, GroupBegins}
 use Rattle.log_reader.specs.Fronts.{Value as ValueRole, Comma, GroupEnds, PointEnds, symbols_before, role}
-use Rattle.log_reader.specs.Partials.{Partial, nothing_read}
-use Rattle.log_reader.specs.Steps.{stepped, point_opened, stamped, naming, grouped, valued, group_closed, step}
-use Rattle.log_reader.specs.Symbols.{Symbol, AtSign, Opening, Closing, Says, Written, Bare, Quoted, symbol}
-use Rattle.log_reader.specs.Symbols.{token_content, written}
-use Rattle.log_reader.specs.ValuesRead.{timestamp_of, value_at}
-use Rattle.log_reader.specs.Grammar.{symbols_of}
-use Rattle.log_reader.proofs.Judging.{bare_content}
+use Rattle.log_reader.specs.{Partials.Partial, Partials.nothing_read, ValuesRead.value_at}
+use Rattle.log_reader.specs.Steps.{stepped, point_opened, grouped, valued, group_closed, step}
+use Rattle.log_reader.specs.Symbols.{Symbol, AtSign, Opening, Closing, Says, Written, Bare, symbol, token_content}
+use Rattle.log_reader.specs.Symbols.{written}
+use Rattle.log_reader.proofs.{Judging.bare_content, StepStages.step_goes}
 use Rattle.log_reader.proofs.Transitions.{Transition, begins_first, begins_bare, begins_full, times, names_first}
 use Rattle.log_reader.proofs.Transitions.{names_more, opens_first, opens_more, gives_first, gives_more, separates}
 use Rattle.log_reader.proofs.Transitions.{closes_empty, closes, ends_bare, ends_full, transition}
-use Rattle.log_reader.proofs.StepStages.{step_goes}
+use Rattle.std.proofs.lemmas.Grind.{common_steps}
 
 -- ---- what a stage says of what stands before
 
@@ -62,60 +55,15 @@ module _ (sig : List PredOf) (limits : Limits) (p : Partial) (t : Lexeme) (older
 
   at_stands : (s : Stage) → is_in_brackets s ≡ false → Stands sig s p older
       → Leads AfterAt AtSign (point_opened limits t.at p)
-  at_stands s out st = cond_both (nat_lt p.points limits.points) _ _ (Leads AfterAt AtSign)
-      (λ _. search (arith, st.inside ∙ out)) (λ _. tt)
-
-  stamp_stands : (word : List ℕ) (found : Option ℕ) → timestamp_of word ≡ found → Stands sig AfterAt p older
-      → Leads AfterStamp (Says (Bare word)) (stamped t.at p found)
-  stamp_stands word None e st = tt
-  stamp_stands word (Some time) e st =
-      cond_both (nat_lt time p.time) _ _ (Leads AfterStamp (Says (Bare word))) (λ _. tt)
-      (λ _. record {
-        behind = refl;
-        inside = st.inside;
-        points = st.points;
-        groups = st.groups;
-        time = rw (st.behind, e) refl;
-        sorts = rw st.behind st.sorts;
-        due = λ e. absurd cc;
-      })
-
-  name_stands : (word : List ℕ) (found : Option PredOf) (s : Stage) → named word sig ≡ found → is_after_at s ≡ false
-      → is_in_brackets s ≡ false → Stands sig s p older → Leads AfterName (Says (Bare word)) (naming t.at p found)
-  name_stands word None s e far out st = tt
-  name_stands word (Some pred) s e far out st =
-      let behind = st.behind ∙ far in
-      let inside = st.inside ∙ out in
-      record {
-        behind = refl;
-        inside = inside;
-        points = st.points;
-        groups = st.groups;
-        time = rw (behind, inside) st.time;
-        sorts = rw (behind, inside, e) refl;
-        due = λ e. absurd cc;
-      }
+  at_stands s out st = grind arith
 
   group_stands : (s : Stage) → Stands sig s p older → Leads AfterOpen Opening (grouped limits t.at p)
-  group_stands s st = cond_both (nat_lt p.groups limits.events) _ _ (Leads AfterOpen Opening)
-      (λ _. search arith) (λ _. tt)
+  group_stands s st = grind arith
 
   value_stands : (w : Written) (s : Stage) (args : List Value) (more : List Sort) → is_after_at s ≡ false
       → is_in_brackets s ≡ true → Stands sig s p older → more ≡ drop (values_begun older + 1) (last_sorts sig older)
       → Stands sig AfterValue (record p { stage = AfterValue; due = more; args = args }) (Says w ∷ older)
-  value_stands (Bare word) s args more far within st due =
-      let behind = st.behind ∙ far in
-      let inside = st.inside ∙ within in
-      record {
-        behind = refl;
-        inside = inside;
-        points = st.points;
-        groups = st.groups;
-        time = rw (behind, inside) st.time;
-        sorts = rw (behind, inside) st.sorts;
-        due = λ _. rw (behind, inside) due;
-      }
-  value_stands (Quoted text) s args more far within st due = search (arith, st.inside ∙ within)
+  value_stands w s args more far within st due = grind arith
 
   given_stands : (w : Written) (s : Stage) (sort : Sort) (more : List Sort) (r : Result Value LogFault)
       → is_after_at s ≡ false → is_in_brackets s ≡ true → Stands sig s p older → sort ∷ more ≡ due_sorts sig older
@@ -132,8 +80,7 @@ module _ (sig : List PredOf) (limits : Limits) (p : Partial) (t : Lexeme) (older
 
   closed_stands : (s : Stage) (due : List Sort) → Stands sig s p older
       → Leads AfterClose Closing (group_closed t.at p due)
-  closed_stands s (sort ∷ due) st = tt
-  closed_stands s [] st = search arith
+  closed_stands s due st = grind arith
 
   says : (word : List ℕ) → symbol t ≡ Says (Bare word) → token_content t ≡ word
   says word e = bare_content t.kind (token_content t) word e
@@ -144,12 +91,9 @@ module _ (sig : List PredOf) (limits : Limits) (p : Partial) (t : Lexeme) (older
   step_stands _ _ _ begins_first e st = at_stands Between refl st
   step_stands _ _ _ begins_bare e st = at_stands AfterStamp refl st
   step_stands _ _ _ begins_full e st = at_stands AfterClose refl st
-  step_stands _ _ _ (times word digits) e st =
-      stamp_stands word (timestamp_of (token_content t)) (ap timestamp_of (sym (says word e))) st
-  step_stands _ _ _ (names_first word) e st =
-      name_stands word (named (token_content t) sig) AfterStamp (ap (λ w. named w sig) (sym (says word e))) refl refl st
-  step_stands _ _ _ (names_more word) e st =
-      name_stands word (named (token_content t) sig) AfterClose (ap (λ w. named w sig) (sym (says word e))) refl refl st
+  step_stands _ _ _ (times word digits) e st = grind arith
+  step_stands _ _ _ (names_first word) e st = grind arith
+  step_stands _ _ _ (names_more word) e st = grind arith
   step_stands _ _ _ opens_first e st = group_stands AfterName st
   step_stands _ _ _ opens_more e st = group_stands AfterClose st
   step_stands _ _ _ (gives_first w) e st = valued_stands w AfterOpen p.due refl refl refl st
@@ -194,8 +138,7 @@ stage_of GroupEnds = AfterClose
 stage_of _ = Between
 
 stage_back : (g : Stage) → stage_of (role_to g) ≡ g
-stage_back Between = refl
-stage_back _ = refl
+stage_back g = grind arith
 
 pub same_stage : (g h : Stage) → role_to g ≡ role_to h → g ≡ h
 same_stage g h e = sym (stage_back g) ∙ ap stage_of e ∙ stage_back h
@@ -205,9 +148,7 @@ same_stage g h e = sym (stage_back g) ∙ ap stage_of e ∙ stage_back h
 -- the symbols from one on, the nearest first
 before_more : (t : Lexeme) (ts : List Lexeme) (older : List Symbol)
     → symbols_before ts ++ symbol t ∷ older ≡ symbols_before (t ∷ ts) ++ older
-before_more t ts older =
-    sym (append_assoc (symbols_before ts) (symbol t ∷ []) older)
-    ∙ ap (λ (xs : List Symbol). xs ++ older) (sym (reverse-append (symbol t ∷ []) (symbols_of ts)))
+before_more t ts older = grind (arith, common_steps, append_assoc, reverse-append)
 
 module _ (sig : List PredOf) (limits : Limits) where
   step_on : (p q : Partial) (t : Lexeme) (older : List Symbol) → step sig limits p t ≡ Ok q
@@ -235,5 +176,4 @@ module _ (sig : List PredOf) (limits : Limits) where
   pub run_stands : (front : List Lexeme) (p : Partial) → run (step sig limits) front nothing_read ≡ Ok p
       → Stands sig p.stage p (symbols_before front)
   run_stands front p e =
-      subst (Stands sig p.stage p) (append-nil (symbols_before front))
-      (run_on front nothing_read p [] e (nothing_stands sig))
+      grind (arith, append-nil (symbols_before front), run_on front nothing_read p, nothing_stands sig)

@@ -1,38 +1,29 @@
 -- Groups that are read straight from the bytes lead where their tokens would.
-use Rattle.std.proofs.Common.{◌≡◌, ℕ, ◌+◌, ◌-◌, ◌≤◌, ◌<◌, Bool, true, List, [], ◌∷◌, ◌++◌, length, drop, get_or}
-use Rattle.std.proofs.Common.{Option, Some, None, Result, Ok, Err, IfOk, IfSome, ℤ, refl, sym, ap, subst, ◌∙◌, arith}
+use Rattle.std.proofs.Common.{◌≡◌, ℕ, ◌+◌, ◌-◌, ◌≤◌, ◌<◌, Bool, true, List, [], ◌∷◌, ◌++◌, length, drop, get_or, Option}
+use Rattle.std.proofs.Common.{Some, None, Result, Ok, Err, IfOk, IfSome, ℤ, refl, sym, ap, subst, ◌∙◌, arith}
 use Rattle.std.proofs.lemmas.Bool.{cond_both, lt-ltb, eqb-true}
 use Rattle.std.proofs.lemmas.List.{drop-drop, length-drop, nil_from_length}
 use Rattle.std.specs.Prelude.{◌==◌}
-use Rattle.mfotl_lex.specs.Bytes.{is_space}
-use Rattle.mfotl_lex.specs.Growing.{grown}
+use Rattle.mfotl_lex.specs.{Bytes.is_space, Growing.grown, Places.Place}
 use Rattle.mfotl_lex.specs.Lexemes.{Tokens, after, tokens}
-use Rattle.mfotl_lex.specs.Places.{Place}
-use Rattle.mfotl_model.specs.declared.policy.Sort.{Sort}
-use Rattle.mfotl_model.specs.declared.value.Value.{Value}
+use Rattle.mfotl_model.specs.declared.{policy.Sort.Sort, value.Value.Value}
 use Rattle.mfotl_sig.specs.Preds.{PredOf}
-use Rattle.log_reader.specs.declared.limits.Limits.{Limits}
-use Rattle.log_reader.specs.declared.fault.LogFault.{LogFault}
-use Rattle.log_reader.specs.declared.stage.Stage.{Stage}
+use Rattle.log_reader.specs.declared.{limits.Limits.Limits, fault.LogFault.LogFault, stage.Stage.Stage}
 use Rattle.log_reader.specs.declared.stage.Stage.TheVariants.{AfterName, AfterOpen, AfterValue, AfterComma, AfterClose}
-use Rattle.log_reader.specs.Cursors.{IsCounted, Leads}
+use Rattle.log_reader.specs.{Cursors.IsCounted, Cursors.Leads, Partials.Partial, Readings.run, Readings.behind_tokens}
+use Rattle.log_reader.specs.{Stretches.place_in, Symbols.Bare}
 use Rattle.log_reader.specs.Groups.{may_open, TakesPlain, TakesMarked, TakesOneMore, LeadsOn, IsOpen, MayBeginGroup}
 use Rattle.log_reader.specs.Groups.{closed_with, with_group, ReadsValues, ReadsGroup}
-use Rattle.log_reader.specs.Partials.{Partial}
 use Rattle.log_reader.specs.Quick.{IsInteger, is_value_due, TakesTokenInFront, TakesStamp, StepsMark}
-use Rattle.log_reader.specs.Readings.{run, behind_tokens}
 use Rattle.log_reader.specs.Steps.{step, stepped, valued, group_closed}
-use Rattle.log_reader.specs.Stretches.{place_in}
 use Rattle.log_reader.specs.Tokens.{front_of, blank_before, IsInFront}
-use Rattle.log_reader.specs.Symbols.{Bare}
 use Rattle.mfotl_lex.specs.declared.kind.Kind.TheVariants.{Word, OpenParen, CloseParen, Comma}
 use Rattle.mfotl_model.specs.declared.policy.Sort.TheVariants as sorts
 use Rattle.mfotl_model.specs.declared.value.Value.TheVariants as values
 use Rattle.log_reader.proofs.QuickLemmas.{writes_number, integer_takes, value_goes}
-use Rattle.log_reader.proofs.MarkLemmas.{mark_steps, mark_takes}
-use Rattle.log_reader.proofs.TokenFronts.{blank_tokens}
+use Rattle.log_reader.proofs.{MarkLemmas.mark_steps, MarkLemmas.mark_takes, TokenFronts.blank_tokens}
+use Rattle.log_reader.proofs.{TokenSteps.took_leads}
 use Rattle.log_reader.proofs.TokenPlaces.{TokenAt, token_at_offset, place_behind}
-use Rattle.log_reader.proofs.TokenSteps.{took_leads}
 
 pub none_left : {X : Type 0} (xs : List X) → true ≡ (length xs == 0) → xs ≡ []
 none_left xs e = nil_from_length xs (eqb-true (length xs) 0 (sym e))

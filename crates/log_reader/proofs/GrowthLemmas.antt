@@ -1,35 +1,26 @@
 -- What the front of a log shows stays shown by the whole log.
-use Rattle.std.proofs.Common.{◌≡◌, ◌∙◌, ap, ap₂, sym, refl, arith, ℕ, ◌+◌, ◌-◌, ◌<◌, ◌≤◌, Bool, true, false, not, ◌&&◌}
-use Rattle.std.proofs.Common.{nat_lt, List, [], ◌∷◌, ◌++◌, length, take, drop, Option, Some, None, append_assoc}
-use Rattle.std.proofs.Common.{append-nil}
-use Rattle.std.specs.Prelude.{Result, Ok, Err}
-use Rattle.std.proofs.Math.Bool.{and-false}
+use Rattle.std.proofs.Common.{◌≡◌, ◌∙◌, ap, ap₂, refl, arith, ℕ, ◌+◌, ◌-◌, ◌<◌, ◌≤◌, Bool, true, false, not, ◌&&◌, List}
+use Rattle.std.proofs.Common.{[], ◌∷◌, ◌++◌, length, take, Option, Some, None, append_assoc, append-nil}
+use Rattle.std.specs.Prelude.{Result}
+use Rattle.std.proofs.{Math.Bool.and-false, Math.Seq.take-append-add}
 use Rattle.std.proofs.lemmas.Bool.{le-ltb, ltb-false, ltb-true, lt-ltb}
 use Rattle.mfotl_lex.specs.Growing.{grown, tokens_joined, joined_at, stopped as stopped_at}
 use Rattle.mfotl_lex.specs.Lexemes.{Lexeme, Tokens, tokens}
 use Rattle.mfotl_lex.specs.declared.fault.LexFault.{LexFault}
-use Rattle.mfotl_lex.specs.declared.kind.Mode.TheVariants.{Log}
 use Rattle.std.proofs.lemmas.List.{length-append, take-append-le, take_all}
-use Rattle.std.proofs.Math.Seq.{take-append-add}
 use Rattle.mfotl_lex.proofs.GrowingLemmas.{more_bytes}
 use Rattle.mfotl_model.specs.declared.event.TimePoint.{TimePoint}
 use Rattle.mfotl_sig.specs.Preds.{PredOf}
 use Rattle.mfotl_model.proofs.LogicLemmas.{funext}
-use Rattle.log_reader.specs.Partials.{Partial, nothing_read}
+use Rattle.log_reader.specs.{Partials.Partial, Partials.nothing_read, Growth.ExtendsReading, Growth.ShownStays}
+use Rattle.log_reader.specs.{Steps.completed, Steps.step}
 use Rattle.log_reader.specs.Readings.{NoFault, Reading, behind, behind_tokens, is_long, nothing_left, place_at, reading}
 use Rattle.log_reader.specs.Readings.{run, shown, went_on}
-use Rattle.log_reader.specs.Growth.{ExtendsReading, ShownStays}
-use Rattle.log_reader.specs.Steps.{completed, step}
-use Rattle.log_reader.specs.declared.fault.LogFault.{LogFault}
-use Rattle.log_reader.specs.declared.limits.Limits.{Limits}
+use Rattle.log_reader.specs.declared.{fault.LogFault.LogFault, limits.Limits.Limits}
 
 -- what is the same keeps all
 same : (s a : Reading) → a ≡ s → ExtendsReading s a
-same s a e = record {
-  more = [];
-  points = ap (λ (r : Reading). r.points) e ∙ sym (append-nil s.points);
-  stays = λ fault stops. e;
-}
+same s a e = grind (arith, append-nil)
 
 -- nothing is shown
 abbrev nothing : Reading
@@ -45,16 +36,11 @@ module _ (sig : List PredOf) (limits : Limits) where
 
   behind_keeps : (points : List TimePoint) (s a : Reading) → ExtendsReading s a
       → ExtendsReading (behind points s) (behind points a)
-  behind_keeps points s a k = record {
-    more = k.more;
-    points = ap (λ ps. points ++ ps) k.points ∙ sym (append_assoc points s.points k.more);
-    stays = λ fault stops. ap (behind points) (k.stays fault stops);
-  }
+  behind_keeps points s a k = grind (arith, append_assoc)
 
   went_keeps : (r : Result Partial LogFault) (f g : Partial → Reading) → ((q : Partial) → ExtendsReading (f q) (g q))
       → ExtendsReading (went_on r f) (went_on r g)
-  went_keeps (Ok q) f g k = k q
-  went_keeps (Err fault) f g k = same _ _ refl
+  went_keeps r f g k = grind arith
 
   -- whatever comes behind, what the tokens show stays
   run_keeps : (last : Partial → Reading) (p : Partial) (ts : List Lexeme)
@@ -85,21 +71,7 @@ module _ (sig : List PredOf) (limits : Limits) where
   pub long_same : (seen left : List ℕ) (ended : Bool) → limits.bytes < length seen
       → reading sig limits (seen ++ left) ended ≡ shown sig limits seen
   unfolding reading
-  long_same seen left ended long =
-      let whole_long : is_long limits (seen ++ left) ≡ true =
-      lt-ltb limits.bytes (length (seen ++ left)) (rw length-append (omega arith)) in
-      let front_long : is_long limits seen ≡ true = lt-ltb limits.bytes (length seen) long in
-      let looked : take limits.bytes (seen ++ left) ≡ take limits.bytes seen =
-      take-append-le limits.bytes seen left (omega arith) in
-      let untold : (ended && not (is_long limits (seen ++ left))) ≡ false =
-      ap (λ b. ended && not b) whole_long ∙ and-false ended in
-      let place_is : place_at limits (seen ++ left) ended 0 ≡ place_at limits seen false 0 =
-      ap₂ (λ bytes b. record { mode = Log; at = 0; rest = drop 0 bytes; ended = b }) looked untold in
-      let last_is : (q : Partial) → nothing_left limits (seen ++ left) ended q ≡ nothing_left limits seen false q =
-      λ q. rw (whole_long, front_long) refl in
-      ap (run_tokens (nothing_left limits (seen ++ left) ended)) (ap tokens place_is)
-      ∙ ap (λ (last : Partial → Reading). run_tokens last (tokens (place_at limits seen false 0)))
-      (funext _ _ last_is)
+  long_same seen left ended long = grind (arith, lt-ltb, length-append, take-append-le, and-false, ap₂, funext)
 
   -- the front is within the limit
   short_keeps : (seen left : List ℕ) (ended : Bool) → length seen ≤ limits.bytes
@@ -113,28 +85,19 @@ module _ (sig : List PredOf) (limits : Limits) where
       let p = place_at limits seen false 0 in
       let front_short : is_long limits seen ≡ false = le-ltb limits.bytes (length seen) short in
       let front_is : take limits.bytes seen ≡ seen = take_all limits.bytes seen short in
-      let looked : take limits.bytes (seen ++ left) ≡ take limits.bytes seen ++ more =
-      ap (λ k. take k (seen ++ left)) count ∙ take-append-add seen left n ∙ ap (λ xs. xs ++ more) (sym front_is) in
-      let place_is : place_at limits (seen ++ left) ended 0 ≡ grown p more e =
-      ap (λ bytes. record { mode = Log; at = 0; rest = drop 0 bytes; ended = e }) looked in
+      let looked : take limits.bytes (seen ++ left) ≡ take limits.bytes seen ++ more = grind (arith, take-append-add) in
+      let place_is : place_at limits (seen ++ left) ended 0 ≡ grown p more e = cc in
       let tokens_are : tokens (place_at limits (seen ++ left) ended 0) ≡ tokens_joined (tokens p) (tokens (grown
       (stopped_at p) more e)) =
       ap tokens place_is ∙ (more_bytes p more e refl).1 in
       let none : (q : Partial) → nothing_left limits seen false q ≡ nothing = λ q. rw front_short refl in
       let last = nothing_left limits (seen ++ left) ended in
-      rw (ap (run_tokens last) tokens_are)
-      (joined_keeps (nothing_left limits seen false) last none (tokens p).fault (tokens p).list (tokens (grown
-      (stopped_at p) more e)))
+      grind (arith, joined_keeps)
 
   -- what a front shows stays, whatever comes behind it, and whether or not the end is told then
   pub front_stays : (seen left : List ℕ) (ended : Bool)
       → ExtendsReading (shown sig limits seen) (reading sig limits (seen ++ left) ended)
-  front_stays seen left ended = go (nat_lt limits.bytes (length seen)) refl
-    where
-      go : (b : Bool) → nat_lt limits.bytes (length seen) ≡ b
-          → ExtendsReading (shown sig limits seen) (reading sig limits (seen ++ left) ended)
-      go true e = same _ _ (long_same seen left ended (ltb-true _ _ e))
-      go false e = short_keeps seen left ended (ltb-false _ _ e)
+  front_stays seen left ended = grind (arith, same, long_same, ltb-true, short_keeps, ltb-false)
 
 -- what the front shows stays
 pub shown_stays : ShownStays

@@ -1,31 +1,22 @@
 -- A reading of what a log spells goes on exactly where the rules give a value.
 use Rattle.std.proofs.Common.{◌≡◌, ◌⊎◌, inl, inr, ℕ, Bool, true, false, List, [], ◌∷◌, ◌++◌, Some, None, Result, Ok}
 use Rattle.std.proofs.Common.{Err, refl, sym, ap, subst, ◌∙◌, append_assoc}
-use Rattle.std.specs.BTreeSet.{insert_key}
-use Rattle.std.specs.Result.{result_ok}
+use Rattle.std.specs.{BTreeSet.insert_key, Result.result_ok}
 use Rattle.std.proofs.lemmas.List.{append-nil}
-use Rattle.mfotl_lex.specs.Lexemes.{Lexeme}
-use Rattle.mfotl_lex.specs.declared.kind.Kind.{Kind}
-use Rattle.mfotl_lex.specs.declared.kind.Kind.TheVariants.{Word, Text}
-use Rattle.mfotl_lex.specs.Numbers.{integer_value, is_int64}
+use Rattle.mfotl_lex.specs.{Lexemes.Lexeme, Numbers.integer_value, Numbers.is_int64, FirstFault.◌>>=◌}
+use Rattle.mfotl_lex.specs.declared.{kind.Kind.Kind, kind.Kind.TheVariants.Word, kind.Kind.TheVariants.Text}
 use Rattle.mfotl_model.specs.Events.{event_cmp}
-use Rattle.mfotl_model.specs.declared.event.TimePoint.{TimePoint}
-use Rattle.mfotl_model.specs.declared.policy.Sort.{Sort}
+use Rattle.mfotl_model.specs.declared.{event.TimePoint.TimePoint, policy.Sort.Sort, value.Value.Value}
 use Rattle.mfotl_model.specs.declared.policy.Sort.TheVariants as sorts
-use Rattle.mfotl_model.specs.declared.value.Value.{Value}
 use Rattle.mfotl_model.specs.declared.value.Value.TheVariants as values
 use Rattle.mfotl_sig.specs.Preds.{PredOf}
-use Rattle.log_reader.specs.declared.fault.LogFault.{LogFault}
-use Rattle.log_reader.specs.declared.fault.LogFault.TheVariants.{WrongSort, IntRange}
-use Rattle.log_reader.specs.declared.limits.Limits.{Limits}
-use Rattle.log_reader.specs.declared.stage.Stage.{Stage}
+use Rattle.log_reader.specs.declared.{fault.LogFault.LogFault, fault.LogFault.TheVariants.WrongSort}
+use Rattle.log_reader.specs.declared.{fault.LogFault.TheVariants.IntRange, limits.Limits.Limits, stage.Stage.Stage}
 use Rattle.log_reader.specs.declared.stage.Stage.TheVariants.{AfterOpen, AfterValue, AfterComma, AfterClose}
-use Rattle.mfotl_lex.specs.FirstFault.{◌>>=◌}
 use Rattle.log_reader.specs.Grammar.{spell_more, spell_values, symbols_of}
-use Rattle.log_reader.specs.Partials.{Partial, point_of}
+use Rattle.log_reader.specs.{Partials.Partial, Partials.point_of, Rules.value_of, Rules.values_of, Stages.stage_after}
+use Rattle.log_reader.specs.{Stages.completes}
 use Rattle.log_reader.specs.Readings.{Reading, Fault, behind, went_on, run}
-use Rattle.log_reader.specs.Rules.{value_of, values_of}
-use Rattle.log_reader.specs.Stages.{stage_after, completes}
 use Rattle.log_reader.specs.Steps.{step, completed, stepped}
 use Rattle.log_reader.specs.Symbols.{Symbol, Closing, Separator, Says, Written, Bare, Quoted, symbol, symbol_of}
 use Rattle.log_reader.specs.Symbols.{token_content, written, written_of}

@@ -3,15 +3,10 @@ use Rattle.std.proofs.Common.{◌≡◌, ℕ, Bool, false, List, [], ◌∷◌, 
 use Rattle.std.proofs.Common.{◌∙◌, arith, append-nil, drop}
 use Rattle.mfotl_model.specs.declared.event.TimePoint.{TimePoint}
 use Rattle.mfotl_sig.specs.Preds.{PredOf}
-use Rattle.log_reader.specs.declared.fault.LogFault.{LogFault}
-use Rattle.log_reader.specs.declared.fault.LogFault.TheVariants.{Memory}
-use Rattle.log_reader.specs.declared.limits.Limits.{Limits}
-use Rattle.log_reader.specs.declared.next.Next.{Next}
-use Rattle.log_reader.specs.declared.next.Next.TheVariants.{Point, More}
+use Rattle.log_reader.specs.declared.{fault.LogFault.LogFault, fault.LogFault.TheVariants.Memory, limits.Limits.Limits}
+use Rattle.log_reader.specs.declared.{next.Next.Next, next.Next.TheVariants.Point, next.Next.TheVariants.More}
 use Rattle.log_reader.specs.Cursors.{given_of, Leads, Exhausts, BreaksBy, AdvancesToPoint, behind_answer}
-use Rattle.log_reader.specs.Given.{Gives}
-use Rattle.log_reader.specs.Partials.{Partial}
-use Rattle.log_reader.specs.Progress.{answer_of, skipped}
+use Rattle.log_reader.specs.{Given.Gives, Partials.Partial, Progress.answer_of, Progress.skipped}
 use Rattle.log_reader.specs.Readings.{Reading, behind, run_from, nothing_behind, nothing_left, reading}
 use Rattle.log_reader.specs.Soundness.{StandsForLog, IsInStretch, AnswersDue, StandsOn, is_wanting, CountsOn}
 use Rattle.log_reader.specs.Stretches.{Stretch, Waits, stretch_end, looked_at, is_end_told, stretch_place}
@@ -22,9 +17,7 @@ use Rattle.log_reader.proofs.ReaderSoundness.{waits_by}
 -- ---- what a call answers
 
 gives_due : (answer due : Result Next LogFault) → due ≡ answer → Gives (λ next. next) answer due
-gives_due (Ok next) due e = e
-gives_due (Err Memory) due e = tt
-gives_due (Err fault) due e = e
+gives_due answer due e = grind arith
 
 -- what an answer of the cursor owes
 pub record Owed (sig : List PredOf) (limits : Limits) (is_ended : Bool) (s : Stretch) (at : ℕ) (p : Partial)
@@ -57,9 +50,7 @@ module _ (sig : List PredOf) (limits : Limits) (s : Stretch) (from : ℕ) (looke
       → run_from sig limits last p (stretch_place limits s is_ended at)
       ≡ behind points (run_from sig limits last q (stretch_place limits s is_ended at'))
   leads_now points l last =
-      let told = is_end_told limits s is_ended in
-      rw (append-nil (drop at (looked_at limits s)), append-nil (drop at' (looked_at limits s)))
-      at (l.reads [] told (later_self told) last)
+      grind (arith, append-nil (drop at (looked_at limits s)), append-nil (drop at' (looked_at limits s)), later_self)
 
   stands_led : (points : List TimePoint) → LeadsOn points → StandsOn sig limits is_ended s at p at' q
   stands_led points l log st =
@@ -74,9 +65,7 @@ module _ (sig : List PredOf) (limits : Limits) (s : Stretch) (from : ℕ) (looke
       → answer_of is_ended (skipped (given_of p) (reading sig limits log is_ended))
       ≡ answer_of is_ended (behind points
       (run_from sig limits (nothing_left limits log is_ended) q (stretch_place limits s is_ended at')))
-  due_led points l log st =
-      due_rest sig limits log is_ended s (given_of p) at p st
-      ∙ ap (answer_of is_ended) (leads_now points l (nothing_left limits log is_ended))
+  due_led points l log st = grind (arith, due_rest, leads_now)
 
   -- a time-point
   pub owed_point : (point : TimePoint) → result ≡ Ok (Some point) → Answered (Ok (Point point)) q
@@ -94,13 +83,7 @@ module _ (sig : List PredOf) (limits : Limits) (s : Stretch) (from : ℕ) (looke
   owed_by : (fault : LogFault)
       → BreaksBy sig limits s.from (looked_at limits s) (is_end_told limits s is_ended) at p fault at' q
       → Answered (Err fault) q
-  owed_by Memory b = record {
-    due = λ log st. tt;
-    stands = λ fine. absurd cc;
-    within = λ fine. absurd cc;
-    counts = tt;
-    waits = λ e. absurd cc;
-  }
+  owed_by Memory b = grind arith
   owed_by fault b = record {
     due = λ log st. due_led [] b.leads log st ∙ ap (λ (r : Reading). answer_of is_ended (behind [] r))
         (b.again (nothing_left limits log is_ended));

@@ -1,18 +1,13 @@
 -- What the lexer's laws say of one token: it leads further, and it stays whatever comes later.
-use Rattle.std.proofs.Common.{◌≡◌, ℕ, ◌+◌, ◌≤◌, ◌<◌, Bool, true, false, List, [], length, drop, Some, None, Ok, refl}
-use Rattle.std.proofs.Common.{sym, ap, ◌∙◌, add_assoc, arith}
+use Rattle.std.proofs.Common.{◌≡◌, ℕ, ◌≤◌, ◌<◌, Bool, true, false, List, [], length, drop, Some, None, Ok, refl, sym}
+use Rattle.std.proofs.Common.{ap, ◌∙◌, add_assoc, arith}
 use Rattle.std.proofs.lemmas.List.{append-nil, length-drop, drop-drop}
-use Rattle.mfotl_lex.specs.Blanks.{blank_len}
-use Rattle.mfotl_lex.specs.Growing.{grown}
+use Rattle.mfotl_lex.specs.{Blanks.blank_len, Growing.grown, Scans.IsWithin}
 use Rattle.mfotl_lex.specs.Lexemes.{Lexeme, token_at, place_after, past_blanks, next_token, after, tokens}
 use Rattle.mfotl_lex.specs.Places.{Place, further_on, mode_behind}
-use Rattle.mfotl_lex.specs.Scans.{scan, IsWithin}
 use Rattle.mfotl_lex.specs.declared.scan.Scan.{Scan}
-use Rattle.mfotl_lex.specs.declared.scan.Scan.TheVariants.{Unshown, Takes, Fails}
-use Rattle.mfotl_lex.proofs.BlankLemmas.{blank_len-drop}
-use Rattle.mfotl_lex.proofs.BlankLoop.{blanks_within}
-use Rattle.mfotl_lex.proofs.GrowingLemmas.{reads_on}
-use Rattle.mfotl_lex.proofs.ScanLemmas.{scan_within}
+use Rattle.mfotl_lex.proofs.{BlankLemmas.blank_len-drop, BlankLoop.blanks_within, GrowingLemmas.reads_on}
+use Rattle.mfotl_lex.proofs.{ScanLemmas.scan_within}
 use Rattle.mfotl_lex.proofs.Sequence.{next_is, nothing_after, after_ended, tokens_none}
 use Rattle.log_reader.specs.Cursors.{MayComeLater}
 
@@ -26,29 +21,15 @@ pub record Moves (p q : Place) : Type 0 where
 moves_by : (p : Place) (blanks : ℕ) (s : Scan) (t : Lexeme) → blanks ≤ length p.rest → IsWithin (drop blanks p.rest) s
     → token_at (further_on p blanks) s ≡ Ok (Some t) → Moves p (place_after p (further_on p blanks) s)
 unfolding mode_behind
-moves_by p blanks Unshown t le w e = absurd cc
-moves_by p blanks (Takes kind n) t le w e =
-    let inner : n ≤ length (drop blanks p.rest) = w.1 in
-    record {
-      count = blanks + n;
-      some = omega (arith, w.0);
-      within = omega (arith, inner, length-drop blanks p.rest);
-      place = rw (drop-drop n blanks p.rest, add_assoc p.at blanks n) refl;
-    }
-moves_by p blanks (Fails fault n) t le w e = absurd cc
+moves_by p blanks s t le w e = grind (arith, length-drop, drop-drop, add_assoc)
 
 pub token_moves : (p : Place) (t : Lexeme) → next_token p ≡ Ok (Some t) → Moves p (after p)
 unfolding next_token after
-token_moves p t e =
-    let blanks = blank_len p.ended p.rest in
-    moves_by p blanks (scan p.mode p.ended (drop blanks p.rest)) t (blanks_within p.ended p.rest)
-    (scan_within p.mode p.ended (drop blanks p.rest)) e
+token_moves p t e = search (moves_by, blanks_within, scan_within)
 
 -- where nothing comes later the place stays
 grown_nothing : (p : Place) → p.ended ≡ true → grown p [] true ≡ p
-grown_nothing p e =
-    ap (λ (rest : List ℕ). record p { rest = rest; ended = true }) (append-nil p.rest)
-    ∙ ap (λ (b : Bool). record p { ended = b }) (sym e)
+grown_nothing p e = grind (arith, append-nil)
 
 -- the same token, and the same place behind it
 pub record TokenAgain (p : Place) (t : Lexeme) (more : List ℕ) (later : Bool) : Type 0 where
@@ -72,15 +53,10 @@ token_again p t more later is found = go p.ended refl is
 -- ---- where no whole token is left
 
 past_twice : (p : Place) → past_blanks (past_blanks p) ≡ past_blanks p
-past_twice p =
-    rw (blank_len-drop p.ended p.rest) (ap (λ (at : ℕ). record (past_blanks p) { at = at }) (omega arith))
+past_twice p = grind (arith, blank_len-drop)
 
 none_behind : (p : Place) → next_token p ≡ Ok None → next_token (after p) ≡ Ok None
-none_behind p none =
-    rw (nothing_after p none)
-    (next_is (past_blanks p)
-    ∙ ap (λ (q : Place). token_at q (scan p.mode p.ended q.rest)) (past_twice p)
-    ∙ sym (next_is p) ∙ none)
+none_behind p none = cc (nothing_after p none, next_is (past_blanks p), past_twice p, next_is p)
 
 -- the blanks there are done with
 pub record BlanksDone (p : Place) : Type 0 where

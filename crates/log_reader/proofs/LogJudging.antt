@@ -1,30 +1,24 @@
 -- A reading of what a log spells is read to its end exactly where the rules give a value.
 use Rattle.std.proofs.Common.{◌≡◌, ◌⊎◌, inl, inr, ℕ, zero, suc, ◌+◌, Bool, true, false, cond, List, [], ◌∷◌, Option}
 use Rattle.std.proofs.Common.{Some, None, Ok, refl, sym, ap, subst, ◌∙◌, arith, nat_lt}
-use Rattle.std.specs.Prelude.{option_and_then}
-use Rattle.std.specs.List.{AllByRecursion}
+use Rattle.std.specs.{Prelude.option_and_then, List.AllByRecursion}
 use Rattle.std.proofs.lemmas.Bool.{cases_lt, lt-ltb, le-ltb}
 use Rattle.mfotl_lex.specs.Lexemes.{Lexeme}
-use Rattle.mfotl_model.specs.declared.event.Event.{Event}
-use Rattle.mfotl_model.specs.declared.event.TimePoint.{TimePoint}
+use Rattle.mfotl_model.specs.declared.{event.Event.Event, event.TimePoint.TimePoint}
 use Rattle.mfotl_sig.specs.Preds.{PredOf}
-use Rattle.log_reader.specs.declared.fault.LogFault.{LogFault}
+use Rattle.log_reader.specs.declared.{fault.LogFault.LogFault, limits.Limits.Limits, stage.Stage.Stage}
 use Rattle.log_reader.specs.declared.fault.LogFault.TheVariants.{TooManyPoints, TimestampRange, FallingTime}
-use Rattle.log_reader.specs.declared.limits.Limits.{Limits}
-use Rattle.log_reader.specs.declared.stage.Stage.{Stage}
 use Rattle.log_reader.specs.declared.stage.Stage.TheVariants.{Between, AfterAt, AfterStamp, AfterClose}
 use Rattle.log_reader.specs.Grammar.{PointText, spell_mentions, spell_end, spell_log, HasStamp, symbols_of}
 use Rattle.log_reader.specs.Partials.{Partial, point_of, finished}
 use Rattle.log_reader.specs.Readings.{Reading, NoFault, Fault, behind, run, finish_at}
 use Rattle.log_reader.specs.Rules.{mentions_value, group_count, point_value, log_value}
-use Rattle.log_reader.specs.Stages.{stage_after, is_whole}
+use Rattle.log_reader.specs.{Stages.stage_after, Stages.is_whole, ValuesRead.timestamp_of}
 use Rattle.log_reader.specs.Steps.{stepped, point_opened, stamped}
-use Rattle.log_reader.specs.ValuesRead.{timestamp_of}
 use Rattle.log_reader.specs.Symbols.{Symbol, AtSign, Terminator, Says, Bare, token_content}
-use Rattle.log_reader.proofs.Judging.{Front, front_of, bare_content, Passed, Faulty, one_step, last_step, passes, faults}
-use Rattle.log_reader.proofs.Judging.{resting}
-use Rattle.log_reader.proofs.PointJudging.{MentionsRead, mentions_judged}
-use Rattle.log_reader.proofs.Transitions.{end_goes}
+use Rattle.log_reader.proofs.Judging.{Front, front_of, bare_content, Passed, Faulty, one_step, last_step, passes}
+use Rattle.log_reader.proofs.Judging.{faults, resting}
+use Rattle.log_reader.proofs.{PointJudging.MentionsRead, PointJudging.mentions_judged, Transitions.end_goes}
 
 nothing_spelled : (ts : List Lexeme) → symbols_of ts ≡ [] → ts ≡ []
 nothing_spelled [] e = refl

@@ -1,25 +1,19 @@
 -- What is read to its end is spelled and keeps the rules, and what is spelled so is read to its end.
-use Rattle.std.proofs.Common.{◌≡◌, inl, inr, ℕ, Bool, true, false, cond, List, length, Option, Some, None, Result, Ok}
-use Rattle.std.proofs.Common.{Err, refl, sym, ap, ◌∙◌, arith}
+use Rattle.std.proofs.Common.{◌≡◌, ℕ, Bool, true, false, List, length, Option, Some, None, Result, Ok, refl, sym, ap}
+use Rattle.std.proofs.Common.{◌∙◌, arith}
 use Rattle.std.proofs.lemmas.Bool.{le-ltb, ltb-false}
-use Rattle.std.proofs.lemmas.Option.{same_Some}
 use Rattle.mfotl_lex.proofs.FirstFaultLaws.{bind_ok, one_answer}
 use Rattle.mfotl_lex.specs.FirstFault.{◌>>=◌, run, reading as reading_of, ReadIsValue, ValueIsRead, OneAnswer}
 use Rattle.mfotl_lex.specs.Lexemes.{Lexeme}
 use Rattle.mfotl_lex.specs.declared.fault.LexFault.{LexFault}
 use Rattle.mfotl_model.specs.declared.event.TimePoint.{TimePoint}
 use Rattle.mfotl_sig.specs.Preds.{PredOf}
-use Rattle.log_reader.specs.declared.fault.LogFault.{LogFault}
-use Rattle.log_reader.specs.declared.fault.LogFault.TheVariants.{TooLong}
-use Rattle.log_reader.specs.declared.limits.Limits.{Limits}
+use Rattle.log_reader.specs.declared.{fault.LogFault.LogFault, limits.Limits.Limits}
 use Rattle.log_reader.specs.Grammar.{PointText, Spells, symbols_of}
-use Rattle.log_reader.specs.Laws.{answer_by, whole_answer}
+use Rattle.log_reader.specs.{Laws.answer_by, Laws.whole_answer, Partials.Partial, Partials.nothing_read}
+use Rattle.log_reader.specs.{Rules.log_value, Rules.IsValue, Steps.step}
 use Rattle.log_reader.specs.LogTexts.{is_long, log_text, tail_behind, tokens_of}
-use Rattle.log_reader.specs.Partials.{Partial, nothing_read}
-use Rattle.log_reader.specs.Readings.{Reading, Ending, NoFault, Fault, fault_only, run as run_points, finish_at}
-use Rattle.log_reader.specs.Readings.{nothing_left, behind_tokens, reading, accepted}
-use Rattle.log_reader.specs.Rules.{log_value, IsValue}
-use Rattle.log_reader.specs.Steps.{step}
+use Rattle.log_reader.specs.Readings.{Reading, Ending, NoFault, run as run_points, reading, accepted}
 use Rattle.log_reader.proofs.LogJudging.{last, LogJudged, log_judged}
 use Rattle.log_reader.proofs.Paths.{accepts, accepted_by}
 use Rattle.log_reader.proofs.Runs.{ended_at, at_tail, ending_by, run_paths, run_ending, finish_ending, log_ending}
@@ -29,13 +23,11 @@ abbrev pub whole : List TimePoint → Reading
 whole points = record { points = points; ending = NoFault }
 
 no_ending : (r : Result Partial LogFault) → ending_by r ≡ NoFault → (p : Partial) × (r ≡ Ok p)
-no_ending (Ok p) e = (p, refl)
-no_ending (Err fault) e = absurd cc
+no_ending r e = grind arith
 
 may_end : (b : Bool) (n : ℕ) (p q : Partial) → accepts p.stage ≡ b → ended_at n p p.stage ≡ Ok q
     → accepts p.stage ≡ true
-may_end true n p q e f = e
-may_end false n p q e f = absurd (let here = rw e at f in cc (here))
+may_end b n p q e f = grind arith
 
 -- ---- tokens that are all there are
 
@@ -54,13 +46,7 @@ module _ (sig : List PredOf) (limits : Limits) (len : ℕ) (ts : List Lexeme) wh
       → run_points sig limits (last sig limits len) nothing_read ts ≡ whole points
       → LogJudged sig limits len nothing_read limits.points log ts
       → Spelled points
-  value_of_read points log spells e (inl x) = record {
-    log = log;
-    spells = spells;
-    value = x.1 ∙ ap (λ (r : Reading). Some r.points) (sym x.2.reads ∙ e);
-  }
-  value_of_read points log spells e (inr y) =
-      let lost : Fault y.1.fault ≡ NoFault = ap (λ (r : Reading). r.ending) (sym y.1.reads ∙ e) in absurd cc
+  value_of_read points log spells e h = grind arith
 
   pub tokens_spelled : (points : List TimePoint)
       → run_points sig limits (last sig limits len) nothing_read ts ≡ whole points → Spelled points
@@ -78,8 +64,7 @@ module _ (sig : List PredOf) (limits : Limits) (len : ℕ) (ts : List Lexeme) wh
   read_of_value : (points : List TimePoint) (s : Spelled points)
       → LogJudged sig limits len nothing_read limits.points s.log ts
       → run_points sig limits (last sig limits len) nothing_read ts ≡ whole points
-  read_of_value points s (inl x) = x.2.reads ∙ ap whole (same_Some x.0 points (sym x.1 ∙ s.value))
-  read_of_value points s (inr y) = let lost : None ≡ Some points = sym y.0 ∙ s.value in absurd cc
+  read_of_value points s h = grind arith
 
   pub spelled_tokens : (points : List TimePoint) → Spelled points
       → run_points sig limits (last sig limits len) nothing_read ts ≡ whole points
@@ -95,9 +80,7 @@ record IsWhole (limits : Limits) (bytes : List ℕ) (fault : Option LexFault) : 
 whole_by : (limits : Limits) (bytes : List ℕ) (fault : Option LexFault) (long : Bool) (p q : Partial)
     → is_long limits bytes ≡ long
     → at_tail (tail_behind limits bytes true fault) p ≡ Ok q → IsWhole limits bytes fault
-whole_by limits bytes (Some fault) long p q l e = absurd cc
-whole_by limits bytes None true p q l e = absurd (let here = rw l at e in cc (here))
-whole_by limits bytes None false p q l e = record { short = l; whole = refl }
+whole_by limits bytes fault long p q l e = grind arith
 
 module _ (sig : List PredOf) (limits : Limits) (bytes : List ℕ) where
   abbrev ts : List Lexeme
@@ -107,11 +90,7 @@ module _ (sig : List PredOf) (limits : Limits) (bytes : List ℕ) where
   plainly : (tokens_of limits bytes true).fault ≡ None → is_long limits bytes ≡ false
       → accepted sig limits bytes ≡ run_points sig limits (last sig limits (length bytes)) nothing_read ts
   unfolding reading
-  plainly whole short =
-      ap (λ (f : Option LexFault). run_points sig limits
-      (behind_tokens f (nothing_left limits bytes true)) nothing_read ts) whole
-      ∙ ap (λ (b : Bool). run_points sig limits
-      (λ p. cond b (fault_only (TooLong limits.bytes)) (finish_at (length bytes) p p.stage)) nothing_read ts) short
+  plainly whole short = grind arith
 
   told_run : (p : Partial) → reading_of (step sig limits) nothing_read at_tail (log_text limits bytes true) ≡ Ok p
       → (run (step sig limits) ts nothing_read >>= at_tail
@@ -120,12 +99,7 @@ module _ (sig : List PredOf) (limits : Limits) (bytes : List ℕ) where
   told_run p e = e
 
   told : (accepted sig limits bytes).ending ≡ NoFault → IsWhole limits bytes (tokens_of limits bytes true).fault
-  told e =
-      let fault = (tokens_of limits bytes true).fault in
-      let ends : Partial → Result Partial LogFault = at_tail (tail_behind limits bytes true fault) in
-      let done = no_ending _ (sym (log_ending sig limits bytes true) ∙ e) in
-      let first = bind_ok (run (step sig limits) ts nothing_read) ends done.0 (told_run done.0 done.1) in
-      whole_by limits bytes fault (is_long limits bytes) first.0 done.0 refl first.2
+  told e = grind (arith, at_tail, no_ending, log_ending, bind_ok, told_run, whole_by)
 
   pub read_spelled : (points : List TimePoint) → accepted sig limits bytes ≡ whole points
       → IsValue sig limits bytes points
@@ -143,25 +117,20 @@ module _ (sig : List PredOf) (limits : Limits) (bytes : List ℕ) where
 
   pub spelled_read : (points : List TimePoint) → IsValue sig limits bytes points
       → accepted sig limits bytes ≡ whole points
-  spelled_read points v =
-      plainly v.whole (le-ltb limits.bytes (length bytes) v.short)
-      ∙ spelled_tokens sig limits (length bytes) ts points
-      (record { log = v.log; spells = v.spells; value = v.value })
+  spelled_read points v = search (plainly, le-ltb, spelled_tokens)
 
 -- ---- answers
 
 answered : (points : List TimePoint) (ending : Ending) (found : List TimePoint) → answer_by points ending ≡ Ok found
     → record { points = points; ending = ending } ≡ whole found
-answered points NoFault found e = let same : points ≡ found = cc in ap whole same
-answered points (Fault fault) found e = absurd cc
+answered points ending found e = grind arith
 
 module _ (sig : List PredOf) (limits : Limits) where
   pub read_is_value : ReadIsValue (whole_answer sig limits) (IsValue sig limits)
   read_is_value bytes points e = read_spelled sig limits bytes points (answered _ _ points e)
 
   pub value_is_read : ValueIsRead (whole_answer sig limits) (IsValue sig limits)
-  value_is_read bytes points v =
-      ap (λ (r : Reading). answer_by r.points r.ending) (spelled_read sig limits bytes points v)
+  value_is_read bytes points v = cc (spelled_read sig limits bytes points v)
 
   pub one_of_two : OneAnswer (whole_answer sig limits) (IsValue sig limits)
   one_of_two = one_answer (whole_answer sig limits) (IsValue sig limits) read_is_value value_is_read

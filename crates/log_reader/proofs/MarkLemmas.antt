@@ -1,36 +1,26 @@
 -- A mark or a name that is taken straight from the bytes does what its token would do, and so does whatever is.
-use Rattle.std.proofs.Common.{◌≡◌, ℕ, ◌+◌, ◌-◌, ◌≤◌, Bool, true, false, List, length, drop, get_or}
-use Rattle.std.proofs.Common.{Some, Result, Ok, Err, refl, sym, ap, subst, ◌∙◌, arith}
+use Rattle.std.proofs.Common.{◌≡◌, ℕ, ◌+◌, ◌-◌, ◌≤◌, Bool, true, false, List, length, drop, get_or, Some, Result, Ok}
+use Rattle.std.proofs.Common.{Err, refl, ap, subst, arith}
 use Rattle.mfotl_lex.specs.Lexemes.{Lexeme, lexeme, next_token, after}
-use Rattle.mfotl_lex.specs.Places.{Place}
-use Rattle.mfotl_lex.specs.Scans.{log_mark}
-use Rattle.mfotl_lex.specs.declared.kind.Kind.{Kind}
-use Rattle.mfotl_lex.specs.declared.kind.Kind.TheVariants.{Word, At}
-use Rattle.mfotl_lex.specs.declared.token.Token.{Token}
+use Rattle.mfotl_lex.specs.{Places.Place, Scans.log_mark}
+use Rattle.mfotl_lex.specs.declared.{kind.Kind.Kind, kind.Kind.TheVariants.Word, kind.Kind.TheVariants.At}
+use Rattle.mfotl_lex.specs.declared.{token.Token.Token}
 use Rattle.mfotl_model.specs.declared.event.TimePoint.{TimePoint}
 use Rattle.mfotl_sig.specs.Preds.{PredOf, named}
-use Rattle.log_reader.specs.declared.cursor.TokenStep.{TokenStep}
-use Rattle.log_reader.specs.declared.cursor.TokenStep.TheVariants.{Took, Completed}
-use Rattle.log_reader.specs.declared.fault.LogFault.{LogFault}
-use Rattle.log_reader.specs.declared.fault.LogFault.TheVariants.{Memory}
-use Rattle.log_reader.specs.declared.limits.Limits.{Limits}
-use Rattle.log_reader.specs.declared.stage.Stage.{Stage}
+use Rattle.log_reader.specs.declared.{cursor.TokenStep.TokenStep, cursor.TokenStep.TheVariants.Took}
+use Rattle.log_reader.specs.declared.{cursor.TokenStep.TheVariants.Completed, fault.LogFault.LogFault}
+use Rattle.log_reader.specs.declared.{limits.Limits.Limits, stage.Stage.Stage, partial.Straight.Straight}
 use Rattle.log_reader.specs.Cursors.{IsCounted, TakesToken, StepsOver}
-use Rattle.log_reader.specs.Given.{StateMoves, Stays}
+use Rattle.log_reader.specs.{Given.StateMoves, Given.Stays, Stretches.place_in, Symbols.symbol, Tokens.blank_before}
+use Rattle.log_reader.specs.{Tokens.IsInFront}
 use Rattle.log_reader.specs.Partials.{Partial, point_of, finished}
 use Rattle.log_reader.specs.Quick.{mark_token, StepsMark, TakesTokenInFront, CompletesFront, HaltsFront, HaltsFrontBy}
 use Rattle.log_reader.specs.Quick.{TakesStraight}
-use Rattle.log_reader.specs.declared.partial.Straight.{Straight}
 use Rattle.log_reader.specs.declared.partial.Straight.TheVariants as straights
 use Rattle.log_reader.specs.Stages.{stage_after, completes, is_whole}
 use Rattle.log_reader.specs.Steps.{step, stepped, naming}
-use Rattle.log_reader.specs.Stretches.{place_in}
-use Rattle.log_reader.specs.Symbols.{symbol}
-use Rattle.log_reader.specs.Tokens.{blank_before, IsInFront}
-use Rattle.log_reader.proofs.TokenFronts.{mark_seen, blank_past}
-use Rattle.log_reader.proofs.TokenPlaces.{TokenAt, token_at_offset}
-use Rattle.log_reader.proofs.Transitions.{name_goes}
-use Rattle.log_reader.proofs.TokenSteps.{steps_over}
+use Rattle.log_reader.proofs.{TokenFronts.mark_seen, TokenFronts.blank_past, TokenPlaces.TokenAt}
+use Rattle.log_reader.proofs.{TokenPlaces.token_at_offset, Transitions.name_goes, TokenSteps.steps_over}
 
 module _ {U : Type 0} {limits : Limits} {p q : Partial} {at b : ℕ} {result : Result U LogFault} where
   -- a mark that leads from this stage to that one
@@ -40,22 +30,13 @@ module _ {U : Type 0} {limits : Limits} {p q : Partial} {at b : ℕ} {result : R
       → ((sig : List PredOf) → StateMoves p q result (stepped sig limits p (mark_token kind at mark) (Some stage)))
       → StepsMark limits p at b result q
   unfolding step
-  mark_steps mark kind s stage there is known goes_to goes_on moves =
-      let x = symbol (mark_token kind at mark) in
-      rw is (record {
-        kind = kind;
-        is = known;
-        goes_on = ap (λ (s : Stage). completes s x) there ∙ goes_on;
-        moves = λ sig. subst (StateMoves p q result) (sym (ap (stepped sig limits p (mark_token kind at mark))
-            (ap (λ (s : Stage). stage_after s x) there ∙ goes_to))) (moves sig);
-      })
+  mark_steps mark kind s stage there is known goes_to goes_on moves = grind arith
 
 -- ---- the front of the bytes
 
 pub front_halts : (sig : List PredOf) (limits : Limits) (p : Partial) (at : ℕ) (bytes : List ℕ) (fault : LogFault)
     (q : Partial) → HaltsFront sig limits p at bytes fault q → HaltsFrontBy sig limits p at bytes fault q
-front_halts sig limits p at bytes Memory q h = tt
-front_halts sig limits p at bytes fault q h = h
+front_halts sig limits p at bytes fault q h = grind arith
 
 module _ (sig : List PredOf) (limits : Limits) (p q : Partial) (at : ℕ) (bytes : List ℕ) (some : 1 ≤ length bytes)
     {U : Type 0} (result : Result U LogFault) (s : StepsMark limits p at (get_or bytes 0 0) result q) where
@@ -94,9 +75,7 @@ at_completes p q at bytes point some first whole is after = record {
 
 pub plain_word : {bytes : List ℕ} {at : ℕ} (t : Token) → IsInFront bytes at (lexeme t) → t.kind ≡ Word → t.at ≡ at
     → IsInFront bytes at (record { kind = Word; at = at; text = t.text.now })
-plain_word {bytes} {at} t front kind same =
-    subst (λ (n : ℕ). IsInFront bytes at (record { kind = Word; at = n; text = t.text.now })) same
-    (subst (λ (k : Kind). IsInFront bytes at (record { kind = k; at = t.at; text = t.text.now })) kind front)
+plain_word {bytes} {at} t front kind same = grind arith
 
 module _ (sig : List PredOf) (limits : Limits) (p q : Partial) (at : ℕ) (bytes text : List ℕ)
     (front : IsInFront bytes at (record { kind = Word; at = at; text = text })) (whole : is_whole p.stage ≡ true) where
@@ -109,22 +88,11 @@ module _ (sig : List PredOf) (limits : Limits) (p q : Partial) (at : ℕ) (bytes
 
   -- a predicate's name behind a whole time-point
   pub name_takes : naming at p (named text sig) ≡ Ok q → TakesTokenInFront sig limits p at bytes (length text) q
-  name_takes moves = record {
-    token = name;
-    front = front;
-    end = refl;
-    goes_on = (name_goes p.stage text whole).1;
-    steps = steps_name ∙ moves;
-  }
+  name_takes moves = grind (arith, name_goes, steps_name)
 
   pub name_halts : (fault : LogFault) → Stays p q fault (naming at p (named text sig))
       → HaltsFrontBy sig limits p at bytes fault q
-  name_halts fault stays = front_halts sig limits p at bytes fault q (record {
-    token = name;
-    front = front;
-    goes_on = (name_goes p.stage text whole).1;
-    stays = subst (Stays p q fault) (sym steps_name) stays;
-  })
+  name_halts fault stays = grind (arith, front_halts, name_goes, steps_name)
 
 -- ---- at an offset
 
@@ -182,5 +150,4 @@ module _ (sig : List PredOf) (limits : Limits) (from : ℕ) (looked : List ℕ) 
 
   pub front_halted : (fault : LogFault) → HaltsFrontBy sig limits p (from + at + n) rest fault q
       → TakesToken sig limits from looked ended at p (Err fault) at q
-  front_halted Memory f = tt
-  front_halted fault f = front_stays fault f
+  front_halted fault f = grind (arith, front_stays)

@@ -1,9 +1,8 @@
 -- The automaton of the grammar goes on with exactly the symbols of logs, and of what logs begin with.
-use Rattle.std.proofs.Common.{◌≡◌, ℕ, Bool, true, false, cond, List, [], ◌∷◌, ◌++◌, Option, Some, None, refl, sym, ap}
-use Rattle.std.proofs.Common.{◌∙◌}
+use Rattle.std.proofs.Common.{◌≡◌, ℕ, Bool, true, false, cond, List, [], ◌∷◌, ◌++◌, Option, Some, None, refl, ap, ◌∙◌}
+use Rattle.std.proofs.Common.{arith}
 use Rattle.std.proofs.lemmas.Option.{same_Some}
-use Rattle.std.specs.Prelude.{option_and_then}
-use Rattle.std.specs.List.{AllByRecursion}
+use Rattle.std.specs.{Prelude.option_and_then, List.AllByRecursion}
 use Rattle.mfotl_lex.specs.Lexemes.{Lexeme}
 use Rattle.log_reader.specs.declared.stage.Stage.{Stage}
 use Rattle.log_reader.specs.declared.stage.Stage.TheVariants.{Between, AfterAt, AfterStamp, AfterName, AfterOpen}
@@ -15,8 +14,7 @@ use Rattle.log_reader.specs.Stages.{stage_after}
 use Rattle.log_reader.proofs.Transitions.{Transition, begins_first, begins_bare, begins_full, times, names_first}
 use Rattle.log_reader.proofs.Transitions.{names_more, opens_first, opens_more, gives_first, gives_more, separates}
 use Rattle.log_reader.proofs.Transitions.{closes_empty, closes, ends_bare, ends_full, transition}
-use Rattle.log_reader.specs.Symbols.{Symbol, Opening, Closing, Says, Written, Bare}
-use Rattle.log_reader.specs.Symbols.{is_digits}
+use Rattle.log_reader.specs.Symbols.{Symbol, Opening, Closing, Says, Written, Bare, is_digits}
 
 -- the stage behind symbols, if the grammar goes on with each
 abbrev pub paths : Stage → List Symbol → Option Stage
@@ -84,12 +82,7 @@ nothing = record {
 prepend : {s g : Stage} {x : Symbol} {xs : List Symbol} (parts : Parts) (t : Tail g xs)
     → x ∷ spell_from g t.parts ≡ spell_from s parts → AllByRecursion HasStamp parts.log → HasDigits s parts
     → Tail s (x ∷ xs)
-prepend {s} {g} {x} parts t e stamps digits = record {
-  parts = parts;
-  spelled = ap (λ (ys : List Symbol). x ∷ ys) t.spelled ∙ e;
-  stamps = stamps;
-  digits = digits;
-}
+prepend {s} {g} {x} parts t e stamps digits = grind arith
 
 -- the time-point that an `@` begins, before the others
 abbrev with_point : Parts → Parts
@@ -134,8 +127,7 @@ ends _ a = absurd cc
 -- the first step of a path
 first_step : (o : Option Stage) (f : Stage) (next : Stage → Option Stage) → option_and_then next o ≡ Some f
     → (g : Stage) × (o ≡ Some g) × (next g ≡ Some f)
-first_step (Some g) f next e = (g, refl, e)
-first_step None f next e = absurd cc
+first_step o f next e = grind arith
 
 pub tail : (s : Stage) (xs : List Symbol) (f : Stage) → paths s xs ≡ Some f → accepts f ≡ true → Tail s xs
 tail s [] f e a = ends s (ap accepts (same_Some s f e) ∙ a)
@@ -169,11 +161,7 @@ BothEnd xs = Ends AfterStamp xs × Ends AfterClose xs
 
 mentions_end : (mentions : List Mention) (rest : List Symbol) → BothEnd rest → BothEnd (spell_mentions mentions rest)
 mentions_end [] rest e = e
-mentions_end (m ∷ mentions) rest e =
-    let others = mentions_end mentions rest e in
-    let groups = values_end m.first (spell_groups m.more (spell_mentions mentions rest))
-    (groups_end m.more (spell_mentions mentions rest) others.1) in
-    (groups, groups)
+mentions_end (m ∷ mentions) rest e = grind (arith, values_end, groups_end, mentions_end mentions rest e)
 
 whole_end : (log : List PointText) → Ends Between (spell_log log) → BothEnd (spell_log log)
 whole_end [] e = ((AfterStamp, refl, refl), (AfterClose, refl, refl))
@@ -202,8 +190,7 @@ paths_joined : (xs ys : List Symbol) (o : Option Stage)
     → ((g : Stage) → paths g (xs ++ ys) ≡ option_and_then (λ h. paths h ys) (paths g xs))
     → option_and_then (λ g. paths g (xs ++ ys)) o
     ≡ option_and_then (λ g. paths g ys) (option_and_then (λ g. paths g xs) o)
-paths_joined xs ys (Some g) each = each g
-paths_joined xs ys None each = refl
+paths_joined xs ys o each = grind arith
 
 pub paths-append : (s : Stage) (xs ys : List Symbol)
     → paths s (xs ++ ys) ≡ option_and_then (λ g. paths g ys) (paths s xs)
@@ -235,15 +222,9 @@ accepted_ends ts accepted = rw (accepted.1.spelled) (log_ends accepted.0 accepte
 pub viable_by : (ts : List Lexeme) (s : Stage) → paths Between (symbols_of ts) ≡ Some s → IsViable ts
 viable_by ts s e =
     let c = completion s in
-    let joined : paths Between (symbols_of ts ++ c.0) ≡ Some c.1.0 = paths-append Between (symbols_of ts) c.0
-    ∙ ap (option_and_then (λ g. paths g c.0)) e ∙ c.1.1 in
+    let joined : paths Between (symbols_of ts ++ c.0) ≡ Some c.1.0 = cc (paths-append Between (symbols_of ts) c.0) in
     let spelled = spells_by (symbols_of ts ++ c.0) c.1.0 joined c.1.2 in
     (c.0, spelled.0, spelled.1)
 
 pub viable_path : (ts : List Lexeme) → IsViable ts → (s : Stage) × (paths Between (symbols_of ts) ≡ Some s)
-viable_path ts viable =
-    let whole = log_ends viable.1 viable.2.stamps in
-    let joined : option_and_then (λ g. paths g viable.0) (paths Between (symbols_of ts)) ≡ Some whole.0 =
-    sym (paths-append Between (symbols_of ts) viable.0) ∙ ap (paths Between) viable.2.spelled ∙ whole.1 in
-    let first = first_step (paths Between (symbols_of ts)) whole.0 (λ g. paths g viable.0) joined in
-    (first.0, first.1)
+viable_path ts viable = grind (arith, log_ends, paths-append, first_step)

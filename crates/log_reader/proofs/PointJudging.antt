@@ -1,21 +1,20 @@
 -- A reading of what a time-point spells goes on exactly where the rules give a value.
-use Rattle.std.proofs.Common.{◌≡◌, ◌⊎◌, inl, inr, ℕ, suc, ◌+◌, ◌≤◌, ◌<◌, true, false, List, [], ◌∷◌, length, Option, Some}
-use Rattle.std.proofs.Common.{None, refl, ap, subst, ◌∙◌, arith}
+use Rattle.std.proofs.Common.{◌≡◌, ◌⊎◌, inl, inr, ℕ, suc, ◌+◌, ◌≤◌, ◌<◌, true, false, List, [], ◌∷◌, length, Option}
+use Rattle.std.proofs.Common.{Some, None, refl, ap, subst, ◌∙◌, arith}
 use Rattle.std.specs.BTreeSet.{insert_key}
 use Rattle.std.proofs.lemmas.Bool.{cases_lt, lt-ltb, le-ltb}
 use Rattle.mfotl_lex.specs.Lexemes.{Lexeme}
 use Rattle.mfotl_model.specs.Events.{event_cmp}
 use Rattle.mfotl_model.specs.declared.event.Event.{Event}
 use Rattle.mfotl_sig.specs.Preds.{PredOf, named}
-use Rattle.log_reader.specs.declared.fault.LogFault.TheVariants.{TooManyEvents, UnknownPredicate}
-use Rattle.log_reader.specs.declared.limits.Limits.{Limits}
-use Rattle.log_reader.specs.declared.stage.Stage.{Stage}
+use Rattle.log_reader.specs.declared.{fault.LogFault.TheVariants.TooManyEvents}
+use Rattle.log_reader.specs.declared.{fault.LogFault.TheVariants.UnknownPredicate, limits.Limits.Limits}
+use Rattle.log_reader.specs.declared.{stage.Stage.Stage}
 use Rattle.log_reader.specs.declared.stage.Stage.TheVariants.{AfterName, AfterOpen, AfterClose}
 use Rattle.log_reader.specs.Grammar.{Mention, spell_values, spell_group, spell_groups, spell_mentions, symbols_of}
-use Rattle.log_reader.specs.Partials.{Partial}
+use Rattle.log_reader.specs.{Partials.Partial, Steps.stepped, Steps.grouped}
 use Rattle.log_reader.specs.Rules.{groups_value, mentions_value, group_count}
 use Rattle.log_reader.specs.Stages.{stage_after, completes, is_whole}
-use Rattle.log_reader.specs.Steps.{stepped, grouped}
 use Rattle.log_reader.specs.Symbols.{Symbol, Opening, Closing, Says, Written, Bare, token_content}
 use Rattle.log_reader.proofs.Judging.{front_of, bare_content, Passed, Faulty, passes, faults, Passed-then}
 use Rattle.log_reader.proofs.Judging.{Faulty-behind, resting, within, values_judged}

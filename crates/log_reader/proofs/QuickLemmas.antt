@@ -1,40 +1,28 @@
 -- A number that is read straight from the bytes is what the token there stands for.
 use native.Mathlib.Nat.{pow-succ', pow-le-pow_right}
 use Rattle.std.proofs.Common.{◌≡◌, ℕ, suc, ◌+◌, ◌-◌, ◌*◌, ◌^◌, ◌≤◌, ◌<◌, true, false, List, [], ◌∷◌, ◌++◌, length}
-use Rattle.std.proofs.Common.{get_or, drop-cons, take, drop, zero, Result, Option, Some, None, Ok, ℤ, nat_lt, refl}
-use Rattle.std.proofs.Common.{sym, ap, ◌∙◌, inl, inr, arith}
+use Rattle.std.proofs.Common.{get_or, drop-cons, take, drop, zero, Result, Option, Some, None, Ok, ℤ, nat_lt, refl, sym}
+use Rattle.std.proofs.Common.{ap, ◌∙◌, inl, inr, arith}
 use Rattle.std.specs.Prelude.{◌==◌, nat_le, unwrap_or}
-use Rattle.std.specs.Char.{is_ascii_digit}
-use Rattle.std.specs.List.{list_all, prefix_len}
+use Rattle.std.specs.{Char.is_ascii_digit, List.list_all, List.prefix_len}
 use Rattle.std.proofs.lemmas.Bool.{cases_Bool, leb-true, ltb-true, lt-ltb, le-ltb, le-leb, and_parts, and_from, ne_eqb}
-use Rattle.std.proofs.lemmas.Bool.Decides.{nat_tests}
-use Rattle.std.proofs.lemmas.List.{length-take}
-use Rattle.mfotl_lex.specs.Bytes.{minus, in_log_word}
-use Rattle.mfotl_lex.specs.Lexemes.{Lexeme}
-use Rattle.mfotl_lex.specs.Limits.{max_magnitude}
-use Rattle.mfotl_lex.specs.Numbers.{digits_value, integer_value}
+use Rattle.std.proofs.{lemmas.Bool.Decides.nat_tests, lemmas.List.length-take}
+use Rattle.mfotl_lex.specs.{Bytes.minus, Bytes.in_log_word, Lexemes.Lexeme, Limits.max_magnitude, Numbers.digits_value}
+use Rattle.mfotl_lex.specs.{Numbers.integer_value, FirstFault.◌>>=◌}
 use Rattle.mfotl_lex.specs.declared.kind.Kind.TheVariants.{Word}
-use Rattle.mfotl_lex.specs.FirstFault.{◌>>=◌}
-use Rattle.mfotl_model.specs.declared.policy.Sort.{Sort}
-use Rattle.mfotl_model.specs.declared.policy.Sort.TheVariants.{Int}
-use Rattle.mfotl_model.specs.declared.value.Value.{Value}
+use Rattle.mfotl_model.specs.declared.{policy.Sort.Sort, policy.Sort.TheVariants.Int, value.Value.Value}
 use Rattle.mfotl_model.specs.declared.value.Value.TheVariants as values
 use Rattle.mfotl_sig.specs.Preds.{PredOf}
-use Rattle.log_reader.specs.declared.fault.LogFault.{LogFault}
-use Rattle.log_reader.specs.declared.limits.Limits.{Limits}
-use Rattle.log_reader.specs.declared.stage.Stage.{Stage}
+use Rattle.log_reader.specs.declared.{fault.LogFault.LogFault, limits.Limits.Limits, stage.Stage.Stage}
+use Rattle.log_reader.specs.declared.{partial.Straight.Straight}
 use Rattle.log_reader.specs.declared.stage.Stage.TheVariants.{AfterAt, AfterStamp, AfterOpen, AfterValue, AfterComma}
-use Rattle.log_reader.specs.Limits.{last_timestamp}
-use Rattle.log_reader.specs.Partials.{Partial}
-use Rattle.log_reader.specs.Stages.{stage_after, completes}
+use Rattle.log_reader.specs.{Limits.last_timestamp, Partials.Partial, Stages.stage_after, Stages.completes}
+use Rattle.log_reader.specs.{ValuesRead.integer_at}
 use Rattle.log_reader.specs.Steps.{step, stepped, valued}
 use Rattle.log_reader.specs.Symbols.{Written, Bare, Says, written, is_digits}
 use Rattle.log_reader.specs.Quick.{room, ends_number, digits_before, BeginsWithNumber, IsInteger, TakesTokenInFront}
-use Rattle.log_reader.specs.Quick.{is_value_due}
-use Rattle.log_reader.specs.Quick.{TakesInteger, TakesStraight}
-use Rattle.log_reader.specs.declared.partial.Straight.{Straight}
+use Rattle.log_reader.specs.Quick.{is_value_due, TakesInteger, TakesStraight}
 use Rattle.log_reader.specs.declared.partial.Straight.TheVariants.{Nothing, Took, Completed}
-use Rattle.log_reader.specs.ValuesRead.{integer_at}
 use Rattle.log_reader.proofs.TokenFronts.{word_in_front}
 
 -- what the digits say

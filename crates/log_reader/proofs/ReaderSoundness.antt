@@ -1,37 +1,29 @@
 -- What a reader keeps true of the bytes, the offset and what was read before it.
 use Rattle.std.proofs.Common.{◌≡◌, ℕ, ◌+◌, ◌-◌, ◌≤◌, Bool, true, false, cond, List, [], ◌∷◌, ◌++◌, length, drop, nat_lt}
 use Rattle.std.proofs.Common.{None, Result, Ok, Err, refl, sym, ap, ap₂, subst, ◌∙◌, arith, append_assoc, append-nil}
-use Rattle.std.proofs.lemmas.Bool.{cond_both, ltb-false}
+use Rattle.std.proofs.{lemmas.Bool.cond_both, lemmas.Bool.ltb-false, Math.Seq.drop-append_seam, Math.Seq.take-nil}
 use Rattle.std.proofs.lemmas.List.{length-drop, length-append, length-take, drop-drop, take_all, nil_from_length}
-use Rattle.std.proofs.Math.Seq.{drop-append_seam, take-nil}
-use Rattle.mfotl_lex.specs.Blanks.{blank_len}
+use Rattle.mfotl_lex.specs.{Blanks.blank_len, Places.Place, Scans.log_scan}
 use Rattle.mfotl_lex.specs.Lexemes.{Tokens, next_token, tokens}
-use Rattle.mfotl_lex.specs.Places.{Place}
-use Rattle.mfotl_lex.specs.Scans.{log_scan}
 use Rattle.mfotl_lex.specs.declared.kind.Mode.TheVariants.{Log}
 use Rattle.mfotl_model.specs.declared.event.TimePoint.{TimePoint}
 use Rattle.mfotl_sig.specs.Preds.{PredOf}
-use Rattle.log_reader.specs.declared.fault.LogFault.{LogFault}
-use Rattle.log_reader.specs.declared.fault.LogFault.TheVariants.{TooLong, Memory}
-use Rattle.log_reader.specs.declared.limits.Limits.{Limits}
-use Rattle.log_reader.specs.declared.next.Next.{Next}
-use Rattle.log_reader.specs.declared.next.Next.TheVariants.{Point, More}
-use Rattle.log_reader.specs.declared.stage.Stage.{Stage}
+use Rattle.log_reader.specs.declared.{fault.LogFault.LogFault, fault.LogFault.TheVariants.TooLong}
+use Rattle.log_reader.specs.declared.{fault.LogFault.TheVariants.Memory, limits.Limits.Limits, next.Next.Next}
+use Rattle.log_reader.specs.declared.{next.Next.TheVariants.Point, next.Next.TheVariants.More, stage.Stage.Stage}
 use Rattle.log_reader.specs.declared.stage.Stage.TheVariants.{Between, AfterStamp, AfterClose}
 use Rattle.log_reader.specs.Cursors.{IsCounted, open_count, given_of, Leads, behind_answer}
 use Rattle.log_reader.specs.Partials.{Partial, nothing_read, point_of, finished}
 use Rattle.log_reader.specs.Progress.{answer_of, skipped}
 use Rattle.log_reader.specs.Readings.{Reading, Ending, NoFault, fault_only, behind, behind_tokens, run, run_from}
-use Rattle.log_reader.specs.Readings.{is_long}
-use Rattle.log_reader.specs.Readings.{finish_at, nothing_behind, nothing_left, place_at, reading}
+use Rattle.log_reader.specs.Readings.{is_long, finish_at, nothing_behind, nothing_left, place_at, reading}
 use Rattle.log_reader.specs.Soundness.{Remains, StandsForLog, IsInStretch, StandsForSomeLog, StandsOn, CountsOn}
 use Rattle.log_reader.specs.Stretches.{Stretch, Waits, stretch_end, with_piece, looked_at, is_end_told, stretch_place}
 use Rattle.log_reader.specs.Stretches.{forgotten}
 use Rattle.log_reader.specs.Stretches as stretches
-use Rattle.log_reader.proofs.StretchLemmas.{further, place_grown, later_told, behind_place, behind_end}
-use Rattle.log_reader.proofs.StretchLemmas.{shortened_end, shortened_place}
-use Rattle.log_reader.proofs.TokenPlaces.{none_run}
-use Rattle.log_reader.proofs.TokenSteps.{later_self}
+use Rattle.log_reader.proofs.StretchLemmas.{further, place_grown, later_told, behind_place, behind_end, shortened_end}
+use Rattle.log_reader.proofs.StretchLemmas.{shortened_place}
+use Rattle.log_reader.proofs.{TokenPlaces.none_run, TokenSteps.later_self}
 
 -- behind the first time-points of a reading comes the rest
 skip_more : (n : ℕ) (points : List TimePoint) (all rest : Reading) → skipped n all ≡ behind points rest

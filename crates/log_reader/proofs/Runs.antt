@@ -1,25 +1,18 @@
 -- A log's tokens as the layer of first faults sees them: a run, and how it ends.
-use Rattle.std.proofs.Common.{◌≡◌, ℕ, Bool, true, false, cond, List, [], ◌∷◌, length, Option, Some, None, Result, Ok}
-use Rattle.std.proofs.Common.{Err, refl, ap, ◌∙◌}
+use Rattle.std.proofs.Common.{◌≡◌, ℕ, Bool, List, [], ◌∷◌, Option, Some, Result, Ok, Err, ap, ◌∙◌, arith}
 use Rattle.std.specs.Prelude.{option_and_then, if◌then◌else◌}
 use Rattle.mfotl_lex.proofs.FirstFaultLaws.{bind_ok}
 use Rattle.mfotl_lex.specs.FirstFault.{◌>>=◌, Tail, Broken, End, More, run, reading as reading_of}
 use Rattle.mfotl_lex.specs.Lexemes.{Lexeme}
 use Rattle.mfotl_lex.specs.declared.fault.LexFault.{LexFault}
 use Rattle.mfotl_sig.specs.Preds.{PredOf}
-use Rattle.log_reader.specs.declared.fault.LogFault.{LogFault}
-use Rattle.log_reader.specs.declared.fault.LogFault.TheVariants.{Syntax, TooLong}
-use Rattle.log_reader.specs.declared.limits.Limits.{Limits}
-use Rattle.log_reader.specs.declared.stage.Stage.{Stage}
-use Rattle.log_reader.specs.declared.stage.Stage.TheVariants.{Between}
-use Rattle.log_reader.specs.Grammar.{symbols_of}
-use Rattle.log_reader.specs.LogTexts.{is_long, tail_behind, log_text, tokens_of}
-use Rattle.log_reader.specs.Partials.{Partial, nothing_read}
-use Rattle.log_reader.specs.Readings.{Reading, Ending, NoFault, Fault, fault_only, went_on, run as run_points}
-use Rattle.log_reader.specs.Readings.{behind_tokens, finish_at, nothing_left, reading}
-use Rattle.log_reader.specs.Steps.{step}
-use Rattle.log_reader.proofs.Paths.{paths, accepts}
-use Rattle.log_reader.proofs.StepStages.{step_goes}
+use Rattle.log_reader.specs.declared.{fault.LogFault.LogFault, fault.LogFault.TheVariants.Syntax, limits.Limits.Limits}
+use Rattle.log_reader.specs.declared.{stage.Stage.Stage}
+use Rattle.log_reader.specs.{Grammar.symbols_of, LogTexts.tail_behind, LogTexts.log_text, Partials.Partial}
+use Rattle.log_reader.specs.{Partials.nothing_read, Steps.step}
+use Rattle.log_reader.specs.Readings.{Reading, Ending, NoFault, Fault, went_on, run as run_points, behind_tokens}
+use Rattle.log_reader.specs.Readings.{finish_at, nothing_left, reading}
+use Rattle.log_reader.proofs.{Paths.paths, Paths.accepts, StepStages.step_goes}
 
 -- ---- what the layer asks for
 
@@ -37,8 +30,7 @@ ending_by (Ok p) = NoFault
 ending_by (Err fault) = Fault fault
 
 pub fault_by : (r : Result Partial LogFault) (fault : LogFault) → ending_by r ≡ Fault fault → r ≡ Err fault
-fault_by (Ok p) fault e = absurd cc
-fault_by (Err other) fault e = cc
+fault_by r fault e = grind arith
 
 -- ---- runs
 
@@ -59,8 +51,7 @@ module _ (sig : List PredOf) (limits : Limits) where
         → ((q : Partial) → (run_points sig limits last q ts).ending ≡ ending_by (run (step sig limits) ts q >>= ends))
         → (went_on r (λ q. run_points sig limits last q ts)).ending
         ≡ ending_by ((r >>= λ q. run (step sig limits) ts q) >>= ends)
-    went_ending ts (Ok q) each = each q
-    went_ending ts (Err fault) each = refl
+    went_ending ts r each = grind arith
 
     -- the time-points aside, a reading ends as its run does
     pub run_ending : (p : Partial) (ts : List Lexeme)
@@ -73,30 +64,16 @@ module _ (sig : List PredOf) (limits : Limits) where
 
 pub finish_ending : (n : ℕ) (p : Partial) (stage : Stage)
     → (finish_at n p stage).ending ≡ ending_by (ended_at n p stage)
-finish_ending n p Between = refl
-finish_ending n p _ = refl
-
-left_ending : (limit n : ℕ) (long ended : Bool) (p : Partial)
-    → (cond long (fault_only (TooLong limit))
-    (cond ended (finish_at n p p.stage) (record { points = []; ending = NoFault }))).ending
-    ≡ ending_by (at_tail (cond long (Broken (TooLong limit)) (cond ended (End n) More)) p)
-left_ending limit n true ended p = refl
-left_ending limit n false true p = finish_ending n p p.stage
-left_ending limit n false false p = refl
+finish_ending n p stage = grind arith
 
 pub tail_ending : (limits : Limits) (bytes : List ℕ) (ended : Bool) (lexical : Option LexFault) (p : Partial)
     → (behind_tokens lexical (nothing_left limits bytes ended) p).ending
     ≡ ending_by (at_tail (tail_behind limits bytes ended lexical) p)
-tail_ending limits bytes ended (Some fault) p = refl
-tail_ending limits bytes ended None p = left_ending limits.bytes (length bytes) (is_long limits bytes) ended p
+tail_ending limits bytes ended lexical p = grind arith
 
 -- how a log's reading ends is what the layer reads
 pub log_ending : (sig : List PredOf) (limits : Limits) (bytes : List ℕ) (ended : Bool)
     → (reading sig limits bytes ended).ending
     ≡ ending_by (reading_of (step sig limits) nothing_read at_tail (log_text limits bytes ended))
 unfolding reading reading_of
-log_ending sig limits bytes ended =
-    let ts = tokens_of limits bytes ended in
-    run_ending sig limits (behind_tokens ts.fault (nothing_left limits bytes ended))
-    (at_tail (tail_behind limits bytes ended ts.fault))
-    (tail_ending limits bytes ended ts.fault) nothing_read ts.list
+log_ending sig limits bytes ended = search (run_ending, tail_ending)

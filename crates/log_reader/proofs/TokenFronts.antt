@@ -1,26 +1,16 @@
 -- What is seen straight in a log's bytes is what a lexer would find there.
-use Rattle.std.proofs.Common.{◌≡◌, ℕ, ◌+◌, ◌≤◌, ◌<◌, Bool, true, false, List, [], ◌∷◌, length, take, drop}
-use Rattle.std.proofs.Common.{Option, Some, None, Ok, IfSome, get_or, refl, sym, ap, subst, ◌∙◌, inl, inr}
-use Rattle.std.proofs.Common.{arith}
-use Rattle.std.specs.Prelude.{◌==◌}
-use Rattle.std.specs.List.{prefix_len}
-use Rattle.std.proofs.lemmas.Bool.{cases_Bool, eqb-true, le-ltb, lt-ltb, or_right, cond_both}
-use Rattle.std.proofs.lemmas.Bool.Decides.{nat_tests}
-use Rattle.std.proofs.lemmas.List.{length-take}
-use Rattle.mfotl_lex.proofs.BlankLemmas.{blank_len-none, blank_space}
-use Rattle.mfotl_lex.proofs.GrowingLemmas.{tokens_same}
+use Rattle.std.proofs.Common.{◌≡◌, ℕ, ◌+◌, ◌≤◌, ◌<◌, Bool, true, false, List, [], ◌∷◌, length, take, drop, Option, Some}
+use Rattle.std.proofs.Common.{None, Ok, IfSome, get_or, sym, ap, subst, ◌∙◌, arith}
+use Rattle.std.specs.{Prelude.◌==◌, List.prefix_len}
+use Rattle.std.proofs.lemmas.Bool.{eqb-true, le-ltb, lt-ltb, or_right, cond_both}
+use Rattle.std.proofs.{lemmas.Bool.Decides.nat_tests, lemmas.List.length-take}
+use Rattle.mfotl_lex.proofs.{BlankLemmas.blank_len-none, BlankLemmas.blank_space, GrowingLemmas.tokens_same}
 use Rattle.mfotl_lex.proofs.Sequence.{next_is, after_is, scan_at}
-use Rattle.mfotl_lex.specs.Blanks.{blank_len}
+use Rattle.mfotl_lex.specs.{Blanks.blank_len, Places.Place, Scans.log_scan, Scans.log_mark}
 use Rattle.mfotl_lex.specs.Bytes.{quote, hash, is_space, in_log_word}
 use Rattle.mfotl_lex.specs.Lexemes.{Lexeme, lexeme, past_blanks, token_at, place_after, next_token, after, tokens}
-use Rattle.mfotl_lex.specs.Limits.{max_log_word}
-use Rattle.mfotl_lex.specs.Places.{Place}
-use Rattle.mfotl_lex.specs.Scans.{log_scan, log_mark}
-use Rattle.mfotl_lex.specs.declared.kind.Kind.{Kind}
-use Rattle.mfotl_lex.specs.declared.kind.Kind.TheVariants.{Word}
-use Rattle.mfotl_lex.specs.declared.scan.Scan.{Scan}
-use Rattle.mfotl_lex.specs.declared.scan.Scan.TheVariants.{Unshown, Takes, Fails}
-use Rattle.mfotl_lex.specs.declared.token.Token.{Token}
+use Rattle.mfotl_lex.specs.declared.{kind.Kind.Kind, kind.Kind.TheVariants.Word, scan.Scan.Scan}
+use Rattle.mfotl_lex.specs.declared.{scan.Scan.TheVariants.Takes, token.Token.Token}
 use Rattle.log_reader.specs.Tokens.{front_of, blank_before, IsInFront}
 
 -- a whole token without blanks before it
@@ -31,16 +21,7 @@ pub record IsWhole (bytes : List ℕ) (kind : Kind) (n : ℕ) : Type 0 where
 
 pub in_front : (bytes : List ℕ) (at : ℕ) (kind : Kind) (n : ℕ) → IsWhole bytes kind n
     → IsInFront bytes at (record { kind = kind; at = at; text = take n bytes })
-in_front bytes at kind n w = record {
-  is = λ ended.
-      let same : at + 0 ≡ at = omega arith in
-      next_is (front_of bytes at ended) ∙ rw (w.bare ended, w.scanned ended, same) refl;
-  behind = λ ended.
-      ap (λ (r : Place). r.at) (after_is (front_of bytes at ended))
-      ∙ rw (w.bare ended, w.scanned ended) (omega (arith, w.inner, length-take n bytes));
-  first = omega arith;
-  last = omega (arith, w.inner, length-take n bytes);
-}
+in_front bytes at kind n w = grind (arith, next_is, after_is, length-take)
 
 -- ---- marks
 
@@ -52,23 +33,11 @@ record Marks (b : ℕ) : Type 0 where
   text : (b == quote) ≡ false
 
 marks_of : (b : ℕ) (kind : Kind) → log_mark b ≡ Some kind → Marks b
-marks_of b kind =
-    let P : Option Kind → Type 0 = λ o. o ≡ Some kind → Marks b in
-    cond_both (b == 64) _ _ P (λ is _. rw (eqb-true b 64 is) (search arith))
-    (λ _. cond_both (b == 40) _ _ P (λ is _. rw (eqb-true b 40 is) (search arith))
-    (λ _. cond_both (b == 41) _ _ P (λ is _. rw (eqb-true b 41 is) (search arith))
-    (λ _. cond_both (b == 44) _ _ P (λ is _. rw (eqb-true b 44 is) (search arith))
-    (λ _. cond_both (b == 59) _ _ P (λ is _. rw (eqb-true b 59 is) (search arith)) (λ _ e. absurd cc)))))
+marks_of b kind = grind (arith, cond_both, eqb-true)
 
 pub mark_whole : (b : ℕ) (more : List ℕ) (kind : Kind) → log_mark b ≡ Some kind → IsWhole (b ∷ more) kind 1
 unfolding log_scan
-mark_whole b more kind e =
-    let m = marks_of b kind e in
-    record {
-      scanned = λ ended. rw (m.word, m.text, m.comment, e) refl;
-      bare = λ ended. blank_len-none ended b more m.space m.comment;
-      inner = omega arith;
-    }
+mark_whole b more kind e = grind (arith, marks_of b kind e, blank_len-none)
 
 -- ---- words
 
@@ -80,29 +49,14 @@ no_comment b h = grind (arith, nat_tests)
 
 first_in : (b : ℕ) (bytes : List ℕ) (n : ℕ) → prefix_len in_log_word (b ∷ bytes) ≡ n → 0 < n
     → in_log_word b ≡ true
-first_in b bytes n e some =
-    elim (cases_Bool (in_log_word b)) [
-      | inl is ↦ is
-      | inr not ↦ let none : 0 ≡ n = rw not at e in absurd (omega (arith, none, some))
-    ]
+first_in b bytes n e some = grind arith
 
 pub word_whole : (bytes : List ℕ) (n : ℕ) → prefix_len in_log_word bytes ≡ n → 0 < n → n ≤ 4096
     → n < length bytes → IsWhole bytes Word n
 unfolding log_scan
 word_whole [] n e some few inner = absurd (omega (arith, inner))
 word_whole (b ∷ bytes) n e some few inner =
-    let first = first_in b bytes n e some in
-    record {
-      scanned = λ ended. rw (
-        e,
-        first,
-        le-ltb max_log_word n few,
-        lt-ltb n (length (b ∷ bytes)) inner,
-        or_right ended true refl,
-      ) refl;
-      bare = λ ended. blank_len-none ended b bytes (no_blank b first) (no_comment b first);
-      inner = omega (arith, inner);
-    }
+    grind (arith, first_in, le-ltb, lt-ltb, or_right, blank_len-none, no_blank, no_comment)
 
 pub word_in_front : (bytes : List ℕ) (at n : ℕ) → prefix_len in_log_word bytes ≡ n → 0 < n → n ≤ 4096
     → n < length bytes → IsInFront bytes at (record { kind = Word; at = at; text = take n bytes })
@@ -112,15 +66,12 @@ word_in_front bytes at n e some few inner = in_front bytes at Word n (word_whole
 
 past_blank : (ended : Bool) (b : ℕ) (bytes : List ℕ) (at : ℕ) → is_space b ≡ true
     → past_blanks (front_of (b ∷ bytes) at ended) ≡ past_blanks (front_of bytes (at + 1) ended)
-past_blank ended b bytes at space = rw (blank_space ended b bytes space)
-    (ap (λ (k : ℕ). front_of (drop (blank_len ended bytes) bytes) k ended) (omega arith))
+past_blank ended b bytes at space = grind (arith, blank_space)
 
 -- behind a token it doesn't matter where its blanks begin
 same_behind : (p q place : Place) (s : Scan) (t : Lexeme) → token_at place s ≡ Ok (Some t)
     → place_after p place s ≡ place_after q place s
-same_behind p q place Unshown t e = absurd cc
-same_behind p q place (Takes kind n) t e = refl
-same_behind p q place (Fails fault n) t e = absurd cc
+same_behind p q place s t e = grind arith
 
 -- a blank in front of bytes
 module _ (b : ℕ) (bytes : List ℕ) (at : ℕ) (space : is_space b ≡ true) (ended : Bool) where

@@ -1,20 +1,15 @@
 -- A token at an offset of the bytes, where reading goes on behind it, and what it makes of a reading from there.
 use Rattle.std.proofs.Common.{◌≡◌, ℕ, ◌+◌, ◌-◌, ◌≤◌, ◌<◌, Bool, List, length, drop, Some, Ok, ap, ap₂, subst, ◌∙◌}
 use Rattle.std.proofs.Common.{arith, add_assoc, Option, None, Result, Err}
-use Rattle.std.proofs.lemmas.List.{length-drop, drop-drop}
-use Rattle.mfotl_lex.specs.Growing.{grown}
-use Rattle.mfotl_lex.specs.Lexemes.{Lexeme, next_token, after, Tokens, followed, tokens}
-use Rattle.mfotl_lex.specs.Places.{Place, further_on}
+use Rattle.std.proofs.{lemmas.List.length-drop, lemmas.List.drop-drop, lemmas.Grind.common_steps}
+use Rattle.mfotl_lex.specs.{Growing.grown, Places.Place, Places.further_on}
+use Rattle.mfotl_lex.specs.Lexemes.{Lexeme, next_token, after, followed, tokens}
 use Rattle.mfotl_lex.proofs.Sequence.{tokens_step}
 use Rattle.mfotl_lex.specs.declared.fault.LexFault.{LexFault}
 use Rattle.mfotl_sig.specs.Preds.{PredOf}
-use Rattle.log_reader.specs.Cursors.{MayComeLater}
-use Rattle.log_reader.specs.Stretches.{place_in}
-use Rattle.log_reader.specs.declared.fault.LogFault.TheVariants.{Lex}
-use Rattle.log_reader.specs.declared.limits.Limits.{Limits}
-use Rattle.log_reader.specs.Partials.{Partial}
+use Rattle.log_reader.specs.{Cursors.MayComeLater, Stretches.place_in, Partials.Partial, Steps.step, Steps.completed}
+use Rattle.log_reader.specs.declared.{fault.LogFault.TheVariants.Lex, limits.Limits.Limits}
 use Rattle.log_reader.specs.Readings.{Reading, behind, fault_only, went_on, run, run_from, behind_tokens}
-use Rattle.log_reader.specs.Steps.{step, completed}
 use Rattle.log_reader.proofs.Lexing.{token_moves, token_again}
 
 -- a token at an offset, and the offset behind it, whatever comes later
@@ -28,9 +23,7 @@ pub record TokenAt (from : ℕ) (looked : List ℕ) (ended : Bool) (at : ℕ) (t
 
 pub place_behind : (from : ℕ) (looked : List ℕ) (ended : Bool) (at count : ℕ)
     → further_on (place_in from looked ended at) count ≡ place_in from looked ended (at + count)
-place_behind from looked ended at count =
-    ap₂ (λ (n : ℕ) (rest : List ℕ). record (place_in from looked ended at) { at = n; rest = rest })
-    (add_assoc from at count) (drop-drop count at looked)
+place_behind from looked ended at count = simp (ap₂, add_assoc, drop-drop)
 
 pub token_at_offset : (from : ℕ) (looked : List ℕ) (ended : Bool) (at : ℕ) (t : Lexeme) → at ≤ length looked
     → next_token (place_in from looked ended at) ≡ Ok (Some t)
@@ -38,8 +31,7 @@ pub token_at_offset : (from : ℕ) (looked : List ℕ) (ended : Bool) (at : ℕ)
 token_at_offset from looked ended at t le e =
     let p = place_in from looked ended at in
     let l = token_moves p t e in
-    let here : after p ≡ place_in from looked ended (at + l.count) =
-    l.place ∙ place_behind from looked ended at l.count in
+    let here : after p ≡ place_in from looked ended (at + l.count) = grind (arith, common_steps, place_behind) in
     let far : (after p).at ≡ from + (at + l.count) = ap (λ (q : Place). q.at) here in
     let n : at + l.count ≡ (after p).at - from = omega (arith, far) in
     let inner : l.count ≤ length (drop at looked) = l.within in
@@ -55,8 +47,7 @@ module _ (sig : List PredOf) (limits : Limits) (last : Partial → Reading) (p :
   by_tokens : (r : Result (Option Lexeme) LexFault) → next_token place ≡ r
       → run_from sig limits last p place
       ≡ (let ts = followed r (tokens (after place)) in run sig limits (behind_tokens ts.fault last) p ts.list)
-  by_tokens r e = ap (λ (ts : Tokens). run sig limits (behind_tokens ts.fault last) p ts.list)
-      (tokens_step place ∙ ap (λ (x : Result (Option Lexeme) LexFault). followed x (tokens (after place))) e)
+  by_tokens r e = cc (tokens_step place)
 
   pub token_run : (t : Lexeme) → next_token place ≡ Ok (Some t)
       → run_from sig limits last p place

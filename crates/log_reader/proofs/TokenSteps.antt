@@ -1,30 +1,21 @@
 -- What one token does to a reading.
-use Rattle.std.proofs.Common.{◌≡◌, ◌⊎◌, inl, inr, ℕ, ◌≤◌, ◌<◌, Bool, true, false, List, [], ◌∷◌, length, Some}
-use Rattle.std.proofs.Common.{None, Result, Ok, Err, refl, sym, ap, subst, ◌∙◌, arith, ◌+◌, ◌-◌, drop}
+use Rattle.std.proofs.Common.{◌≡◌, ◌⊎◌, inl, inr, ℕ, ◌≤◌, ◌<◌, Bool, true, false, List, [], ◌∷◌, length, Some, None}
+use Rattle.std.proofs.Common.{Result, Ok, Err, refl, sym, ap, subst, ◌∙◌, arith, ◌+◌, ◌-◌, drop}
 use Rattle.std.proofs.lemmas.List.{length-drop}
-use Rattle.mfotl_lex.specs.Blanks.{blank_len}
-use Rattle.mfotl_lex.specs.Growing.{grown}
+use Rattle.mfotl_lex.specs.{Blanks.blank_len, Growing.grown, Places.Place}
 use Rattle.mfotl_lex.specs.Lexemes.{Lexeme, Tokens, next_token, after, tokens}
-use Rattle.mfotl_lex.specs.Places.{Place}
-use Rattle.mfotl_lex.specs.declared.kind.Kind.{Kind}
-use Rattle.mfotl_lex.specs.declared.kind.Kind.TheVariants.{Semicolon}
+use Rattle.mfotl_lex.specs.declared.{kind.Kind.Kind, kind.Kind.TheVariants.Semicolon}
 use Rattle.mfotl_sig.specs.Preds.{PredOf}
-use Rattle.log_reader.specs.declared.cursor.TokenStep.{TokenStep}
+use Rattle.log_reader.specs.declared.{cursor.TokenStep.TokenStep, fault.LogFault.LogFault}
+use Rattle.log_reader.specs.declared.{fault.LogFault.TheVariants.Memory, limits.Limits.Limits, stage.Stage.Stage}
 use Rattle.log_reader.specs.declared.cursor.TokenStep.TheVariants.{Took, Completed, Empty}
-use Rattle.log_reader.specs.declared.fault.LogFault.{LogFault}
-use Rattle.log_reader.specs.declared.fault.LogFault.TheVariants.{Memory}
-use Rattle.log_reader.specs.declared.limits.Limits.{Limits}
-use Rattle.log_reader.specs.declared.stage.Stage.{Stage}
 use Rattle.log_reader.specs.declared.stage.Stage.TheVariants.{Between, AfterAt, AfterStamp, AfterClose}
-use Rattle.log_reader.specs.Cursors.{MayComeLater, IsCounted, Leads, Exhausts, StepsOver, Halts, HaltsBy}
-use Rattle.log_reader.specs.Cursors.{TakesToken}
+use Rattle.log_reader.specs.Cursors.{MayComeLater, IsCounted, Leads, Exhausts, StepsOver, Halts, HaltsBy, TakesToken}
 use Rattle.log_reader.specs.Partials.{Partial, point_of, finished}
-use Rattle.log_reader.specs.Readings.{behind_tokens, run}
+use Rattle.log_reader.specs.{Readings.behind_tokens, Readings.run, Stretches.place_in, Given.Stays}
 use Rattle.log_reader.specs.Stages.{stage_after, completes, read_on}
 use Rattle.log_reader.specs.Steps.{step, completed, stepped}
-use Rattle.log_reader.specs.Stretches.{place_in}
 use Rattle.log_reader.specs.Symbols.{Symbol, AtSign, Terminator, symbol, symbol_of, token_content}
-use Rattle.log_reader.specs.Given.{Stays}
 use Rattle.log_reader.proofs.TokenPlaces.{token_run, TokenAt, place_behind}
 use Rattle.log_reader.proofs.Lexing.{blanks_done}
 use Rattle.log_reader.proofs.StepStages.{step_counts, completed_none, completed_one, completes_open}

@@ -1,5 +1,5 @@
 -- The ways on of the automaton of the grammar, one by one.
-use Rattle.std.proofs.Common.{◌≡◌, ℕ, true, false, List, Option, Some, IfSome, refl, subst}
+use Rattle.std.proofs.Common.{◌≡◌, ℕ, true, false, List, Option, Some, IfSome, subst, arith}
 use Rattle.std.proofs.lemmas.Bool.{cond_both}
 use Rattle.log_reader.specs.declared.stage.Stage.{Stage}
 use Rattle.log_reader.specs.declared.stage.Stage.TheVariants.{Between, AfterAt, AfterStamp, AfterName, AfterOpen}
@@ -52,13 +52,9 @@ transition s x g e = subst (λ (o : Option Stage). IfSome o (Transition s x)) e 
 -- behind a whole time-point a name may follow
 pub name_goes : (s : Stage) (w : List ℕ) → is_whole s ≡ true
     → (stage_after s (Says (Bare w)) ≡ Some AfterName) × (completes s (Says (Bare w)) ≡ false)
-name_goes AfterStamp w e = (refl, refl)
-name_goes AfterClose w e = (refl, refl)
-name_goes _ w e = absurd cc
+name_goes s w e = grind arith
 
 -- and an `@` or a `;`
 pub end_goes : (s : Stage) → is_whole s ≡ true
     → (stage_after s AtSign ≡ Some AfterAt) × (stage_after s Terminator ≡ Some Between)
-end_goes AfterStamp e = (refl, refl)
-end_goes AfterClose e = (refl, refl)
-end_goes _ e = absurd cc
+end_goes s e = grind arith

@@ -1,18 +1,12 @@
 -- Writing blanks, words and marks of a log, and cutting them into the same tokens again.
-use Rattle.std.proofs.Common.{◌≡◌, ℕ, ◌+◌, ◌<◌, ◌≤◌, Bool, true, false, not, List, [], ◌∷◌, ◌++◌, length, take}
-use Rattle.std.proofs.Common.{drop, Some, None, refl, ap, ◌∙◌, arith}
-use Rattle.std.proofs.Math.Seq.{take-append_seam, drop-append_seam}
-use Rattle.std.proofs.lemmas.List.{length-append}
+use Rattle.std.proofs.Common.{◌≡◌, ℕ, ◌+◌, ◌<◌, ◌≤◌, Bool, true, false, not, List, [], ◌∷◌, ◌++◌, length, take, drop}
+use Rattle.std.proofs.Common.{Some, None, refl, ap, ◌∙◌, arith}
+use Rattle.std.proofs.{Math.Seq.take-append_seam, Math.Seq.drop-append_seam, lemmas.List.length-append}
 use Rattle.std.specs.List.{list_all, prefix_len}
-use Rattle.mfotl_lex.specs.Blanks.{blank_len}
-use Rattle.mfotl_lex.specs.Bytes.{is_space, in_log_word}
-use Rattle.mfotl_lex.specs.Contents.{content_of}
-use Rattle.mfotl_lex.specs.Lexemes.{Tokens, tokens, tokens_within, next_token, after}
-use Rattle.mfotl_lex.specs.Places.{Place, mode_behind}
-use Rattle.mfotl_lex.specs.Scans.{log_scan, log_mark}
-use Rattle.mfotl_lex.specs.declared.kind.Kind.{Kind}
-use Rattle.mfotl_lex.specs.declared.kind.Kind.TheVariants.{Word}
-use Rattle.mfotl_lex.specs.declared.kind.Mode.TheVariants.{Log}
+use Rattle.mfotl_lex.specs.{Blanks.blank_len, Bytes.is_space, Bytes.in_log_word, Contents.content_of, Places.Place}
+use Rattle.mfotl_lex.specs.{Places.mode_behind, Scans.log_scan, Scans.log_mark}
+use Rattle.mfotl_lex.specs.Lexemes.{tokens, tokens_within, next_token, after}
+use Rattle.mfotl_lex.specs.declared.{kind.Kind.Kind, kind.Kind.TheVariants.Word, kind.Mode.TheVariants.Log}
 use Rattle.mfotl_lex.proofs.Sequence.{tokens_token}
 use Rattle.log_reader.specs.Grammar.{symbols_of}
 use Rattle.log_reader.specs.Symbols.{Symbol, Says, Bare, symbol_of}
@@ -40,20 +34,14 @@ nothing_cut at = record { seen = refl; whole = refl }
 -- a blank in front changes nothing
 pub blank_cut : (b : ℕ) (bytes : List ℕ) (symbols : List Symbol) → is_space b ≡ true → CutsInto bytes symbols
     → CutsInto (b ∷ bytes) symbols
-blank_cut b bytes symbols space cuts at =
-    let same = blank_tokens b bytes at space true in
-    record {
-      seen = ap (λ (t : Tokens). symbols_of t.list) same ∙ (cuts (at + 1)).seen;
-      whole = ap (λ (t : Tokens). t.fault) same ∙ (cuts (at + 1)).whole;
-    }
+blank_cut b bytes symbols space cuts at = grind (arith, blank_tokens)
 
 -- ---- tokens
 
 place_behind : (bytes : List ℕ) (kind : Kind) (n at : ℕ) → IsWhole bytes kind n
     → after (place_of at bytes) ≡ place_of (at + n) (drop n bytes)
 unfolding after mode_behind
-place_behind bytes kind n at w = rw (w.bare true, w.scanned true)
-    (ap (λ (k : ℕ). place_of (k + n) (drop n bytes)) (omega arith))
+place_behind bytes kind n at w = grind arith
 
 -- a token in front
 token_cut : (bytes more : List ℕ) (symbols : List Symbol) (kind : Kind) (n : ℕ) → IsWhole bytes kind n
@@ -63,14 +51,7 @@ token_cut bytes more symbols kind n w behind cuts at =
     let found = tokens_token (place_of at bytes) _ ((in_front bytes at kind n w).is true) in
     let on = place_behind bytes kind n at w ∙ ap (place_of (at + n)) behind in
     let seen = symbol_of kind (content_of kind (take n bytes)) in
-    record {
-      seen =
-          ap (λ (t : Tokens). symbols_of t.list) found
-          ∙ ap (λ (p : Place). seen ∷ symbols_of (tokens p).list) on
-          ∙ ap (λ (xs : List Symbol). seen ∷ xs) (cuts (at + n)).seen;
-      whole =
-          ap (λ (t : Tokens). t.fault) found ∙ ap (λ (p : Place). (tokens p).fault) on ∙ (cuts (at + n)).whole;
-    }
+    grind arith
 
 -- ---- marks
 
@@ -87,8 +68,7 @@ begins_apart [] = false
 begins_apart (b ∷ bytes) = not (in_log_word b)
 
 apart : (more : List ℕ) → begins_apart more ≡ true → (prefix_len in_log_word more ≡ 0) × (0 < length more)
-apart [] a = absurd cc
-apart (b ∷ more) a = let no : in_log_word b ≡ false = grind arith in (rw no refl, omega arith)
+apart more a = grind arith
 
 first_in : (b : ℕ) (word : List ℕ) → list_all in_log_word (b ∷ word) ≡ true → in_log_word b ≡ true
 first_in b word all = grind arith
@@ -99,8 +79,7 @@ others_in b word all = grind arith
 word_len : (word more : List ℕ) → list_all in_log_word word ≡ true → begins_apart more ≡ true
     → prefix_len in_log_word (word ++ more) ≡ length word
 word_len [] more all a = (apart more a).0
-word_len (b ∷ word) more all a =
-    rw (first_in b word all, word_len word more (others_in b word all) a) (omega arith)
+word_len (b ∷ word) more all a = grind (arith, first_in, others_in, word_len word more (others_in b word all) a)
 
 pub word_cut : (word more : List ℕ) (symbols : List Symbol) → list_all in_log_word word ≡ true → 0 < length word
     → length word ≤ 4096 → begins_apart more ≡ true → CutsInto more symbols
@@ -110,7 +89,4 @@ word_cut word more symbols all some short a cuts at =
     let whole = word_whole (word ++ more) (length word) (word_len word more all a) some short
     (omega (arith, behind, length-append word more)) in
     let cut = token_cut (word ++ more) more symbols Word (length word) whole (drop-append_seam word more) cuts at in
-    record {
-      seen = cut.seen ∙ ap (λ (w : List ℕ). Says (Bare w) ∷ symbols) (take-append_seam word more);
-      whole = cut.whole;
-    }
+    grind (arith, take-append_seam)

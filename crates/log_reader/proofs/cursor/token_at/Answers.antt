@@ -1,6 +1,5 @@
 use Rattle.std.proofs.Common.{◌≡◌, ◌-◌, ◌+◌, ℕ, List, length, drop, sym, ap, subst, ◌∙◌, arith}
-use Rattle.std.proofs.Math.Facts.{Fits-of_lt}
-use Rattle.std.proofs.lemmas.List.{length-drop}
+use Rattle.std.proofs.{Math.Facts.Fits-of_lt, lemmas.List.length-drop}
 use Rattle.mfotl_lex.specs.Lexemes.{lexeme}
 use Rattle.log_reader.specs.Tokens.{IsInFront}
 use Rattle.log_reader.proofs.cursor.token_at.Goals as goal

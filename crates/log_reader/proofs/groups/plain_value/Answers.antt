@@ -1,7 +1,6 @@
 use Rattle.std.proofs.Common.{ℤ, sym, subst, rules, SFits, to_z, of_z, to_z-of_z, w64}
-use Rattle.mfotl_model.specs.declared.policy.Sort.{Sort}
+use Rattle.mfotl_model.specs.declared.{policy.Sort.Sort, value.Value.TheVariants.Int}
 use Rattle.mfotl_model.specs.declared.policy.Sort.TheVariants as sorts
-use Rattle.mfotl_model.specs.declared.value.Value.TheVariants.{Int}
 use Rattle.log_reader.specs.Groups.{TakesPlain}
 use Rattle.log_reader.proofs.GroupLemmas.{plain_integer}
 use Rattle.log_reader.proofs.groups.plain_value.Goals as goal

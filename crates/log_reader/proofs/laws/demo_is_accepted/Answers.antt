@@ -1,9 +1,7 @@
 use Rattle.std.proofs.Common.{refl}
-use Rattle.mfotl_lex.specs.Places.{mode_behind}
-use Rattle.mfotl_lex.specs.Blanks.{blank_len, comment_len}
+use Rattle.mfotl_lex.specs.{Places.mode_behind, Blanks.blank_len, Blanks.comment_len, FirstFault.run}
 use Rattle.mfotl_lex.specs.Scans.{plain_scan, minus_scan, text_scan, order_scan}
 use Rattle.mfotl_lex.specs.Lexemes.{next_token, after, tokens, tokens_within}
-use Rattle.mfotl_lex.specs.FirstFault.{run}
 use Rattle.mfotl_lex.specs.FirstFault as layer
 use Rattle.mfotl_sig.specs.Reading.{step, reading}
 use Rattle.log_reader.proofs.DemoIsRead.{demo_log_is_read}

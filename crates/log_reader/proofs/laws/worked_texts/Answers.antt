@@ -1,13 +1,10 @@
 use Rattle.std.specs.Fmt.{digits}
-use Rattle.mfotl_lex.specs.Blanks.{blank_len, comment_len}
+use Rattle.mfotl_lex.specs.{Blanks.blank_len, Blanks.comment_len, Places.mode_behind, Numbers.digits_value}
+use Rattle.mfotl_lex.specs.{Numbers.integer_value}
 use Rattle.mfotl_lex.specs.Lexemes.{next_token, after, tokens, tokens_within}
-use Rattle.mfotl_lex.specs.Places.{mode_behind}
 use Rattle.mfotl_lex.specs.Scans.{log_scan, text_scan, closed_text, text_end}
-use Rattle.mfotl_lex.specs.Numbers.{digits_value, integer_value}
 use Rattle.log_reader.specs.DemoEvents.{moments, events_behind, state_behind_all}
-use Rattle.log_reader.specs.Readings.{run, reading}
-use Rattle.log_reader.specs.Steps.{step, completed}
-use Rattle.log_reader.specs.ValuesRead.{integer_at}
+use Rattle.log_reader.specs.{Readings.run, Readings.reading, Steps.step, Steps.completed, ValuesRead.integer_at}
 use Rattle.log_reader.proofs.laws.worked_texts.Goals as goal
 
 pub returns-clause-values : goal.returns-clause-values

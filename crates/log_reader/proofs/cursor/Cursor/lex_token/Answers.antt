@@ -1,8 +1,7 @@
 use Rattle.std.proofs.Common.{◌≡◌, Option, Ok, Err, Some, None, option_map, refl, ap, ◌∙◌}
 use Rattle.mfotl_lex.specs.Lexemes.{lexeme, next_token}
 use Rattle.mfotl_lex.specs.declared.token.Token.{Token}
-use Rattle.log_reader.specs.Stretches.{place_in}
-use Rattle.log_reader.specs.Tokens.{FindsToken}
+use Rattle.log_reader.specs.{Stretches.place_in, Tokens.FindsToken}
 use Rattle.log_reader.proofs.TokenPlaces.{fault_run, TokenAt, token_at_offset}
 use Rattle.log_reader.proofs.TokenSteps.{steps_over, blanks_over}
 use Rattle.log_reader.proofs.cursor.Cursor.lex_token.Goals as goal

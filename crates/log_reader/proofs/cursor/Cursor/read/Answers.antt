@@ -1,6 +1,5 @@
 use Rattle.std.proofs.Common.{ℕ, Ok, ap, ◌∙◌}
-use Rattle.log_reader.specs.Progress.{answer_of}
-use Rattle.log_reader.specs.Readings.{nothing_behind}
+use Rattle.log_reader.specs.{Progress.answer_of, Readings.nothing_behind}
 use Rattle.log_reader.proofs.Keeping.{owed_point, owed_fault, owed_end}
 use Rattle.log_reader.proofs.cursor.Cursor.read.Goals as goal
 

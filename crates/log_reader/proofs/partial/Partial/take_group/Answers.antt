@@ -1,9 +1,7 @@
 use Rattle.std.proofs.Common.{◌≡◌, [], sym, subst, ◌∙◌, rules, refl}
 use Rattle.std.specs.BTreeSet.{insert_key}
-use Rattle.mfotl_model.specs.Ascending.{ascending}
-use Rattle.mfotl_model.specs.Events.{event_cmp}
-use Rattle.log_reader.specs.Cursors.{IsCounted}
-use Rattle.log_reader.specs.Partials.{Partial}
+use Rattle.mfotl_model.specs.{Ascending.ascending, Events.event_cmp}
+use Rattle.log_reader.specs.{Cursors.IsCounted, Partials.Partial}
 use Rattle.log_reader.proofs.GroupLemmas.{takes_group, none_left}
 use Rattle.log_reader.proofs.partial.Partial.take_group.Goals as goal
 

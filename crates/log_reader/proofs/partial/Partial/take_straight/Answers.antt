@@ -1,6 +1,5 @@
 use Rattle.std.proofs.Common.{◌≡◌, true, sym, ap, ◌∙◌, inl, inr}
-use Rattle.log_reader.specs.Partials.{Partial}
-use Rattle.log_reader.specs.Quick.{is_value_due}
+use Rattle.log_reader.specs.{Partials.Partial, Quick.is_value_due}
 use Rattle.log_reader.proofs.QuickLemmas.{value_takes}
 use Rattle.log_reader.proofs.partial.Partial.take_straight.Goals as goal
 

@@ -1,7 +1,7 @@
 use Rattle.std.proofs.Common.{◌≡◌, ◌++◌, false, ap, ◌∙◌}
 use Rattle.log_reader.specs.Readers.{Reader, Reads}
-use Rattle.log_reader.proofs.ReaderSoundness.{sound_fed, stands_fed}
-use Rattle.log_reader.proofs.ReaderLemmas.{for_each, reads_kept}
+use Rattle.log_reader.proofs.{ReaderSoundness.sound_fed, ReaderSoundness.stands_fed, ReaderLemmas.for_each}
+use Rattle.log_reader.proofs.{ReaderLemmas.reads_kept}
 use Rattle.log_reader.proofs.reader.LogReader.feed.Goals as goal
 
 pub invariant_of-self-2 : goal.invariant_of-self-2

@@ -1,6 +1,5 @@
 use Rattle.std.proofs.Common.{[], refl}
-use Rattle.log_reader.proofs.ReaderSoundness.{sound_start, stands_start}
-use Rattle.log_reader.proofs.ReaderLemmas.{reads_kept}
+use Rattle.log_reader.proofs.{ReaderSoundness.sound_start, ReaderSoundness.stands_start, ReaderLemmas.reads_kept}
 use Rattle.log_reader.proofs.reader.LogReader.new.Goals as goal
 
 pub invariant_of-result : goal.invariant_of-result

@@ -1,8 +1,6 @@
-use Rattle.log_reader.specs.Laws.{IsShown}
-use Rattle.log_reader.specs.Readers.{progress}
+use Rattle.log_reader.specs.{Laws.IsShown, Readers.progress}
 use Rattle.log_reader.proofs.AnswerLemmas.{value_due, points_due, shown_due}
-use Rattle.log_reader.proofs.Fewness.{given_few}
-use Rattle.log_reader.proofs.ReaderLemmas.{each_err, kept_reads}
+use Rattle.log_reader.proofs.{Fewness.given_few, ReaderLemmas.each_err, ReaderLemmas.kept_reads}
 use Rattle.log_reader.proofs.reader.LogReader.next.Goals as goal
 
 pub returns-clause-value : goal.returns-clause-value

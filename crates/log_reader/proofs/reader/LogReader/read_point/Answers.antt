@@ -1,10 +1,8 @@
 use Rattle.std.proofs.Common.{◌≡◌, false, refl, sym, ap, ◌∙◌}
-use Rattle.log_reader.specs.Readers.{Reader}
-use Rattle.log_reader.specs.Soundness.{is_wanting}
-use Rattle.log_reader.proofs.Fewness.{sound_few}
+use Rattle.log_reader.specs.{Readers.Reader, Soundness.is_wanting}
+use Rattle.log_reader.proofs.{Fewness.sound_few, Waiting.waits_little}
 use Rattle.log_reader.proofs.ReaderLemmas.{answers, more_is, on_ok, reads_on}
 use Rattle.log_reader.proofs.ReaderSoundness.{none_forgotten, sound_forgotten, sound_on, stands_forgotten}
-use Rattle.log_reader.proofs.Waiting.{waits_little}
 use Rattle.log_reader.proofs.reader.LogReader.read_point.Goals as goal
 
 pub invariant_of-self : goal.invariant_of-self
