@@ -37,8 +37,7 @@ stand_as test other columns a p (x ∷ xs) same over stands =
     (sym (same x over.0) ∙ stands.0, stand_as test other columns a (p + 1) xs same over.1 stands.1)
 
 -- from a state to its data
-pub data_follows : {s : SinceOf} {t : List ℕ} {a b : List Bool} {v : Valuation} (kept : SinceData)
-    → Follows s t a b v
+pub data_follows : {s : SinceOf} {t : List ℕ} {a b : List Bool} {v : Valuation} (kept : SinceData) → Follows s t a b v
     → all_among s.window.left s.window.right ≡ true → AreOver s.window.left s.lefts → AreOver s.window.right s.rights
     → kept.pulled ≡ s.pulled → kept.lefts.items ≡ s.lefts → kept.rights.items ≡ s.rights
     → ((x : ℕ) (u : List Value) → recalls s.window.interval kept.rows.items x u ≡ within s.window x u)

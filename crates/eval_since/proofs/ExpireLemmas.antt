@@ -37,8 +37,7 @@ pub covered_more : (hi x : ℕ) (right left : List ℕ) (d : Dated) (ds : List D
     (cur new : List (List Value × List (List Value × List ℕ)))
     → hi < x - d.ts → Placed right left cur → list_all (names (d ∷ ds) v) (times_at cur q v) ≡ true
     → times_at new q v ≡ cond (is_at (row_cmp (part right left v)) q && has_row (packed_rows d.rows) v)
-    (recent hi x (times_at cur q v)) (times_at cur q v)
-    → list_all (names ds v) (times_at new q v) ≡ true
+    (recent hi x (times_at cur q v)) (times_at cur q v) → list_all (names ds v) (times_at new q v) ≡ true
 covered_more hi x right left d ds q v cur new far placed all step = grind (arith, names_recent, names_other)
 
 -- where the first table is recent, all are

@@ -90,8 +90,7 @@ module _ {X : Type 0} (row : List Value) where
   written_differ es i e w at is = search (as_written, keys-set_value)
 
   -- ---- without it
-  removed_is : (es : List (List Value × X)) (i : ℕ) → IsPlace es i
-      → remove es i ≡ remove_entry (is_at (row_cmp row)) es
+  removed_is : (es : List (List Value × X)) (i : ℕ) → IsPlace es i → remove es i ≡ remove_entry (is_at (row_cmp row)) es
   removed_is [] i at = grind arith
   removed_is (e ∷ es) i at =
       beyond (λ j. remove (e ∷ es) j ≡ remove_entry (is_at (row_cmp row)) (e ∷ es)) e es i at

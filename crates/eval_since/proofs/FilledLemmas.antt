@@ -49,8 +49,7 @@ row_there group v some = grind (arith, common_steps)
 pub row_changed : (h : List ℕ → List ℕ) (row : List Value) (old new : List (List Value × List ℕ))
     → ((v : List Value) → list_for new v ≡ cond (is_at (row_cmp row) v) (h (list_for old v)) (list_for old v))
     → 0 < length (h (list_for old row)) → 0 < length new
-row_changed h row old new is some =
-    row_there new row (grind (arith, is row, (eq_by_cmp_equiv row_total).refl row))
+row_changed h row old new is some = row_there new row (grind (arith, is row, (eq_by_cmp_equiv row_total).refl row))
 
 -- a group has some of the rows that it was given times for
 pub rows_changed : (h : List ℕ → List ℕ) (rows : List (List Value)) (old new : List (List Value × List ℕ))

@@ -91,8 +91,7 @@ due_settled s = grind (arith, ready_below s.pulled (length s.lefts) (length s.ri
 
 -- what a table over the left operand's columns has of a row's part
 pub left_of : (table : TableOf) (left right : List ℕ) (negated : Bool) (v : Valuation) → all_among left right ≡ true
-    → table.columns ≡ left
-    → left_has negated table.rows (part right left (map v right)) ≡ left_holds negated table v
+    → table.columns ≡ left → left_has negated table.rows (part right left (map v right)) ≡ left_holds negated table v
 left_of table left right negated v inside columns = grind (arith, part_of_own, has_as)
 
 pub right_of : (table : TableOf) (right : List ℕ) (v : Valuation) → table.columns ≡ right

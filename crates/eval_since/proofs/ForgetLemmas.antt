@@ -26,8 +26,7 @@ module _ {S : Type 0} (key : List Value) (m n : HashMap (List Value) (List (List
   changes q = grind arith
 
   pub forgets : (hi x : ℕ) (q v : List Value) (meant : Bool)
-      → list_for g v ≡ cond meant (recent hi x (list_for e v)) (list_for e v)
-      → times_at n.entries q v
+      → list_for g v ≡ cond meant (recent hi x (list_for e v)) (list_for e v) → times_at n.entries q v
       ≡ cond (is_at (row_cmp key) q && meant) (recent hi x (times_at m.entries q v)) (times_at m.entries q v)
   forgets hi x q v meant inner = grind (arith, regrouped, changes)
 

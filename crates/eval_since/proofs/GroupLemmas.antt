@@ -24,32 +24,23 @@ AreKept parts old new = (q : List Value) → lookup (is_at (row_cmp q)) new
     ≡ cond (has_row parts q) (lookup (is_at (row_cmp q)) old) None
 
 pub gone_more : {X : Type 0} (parts : List (List Value)) (i : ℕ) (x : List Value)
-    (old cur new : List (List Value × X)) → i < length parts → x ≡ get_or parts i x
-    → AreGone (take i parts) old cur
+    (old cur new : List (List Value × X)) → i < length parts → x ≡ get_or parts i x → AreGone (take i parts) old cur
     → ((q : List Value) → lookup (is_at (row_cmp q)) new
-    ≡ cond (is_at (row_cmp x) q) None (lookup (is_at (row_cmp q)) cur))
-    → AreGone (take (i + 1) parts) old new
+    ≡ cond (is_at (row_cmp x) q) None (lookup (is_at (row_cmp q)) cur)) → AreGone (take (i + 1) parts) old new
 gone_more parts i x old cur new low e before step q = grind (arith, has_more)
 
 -- where nothing is found
 pub kept_none : {X : Type 0} (parts : List (List Value)) (i : ℕ) (x : List Value)
-    (old cur kept : List (List Value × X)) → i < length parts → x ≡ get_or parts i x
-    → AreGone (take i parts) old cur
-    → AreKept (take i parts) old kept
-    → None ≡ lookup (is_at (row_cmp x)) cur
-    → AreKept (take (i + 1) parts) old kept
+    (old cur kept : List (List Value × X)) → i < length parts → x ≡ get_or parts i x → AreGone (take i parts) old cur
+    → AreKept (take i parts) old kept → None ≡ lookup (is_at (row_cmp x)) cur → AreKept (take (i + 1) parts) old kept
 kept_none parts i x old cur kept low e gone before none q = grind (arith, common_steps, has_more, same_row)
 
 -- where a group is found and moved
 pub kept_some : {X : Type 0} (parts : List (List Value)) (i : ℕ) (x key : List Value)
     (old cur kept new : List (List Value × X)) (g : X) → i < length parts → x ≡ get_or parts i x
-    → AreGone (take i parts) old cur
-    → AreKept (take i parts) old kept
-    → Some g ≡ lookup (is_at (row_cmp x)) cur
-    → is_at (row_cmp x) key ≡ true
-    → ((q : List Value) → lookup (is_at (row_cmp q)) new
-    ≡ cond (is_at (row_cmp key) q) (Some g) (lookup (is_at (row_cmp q)) kept))
-    → AreKept (take (i + 1) parts) old new
+    → AreGone (take i parts) old cur → AreKept (take i parts) old kept → Some g ≡ lookup (is_at (row_cmp x)) cur
+    → is_at (row_cmp x) key ≡ true → ((q : List Value) → lookup (is_at (row_cmp q)) new
+    ≡ cond (is_at (row_cmp key) q) (Some g) (lookup (is_at (row_cmp q)) kept)) → AreKept (take (i + 1) parts) old new
 kept_some parts i x key old cur kept new g low e gone before some same step q =
     grind (arith, has_more parts i x q low e, before q, gone q, step q, same_row x q, same_row x key)
 
@@ -67,21 +58,16 @@ pub regrouped : (h : List ℕ → List ℕ) (key q v : List Value) (meant : Bool
     (old new : List (List Value × List (List Value × List ℕ))) (g e : List (List Value × List ℕ))
     (w : Option (List (List Value × List ℕ)))
     → lookup (is_at (row_cmp q)) new ≡ cond (is_at (row_cmp key) q) w (lookup (is_at (row_cmp q)) old)
-    → unwrap_or w [] ≡ g
-    → e ≡ list_for old key
-    → list_for g v ≡ cond meant (h (list_for e v)) (list_for e v)
+    → unwrap_or w [] ≡ g → e ≡ list_for old key → list_for g v ≡ cond meant (h (list_for e v)) (list_for e v)
     → times_at new q v ≡ cond (is_at (row_cmp key) q && meant) (h (times_at old q v)) (times_at old q v)
 regrouped h key q v meant old new g e w outer is was inner = grind (arith, same_row key q)
 
 -- in the group of the empty row
 pub ungrouped : (h : List ℕ → List ℕ) (key q v : List Value) (meant : Bool)
     (old new : List (List Value × List (List Value × List ℕ))) (g e : List (List Value × List ℕ))
-    (w : Option (List (List Value × List ℕ)))
-    → key ≡ []
+    (w : Option (List (List Value × List ℕ))) → key ≡ []
     → lookup (is_at (row_cmp q)) new ≡ cond (is_at (row_cmp key) q) w (lookup (is_at (row_cmp q)) old)
-    → unwrap_or w [] ≡ g
-    → e ≡ list_for old key
-    → list_for g v ≡ cond meant (h (list_for e v)) (list_for e v)
+    → unwrap_or w [] ≡ g → e ≡ list_for old key → list_for g v ≡ cond meant (h (list_for e v)) (list_for e v)
     → times_at new q v ≡ cond (is_at (row_cmp []) q && meant) (h (times_at old q v)) (times_at old q v)
 ungrouped h key q v meant old new g e w none outer is was inner = grind arith
 
@@ -95,8 +81,7 @@ abbrev pub StandsIn : List (List Value × List (List Value × List ℕ)) → Lis
 StandsIn groups k u = (q : List Value) → is_at (row_cmp k) q ≡ false → times_at groups q u ≡ []
 
 pub stands_tail : (e : List Value × List (List Value × List ℕ)) (es : List (List Value × List (List Value × List ℕ)))
-    (k u : List Value)
-    → RowsDiffer (e ∷ es) → StandsIn (e ∷ es) k u → StandsIn es k u
+    (k u : List Value) → RowsDiffer (e ∷ es) → StandsIn (e ∷ es) k u → StandsIn es k u
 stands_tail e es k u h stands q apart = grind (arith, none_behind q e es h, stands q apart)
 
 -- where a row stands in one group alone, what is found in any group is found there

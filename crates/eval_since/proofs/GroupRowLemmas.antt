@@ -16,8 +16,7 @@ no_part right left row none = ap (λ wanted. part right wanted row) (empty_list 
 -- so where there are no columns all rows stand in the group of the empty row
 pub all_together : {T E : Type 0} (result : Result T E) (right left : List ℕ) (h : List ℕ → List ℕ)
     (rows : List (List Value)) (old new : List (List Value × List (List Value × List ℕ)))
-    → nat_eq (length left) 0 ≡ true
-    → OnOk result ((q v : List Value) → times_at new q v
+    → nat_eq (length left) 0 ≡ true → OnOk result ((q v : List Value) → times_at new q v
     ≡ cond (is_at (row_cmp []) q && has_row rows v) (h (times_at old q v)) (times_at old q v))
     → OnOk result ((q v : List Value) → times_at new q v
     ≡ cond (is_at (row_cmp (part right left v)) q && has_row rows v) (h (times_at old q v)) (times_at old q v))
@@ -31,10 +30,8 @@ no_rows rows v b more old none = grind (arith, empty_list rows none)
 module _ (h : List ℕ → List ℕ) (twice : (ts : List ℕ) → h (h ts) ≡ h ts) where
   -- one more row
   pub row_more : (rows : List (List Value)) (i : ℕ) (x v : List Value) (old cur new : List ℕ) → i < length rows
-      → x ≡ get_or rows i x
-      → cur ≡ cond (has_row (take i rows) v) (h old) old
-      → new ≡ cond (is_at (row_cmp x) v) (h cur) cur
-      → new ≡ cond (has_row (take (i + 1) rows) v) (h old) old
+      → x ≡ get_or rows i x → cur ≡ cond (has_row (take i rows) v) (h old) old
+      → new ≡ cond (is_at (row_cmp x) v) (h cur) cur → new ≡ cond (has_row (take (i + 1) rows) v) (h old) old
   row_more rows i x v old cur new low e before step = grind (arith, twice, has_more rows i x v low e)
 
   -- one row, before the rest

@@ -10,8 +10,7 @@ use Rattle.relations.specs.KeptRows.{filled, list_for}
 use Rattle.eval_since.specs.Times.{reaches}
 
 module _ (first : List Value) where
-  pub times_one : (ts : List ℕ) (v : List Value)
-      → list_for ((first, ts) ∷ []) v ≡ cond (is_at (row_cmp first) v) ts []
+  pub times_one : (ts : List ℕ) (v : List Value) → list_for ((first, ts) ∷ []) v ≡ cond (is_at (row_cmp first) v) ts []
   times_one ts v = grind (arith, (eq_by_cmp_equiv row_total).symm v first)
 
   -- its own times
@@ -26,15 +25,13 @@ module _ (first : List Value) where
 
   -- a change of its own times
   pub one_changed : (h : List ℕ → List ℕ) (row : List Value) (ts new : List ℕ) → is_at (row_cmp first) row ≡ true
-      → new ≡ h ts → (v : List Value)
-      → list_for ((first, new) ∷ []) v
+      → new ≡ h ts → (v : List Value) → list_for ((first, new) ∷ []) v
       ≡ cond (is_at (row_cmp row) v) (h (list_for ((first, ts) ∷ []) v)) (list_for ((first, ts) ∷ []) v)
   one_changed h row ts new same e v = grind (arith, times_one new v, times_one ts v, same_row first row same)
 
   -- a change at another row, which has no times
   pub one_apart : (h : List ℕ → List ℕ) (row : List Value) (ts : List ℕ) → h [] ≡ []
-      → is_at (row_cmp first) row ≡ false → (v : List Value)
-      → list_for ((first, ts) ∷ []) v
+      → is_at (row_cmp first) row ≡ false → (v : List Value) → list_for ((first, ts) ∷ []) v
       ≡ cond (is_at (row_cmp row) v) (h (list_for ((first, ts) ∷ []) v)) (list_for ((first, ts) ∷ []) v)
   one_apart h row ts none apart v = grind (arith, times_one ts v, same_row row v)
 
@@ -50,8 +47,7 @@ module _ (first : List Value) where
 
   -- the same of the rows that are wanted
   pub one_match : (interval : Interval) (ts : List ℕ) (x : ℕ) (wanted : List Value → Bool) (rows : List (List Value))
-      (u : List Value) → reaches interval ts x ≡ true → wanted first ≡ true
-      → has_row (rows ++ first ∷ []) u
+      (u : List Value) → reaches interval ts x ≡ true → wanted first ≡ true → has_row (rows ++ first ∷ []) u
       ≡ (has_row rows u || (reaches interval (list_for ((first, ts) ∷ []) u) x && wanted u))
   one_match interval ts x wanted rows u hits is = grind (arith, list_any-append, times_one, same_row)
 

@@ -64,8 +64,7 @@ times_are rows u ts is = ap (λ o. unwrap_or o []) is ∙ filled_back ts
 -- each row of the data, by what look-ups give
 pub each_row : (P : List Value → List ℕ → Type 0) (rows : List KeptRow) (times : List Value → List ℕ)
     → RowsAscend (times_kept rows) → ((u : List Value) → kept_for (times_kept rows) u ≡ filled (times u))
-    → ((u : List Value) → 0 < length (times u) → P u (times u))
-    → AllByRecursion (λ k. P k.row k.times.items) rows
+    → ((u : List Value) → 0 < length (times u) → P u (times u)) → AllByRecursion (λ k. P k.row k.times.items) rows
 each_row P rows times up found holds =
     unpaired rows (each_kept P (times_kept rows) up (λ u x is.
     let both = filled_is (times u) x (sym (found u) ∙ is) in
@@ -79,8 +78,7 @@ each_row P rows times up found holds =
 -- the rows have n values where rows of another number have no times
 pub rows_sized : (n : ℕ) (rows : List KeptRow) (times : List Value → List ℕ)
     → RowsAscend (times_kept rows) → ((u : List Value) → kept_for (times_kept rows) u ≡ filled (times u))
-    → ((u : List Value) → nat_eq (length u) n ≡ false → times u ≡ [])
-    → all_sized n (map (λ k. k.row) rows) ≡ true
+    → ((u : List Value) → nat_eq (length u) n ≡ false → times u ≡ []) → all_sized n (map (λ k. k.row) rows) ≡ true
 rows_sized n rows times up found none =
     sized rows (each_row (λ u ts. nat_eq (length u) n ≡ true) rows times up found (λ u some. grind (arith, none u)))
   where

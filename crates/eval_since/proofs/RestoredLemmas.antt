@@ -66,8 +66,7 @@ each_ascends hi last rows all = each_times IsStrictlyIncreasing hi last rows all
 
 -- each row has some
 pub each_some : (hi : Option ℕ) (last : ℕ) (rows : List KeptRow)
-    → AllByRecursion (λ k. KeepsTimes hi last k.times.items) rows
-    → AllByRecursion (λ k. 0 < length k.times.items) rows
+    → AllByRecursion (λ k. KeepsTimes hi last k.times.items) rows → AllByRecursion (λ k. 0 < length k.times.items) rows
 each_some hi last rows all = each_times (λ (ts : List ℕ). 0 < length ts) hi last rows all (λ ts k. k.some)
 
 -- without a greatest distance there is nothing to find

@@ -12,8 +12,7 @@ use Rattle.eval_since.specs.RowKeys.{by_rows, is_int, itself, one_int}
 
 -- where a row isn't found there is nothing to change
 pub none_changed : (h : List ℕ → List ℕ) (row v : List Value) (es : List (List Value × List ℕ)) → h [] ≡ []
-    → kept_for es row ≡ None
-    → list_for es v ≡ cond (is_at (row_cmp row) v) (h (list_for es v)) (list_for es v)
+    → kept_for es row ≡ None → list_for es v ≡ cond (is_at (row_cmp row) v) (h (list_for es v)) (list_for es v)
 none_changed h row v es none absent = grind (arith, same_row row v)
 
 module _ {K X : Type 0} (eq : K → K → Bool) (row_of : K → List Value)
@@ -70,8 +69,7 @@ module _ {K : Type 0} (eq : K → K → Bool) (row_of : K → List Value)
   -- a change of the times at one key, and what it leaves at each row
   pub times_changed : (h : List ℕ → List ℕ) (k : K) (m n : List (K × List ℕ)) (w : Option (List ℕ))
       → ((q : K) → lookup (eq q) n ≡ cond (eq k q) w (lookup (eq q) m))
-      → unwrap_or w [] ≡ h (unwrap_or (lookup (eq k) m) [])
-      → (v : List Value) → list_for (by_rows row_of n) v
+      → unwrap_or w [] ≡ h (unwrap_or (lookup (eq k) m) []) → (v : List Value) → list_for (by_rows row_of n) v
       ≡ cond (is_at (row_cmp (row_of k)) v) (h (list_for (by_rows row_of m) v)) (list_for (by_rows row_of m) v)
   times_changed h k m n w step is v =
       grind (arith, changed, key_changed eq row_of same k m n w step v, key_found eq row_of same k m)

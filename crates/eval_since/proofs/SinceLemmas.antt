@@ -16,8 +16,7 @@ unfolding since_before
 begins_false interval times a b x = refl
 
 -- the later positions below p + 1
-all_more : (a : List Bool) (j p : ℕ) → j < p
-    → list_all (truth_at a) (range_with_len (j + 1) (p + 1 - (j + 1)))
+all_more : (a : List Bool) (j p : ℕ) → j < p → list_all (truth_at a) (range_with_len (j + 1) (p + 1 - (j + 1)))
     ≡ (list_all (truth_at a) (range_with_len (j + 1) (p - (j + 1))) && truth_at a p)
 all_more a j p low = grind (arith, list_all-append, range_suc)
 

@@ -133,8 +133,7 @@ module _ {interval : Interval} {right left : List ℕ} {goes : List Value → Bo
         finds = grind (arith, not_after_push, not_later);
       }
 
-      pub within_bounded : (x : ℕ) (u : List Value) → now ≤ x
-          → reaches interval (times_at thin (part right left u) u) x
+      pub within_bounded : (x : ℕ) (u : List Value) → now ≤ x → reaches interval (times_at thin (part right left u) u) x
           ≡ ((reaches interval (times_at old (part right left u) u) x && goes (part right left u))
           || (in_interval interval (x - now) && has_row rows u))
       within_bounded x u l =
@@ -146,6 +145,5 @@ module _ {interval : Interval} {right left : List ℕ} {goes : List Value → Bo
 pub sized_reached : (interval : Interval) (x : ℕ) (right left : List ℕ)
     (groups : List (List Value × List (List Value × List ℕ))) (rows : List (List Value))
     → Sized (length right) groups → ((u : List Value) → has_row rows u ≡ true
-    → reaches interval (times_at groups (part right left u) u) x ≡ true)
-    → all_sized (length right) rows ≡ true
+    → reaches interval (times_at groups (part right left u) u) x ≡ true) → all_sized (length right) rows ≡ true
 sized_reached interval x right left groups rows sized reached = grind (arith, all_rows)

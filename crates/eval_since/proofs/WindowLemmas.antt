@@ -24,8 +24,7 @@ pub one_row : (h : List ℕ → List ℕ) → ((ts : List ℕ) → h (h ts) ≡ 
     → (right left : List ℕ) (x key q v : List Value) (cur new : List ℕ)
     → key ≡ part right left x → new ≡ cond (is_at (row_cmp key) q && is_at (row_cmp x) v) (h cur) cur
     → new ≡ cond (is_at (row_cmp (part right left v)) q && has_row (x ∷ []) v) (h cur) cur
-one_row h twice right left x key q v cur new is step =
-    grind (arith, same_row x v, (eq_by_cmp_equiv row_total).symm x v)
+one_row h twice right left x key q v cur new is step = grind (arith, same_row x v, (eq_by_cmp_equiv row_total).symm x v)
 
 -- one more row of a table
 pub rows_more : (h : List ℕ → List ℕ) → ((ts : List ℕ) → h (h ts) ≡ h ts)

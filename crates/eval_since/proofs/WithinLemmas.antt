@@ -27,8 +27,7 @@ unbounded interval x y now e l h = grind (arith, nat_tests)
 
 -- where a time is not worth keeping, what it reaches is reached
 not_kept : (interval : Interval) (ys : List ℕ) (now x : ℕ) → ArePast now ys
-    → is_new (is_some interval.hi) ys now ≡ false → in_interval interval (x - now) ≡ true
-    → reaches interval ys x ≡ true
+    → is_new (is_some interval.hi) ys now ≡ false → in_interval interval (x - now) ≡ true → reaches interval ys x ≡ true
 not_kept interval ys now x past old h = grind (arith, list_any_at, unbounded)
 
 pub reaches_added : (interval : Interval) (ys : List ℕ) (now x : ℕ) → ArePast now ys
@@ -39,8 +38,7 @@ reaches_added interval ys now x past = grind (arith, list_any-append, not_kept)
 
 -- both, at a row's own group
 pub reaches_step : (interval : Interval) (right left : List ℕ) (goes : List Value → Bool) (rights : List (List Value))
-    (u : List Value) (now x : ℕ) (old held new : List (List Value × List (List Value × List ℕ)))
-    → Past now held
+    (u : List Value) (now x : ℕ) (old held new : List (List Value × List (List Value × List ℕ))) → Past now held
     → ((q v : List Value) → times_at held q v ≡ cond (goes q) (times_at old q v) [])
     → ((q v : List Value) → times_at new q v ≡ cond (is_at (row_cmp (part right left v)) q && has_row rights v)
     (added (is_some interval.hi) (times_at held q v) now) (times_at held q v))

@@ -19,8 +19,7 @@ use Rattle.eval_until.proofs.{EntriesLemmas.all_from_place, RowsLemmas.found_ali
 pub changed_set : (h : Bool → Bool) (key row q u : List Value) (old new : List (List Value × List (List Value)))
     (g e : List (List Value)) (w : Option (List (List Value)))
     → lookup (is_at (row_cmp q)) new ≡ cond (is_at (row_cmp key) q) w (lookup (is_at (row_cmp q)) old)
-    → unwrap_or w [] ≡ g
-    → e ≡ list_for old key
+    → unwrap_or w [] ≡ g → e ≡ list_for old key
     → has_row g u ≡ cond (is_at (row_cmp row) u) (h (has_row e u)) (has_row e u)
     → has_row (list_for new q) u ≡ cond (is_at (row_cmp key) q && is_at (row_cmp row) u)
     (h (has_row (list_for old q) u)) (has_row (list_for old q) u)
@@ -64,8 +63,7 @@ listed_others right columns row u old new step apart = grind (arith, step (part 
 
 -- one row of a table more
 pub list_more : (table : List (List Value)) (i : ℕ) (x u : List Value) (old cur new : Bool) → i < length table
-    → x ≡ get_or table i x
-    → cur ≡ (old || has_row (take i table) u) → new ≡ (cur || is_at (row_cmp x) u)
+    → x ≡ get_or table i x → cur ≡ (old || has_row (take i table) u) → new ≡ (cur || is_at (row_cmp x) u)
     → new ≡ (old || has_row (take (i + 1) table) u)
 list_more table i x u old cur new low e before step = grind (arith, has_more table i x u low e)
 
@@ -96,8 +94,7 @@ each_of b (e ∷ es) is = grind (arith, each_of b es is)
 pub listed_taken : (right : List ℕ) (old new : KeyedRows) (table : List (List Value)) (entry : List Value → Entry)
     (rows more : List (List Value × List Entry))
     → ((u : List Value) → is_listed right new u ≡ (is_listed right old u || has_row table u))
-    → ((u : List Value) → list_for more u
-    ≡ cond (has_row table u) (list_for rows u ++ entry u ∷ []) (list_for rows u))
+    → ((u : List Value) → list_for more u ≡ cond (has_row table u) (list_for rows u ++ entry u ∷ []) (list_for rows u))
     → Listed right old rows → Listed right new more
 listed_taken right old new table entry rows more lists takes listed u =
     ap (list_all (λ e. is_listed right new u)) (takes u) ∙ by (has_row table u) (lists u)
@@ -127,8 +124,7 @@ listed_without right old new rows row none others listed u = grind (arith, same_
 
 -- a row of which nothing is kept needn't be listed
 pub listed_if_kept : (rows : List (List Value × List Entry)) (u : List Value) (b : Bool)
-    → (list_any (λ e. eq_by_cmp row_cmp u e.0) rows ≡ true → b ≡ true)
-    → list_all (λ e. b) (list_for rows u) ≡ true
+    → (list_any (λ e. eq_by_cmp row_cmp u e.0) rows ≡ true → b ≡ true) → list_all (λ e. b) (list_for rows u) ≡ true
 listed_if_kept [] u b if_kept = refl
 listed_if_kept (e ∷ es) u b if_kept = grind (arith, each_of, or_left, listed_if_kept es u b)
 

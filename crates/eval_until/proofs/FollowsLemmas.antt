@@ -28,8 +28,7 @@ pub begins : (k : AheadOf) (t : List ℕ) (a b : List Bool) (v : Valuation) → 
 begins k t a b v pulled taken starts rows = grind (arith, left_begins k a v taken starts, none_yet)
 
 -- one position more, whether the position asked lies below it or not
-more_anywhere : (interval : Interval) (t : List ℕ) (a b : List Bool) (p i : ℕ)
-    → (until_before interval t a b p i
+more_anywhere : (interval : Interval) (t : List ℕ) (a b : List Bool) (p i : ℕ) → (until_before interval t a b p i
     || (truth_at b p && (nat_le (start a p) i && nat_le i p && in_interval interval (time_at t p - time_at t i))))
     ≡ until_before interval t a b (p + 1) i
 more_anywhere interval t a b p i = grind (arith, cases_lt, none_yet, one_more)
@@ -118,8 +117,7 @@ module _ {k n : AheadOf} {x : ℕ} {times : List ℕ} {ls rs : List TableOf} (j 
 
 -- where the bound is passed, what was taken decides
 decided : (interval : Interval) (hi : ℕ) (t : List ℕ) (a b : List Bool) (next taken : ℕ) (times : List ℕ)
-    → interval.hi ≡ Some hi → NeverFalls t
-    → next ≤ taken → taken ≤ next + length times → next + length times ≤ length t
+    → interval.hi ≡ Some hi → NeverFalls t → next ≤ taken → taken ≤ next + length times → next + length times ≤ length t
     → StandFrom (λ i x. x ≡ time_at t i) next times → 0 < length times
     → hi < slice_index times (min (taken - next) (length times - 1)) - slice_index times 0
     → until_before interval t a b taken next ≡ until interval t a b next
@@ -132,8 +130,7 @@ decided interval hi t a b next taken times e never low high long stands some pas
     grind (arith, past_the_bound, until_is)
 
 -- where all were taken, the place that the due position asks is the last one taken, or past the times
-same_place : (pulled taken l r m : ℕ) → pulled ≤ taken → taken ≤ pulled + m
-    → min (min l r) (pulled + m - taken) ≡ 0
+same_place : (pulled taken l r m : ℕ) → pulled ≤ taken → taken ≤ pulled + m → min (min l r) (pulled + m - taken) ≡ 0
     → min (taken + min l r - pulled) (m - 1) ≡ min (taken - pulled) (m - 1)
 same_place pulled taken l r m low high none = omega arith
 

@@ -104,8 +104,7 @@ module _ (negated : Bool) (right left : List ℕ) (pulled ts : ℕ) (lefts : Lis
 -- a position without rows needn't go into the queue
 pub kept_queued : (negated : Bool) (right : List ℕ) (pulled taken : ℕ) (starts : List (List Value × ℕ))
     (rows : List (List Value × List Entry)) (queue new : List Taken) (q : Taken) → Queues queue q new
-    → Keeps negated right pulled taken starts rows (queue ++ q ∷ [])
-    → Keeps negated right pulled taken starts rows new
+    → Keeps negated right pulled taken starts rows (queue ++ q ∷ []) → Keeps negated right pulled taken starts rows new
 kept_queued negated right pulled taken starts rows queue new q (inl is) kept = rw is kept
 kept_queued negated right pulled taken starts rows queue new q (inr none) kept = rw none.0 (record {
   apart = kept.apart;
@@ -158,8 +157,7 @@ above_is negated right pulled taken starts rows queue kept is = λ w.
 
 -- the rows of which an entry meets have as many values as columns
 pub sized_met : (interval : Interval) (i x n : ℕ) (rows : List (List Value × List Entry)) (out : List (List Value))
-    → Sized n rows
-    → ((u : List Value) → has_row out u ≡ true → met_by interval i x (list_for rows u) ≡ true)
+    → Sized n rows → ((u : List Value) → has_row out u ≡ true → met_by interval i x (list_for rows u) ≡ true)
     → all_sized n out ≡ true
 sized_met interval i x n rows out sized met =
     all_rows (λ row. nat_eq (length row) n) out (λ row there. grind (arith, sized row, met row there))

@@ -26,8 +26,7 @@ names_other q qs u es lacks = all_weaker _ _ es (λ e named. grind arith)
 
 pub covered_more : (next : ℕ) (q : Taken) (qs : List Taken) (u : List Value) (cur new : List Entry)
     → q.place < next → list_all (λ e. names (q ∷ qs) u e.place) cur ≡ true
-    → new ≡ cond (has_row q.rights.items u) (from_place next cur) cur
-    → list_all (λ e. names qs u e.place) new ≡ true
+    → new ≡ cond (has_row q.rights.items u) (from_place next cur) cur → list_all (λ e. names qs u e.place) new ≡ true
 covered_more next q qs u cur new low all step = grind (arith, names_left, names_other)
 
 -- so do the starts that are left
@@ -113,8 +112,7 @@ entries_waiting pulled taken u qs (e ∷ es) fresh covered below =
 -- a position without rows at the end tells nothing
 module _ (queue : List Taken) (q : Taken) where
   pub covered_kept : q.rights.items ≡ [] → (u : List Value) (es : List Entry)
-      → list_all (λ e. names (queue ++ q ∷ []) u e.place) es ≡ true
-      → list_all (λ e. names queue u e.place) es ≡ true
+      → list_all (λ e. names (queue ++ q ∷ []) u e.place) es ≡ true → list_all (λ e. names queue u e.place) es ≡ true
   covered_kept none u es = all_weaker _ _ es (λ e named. grind (arith, names_more queue q u e.place))
 
   pub starts_kept : q.breaks.items ≡ [] → (w : List Value) (o : Option ℕ)

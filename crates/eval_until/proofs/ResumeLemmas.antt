@@ -66,11 +66,9 @@ pub keeps_resumed : (negated : Bool) (right : List ℕ) (pulled taken : ℕ) (st
     → all_apart right ≡ true → Sized (length right) rows → NoneEmpty rows → Waiting pulled taken rows
     → Ascending rows → StartsBelow taken starts → (negated ≡ true → StartsAbove pulled starts)
     → RowsAscend rows → (negated ≡ true → RowsAscend starts)
-    → ((u : List Value) (j : ℕ) → names queue u j ≡ is_recalled rows u j)
-    → (negated ≡ true → (w : List Value) (s : ℕ)
+    → ((u : List Value) (j : ℕ) → names queue u j ≡ is_recalled rows u j) → (negated ≡ true → (w : List Value) (s : ℕ)
     → breaks_before queue w s ≡ (breaks_before [] w s || run_begins starts w s))
-    → ((test : ℕ → Bool) → list_all (λ q. test q.place) queue
-    ≡ (list_all (λ r. list_all (λ e. test e.place) r.1) rows
+    → ((test : ℕ → Bool) → list_all (λ q. test q.place) queue ≡ (list_all (λ r. list_all (λ e. test e.place) r.1) rows
     && cond negated (list_all (λ r. test (r.1 - 1)) starts) true))
     → Rising queue → Keeps negated right pulled taken starts rows queue
 keeps_resumed negated right pulled taken starts rows queue apart sized some waiting ascend below above up ups same
@@ -129,8 +127,7 @@ each_some rows up some = each_kept (λ u es. 0 < length es) rows up (λ u es is.
 -- what is kept in maps with the same look-ups is kept alike
 pub keeps_alike : (negated : Bool) (right : List ℕ) (pulled taken : ℕ) (starts more : List (List Value × ℕ))
     (rows new : List (List Value × List Entry)) (queue : List Taken)
-    → ((w : List Value) → kept_for more w ≡ kept_for starts w)
-    → ((u : List Value) → kept_for new u ≡ kept_for rows u)
+    → ((w : List Value) → kept_for more w ≡ kept_for starts w) → ((u : List Value) → kept_for new u ≡ kept_for rows u)
     → Keeps negated right pulled taken starts rows queue → Keeps negated right pulled taken more new queue
 keeps_alike negated right pulled taken starts more rows new queue starts_same rows_same keeps = record {
   apart = keeps.apart;

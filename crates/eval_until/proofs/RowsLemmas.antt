@@ -51,10 +51,8 @@ still_old table k x more old cur lacks e = e ∙ ap (λ b. cond b more old) lack
 
 -- one row more of a table whose items are changed, where a second change changes nothing
 pub changed_more : {X : Type 0} (h : X → X) → ((xs : X) → h (h xs) ≡ h xs)
-    → (table : List (List Value)) (k : ℕ) (x u : List Value) (old cur new : X) → k < length table
-    → x ≡ get_or table k x
-    → cur ≡ cond (has_row (take k table) u) (h old) old
-    → new ≡ cond (is_at (row_cmp x) u) (h cur) cur
+    → (table : List (List Value)) (k : ℕ) (x u : List Value) (old cur new : X) → k < length table → x ≡ get_or table k x
+    → cur ≡ cond (has_row (take k table) u) (h old) old → new ≡ cond (is_at (row_cmp x) u) (h cur) cur
     → new ≡ cond (has_row (take (k + 1) table) u) (h old) old
 changed_more h twice table k x u old cur new low is before step = grind (arith, has_more table k x u low is)
 
@@ -63,8 +61,7 @@ pub changed_rest : {X : Type 0} (h : X → X) → ((xs : X) → h (h xs) ≡ h x
     → (x : List Value) (rest : List (List Value)) (u : List Value) (cur new : X)
     → new ≡ cond (is_at (row_cmp x) u) (h cur) cur
     → cond (has_row rest u) (h new) new ≡ cond (has_row (x ∷ rest) u) (h cur) cur
-changed_rest h twice x rest u cur new step =
-    grind (arith, (eq_by_cmp_equiv row_total).symm x u, twice cur)
+changed_rest h twice x rest u cur new step = grind (arith, (eq_by_cmp_equiv row_total).symm x u, twice cur)
 
 -- one more start that is kept
 pub kept_more : (table : List (List Value)) (k : ℕ) (row w : List Value) (starts : List Value → ℕ) (s : ℕ)
@@ -77,8 +74,7 @@ kept_more table k row w starts s cur new low e from before step =
 
 -- one more run that breaks
 pub broken_more : (table : List (List Value)) (k : ℕ) (row w : List Value) (behind : ℕ)
-    (old cur new : List (List Value × ℕ)) → k < length table → row ≡ get_or table k row
-    → lookup (is_at (row_cmp w)) cur
+    (old cur new : List (List Value × ℕ)) → k < length table → row ≡ get_or table k row → lookup (is_at (row_cmp w)) cur
     ≡ cond (has_row (take k table) w) (Some behind) (lookup (is_at (row_cmp w)) old)
     → lookup (is_at (row_cmp w)) new ≡ cond (is_at (row_cmp row) w) (Some behind) (lookup (is_at (row_cmp w)) cur)
     → lookup (is_at (row_cmp w)) new
@@ -98,8 +94,7 @@ found_alike u v m at = ap (λ r. lookup (is_at (row_cmp r)) m) (same_row u v at)
 
 -- a start at one row, where that of a row is left or removed
 pub start_same : (next : ℕ) (row w : List Value) (m : List (List Value × ℕ)) (o : Option ℕ)
-    → o ≡ lookup (is_at (row_cmp row)) m → o ≡ later_start next o
-    → lookup (is_at (row_cmp w)) m
+    → o ≡ lookup (is_at (row_cmp row)) m → o ≡ later_start next o → lookup (is_at (row_cmp w)) m
     ≡ cond (is_at (row_cmp row) w) (later_start next (lookup (is_at (row_cmp w)) m)) (lookup (is_at (row_cmp w)) m)
 start_same next row w m o is same = grind (arith, found_alike row w m)
 

@@ -13,8 +13,7 @@ unfolding IsDistinct
 one_differs row s = (tt, tt)
 
 -- what is found of one start
-pub one_found : (row w : List Value) (s : ℕ)
-    → kept_for ((row, s) ∷ []) w ≡ cond (is_at (row_cmp row) w) (Some s) None
+pub one_found : (row w : List Value) (s : ℕ) → kept_for ((row, s) ∷ []) w ≡ cond (is_at (row_cmp row) w) (Some s) None
 one_found row w s = ap (λ b. cond b (Some s) None) ((eq_by_cmp_equiv row_total).symm w row)
 
 -- the one start, put where there was none
@@ -34,8 +33,7 @@ pub one_left : (row lone w : List Value) (s : ℕ) → is_at (row_cmp row) lone 
 one_left row lone w s apart = grind (arith, same_row row w)
 
 -- the only start, which goes on
-pub only_found : (row lone w : List Value) (s p : ℕ) → is_at (row_cmp row) lone ≡ true
-    → kept_for ((lone, s) ∷ []) w
+pub only_found : (row lone w : List Value) (s p : ℕ) → is_at (row_cmp row) lone ≡ true → kept_for ((lone, s) ∷ []) w
     ≡ cond (is_at (row_cmp row) w) (Some (unwrap_or (kept_for ((lone, s) ∷ []) w) p)) None
 only_found row lone w s p at = grind (arith, same_row row lone, (eq_by_cmp_equiv row_total).symm w lone)
 

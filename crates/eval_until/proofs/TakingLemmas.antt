@@ -22,8 +22,7 @@ pub takes_more : (s m e : UntilOf) → Takes (m.ahead.taken - s.ahead.taken) s m
 takes_more s m e first more = grind (arith, drop_one)
 
 pub few_more : (s m e : UntilOf) → Takes (m.ahead.taken - s.ahead.taken) s m → Takes 1 m e
-    → not (took_all m) ≡ true → m.ahead.taken - s.ahead.taken ≤ to_take s
-    → e.ahead.taken - s.ahead.taken ≤ to_take s
+    → not (took_all m) ≡ true → m.ahead.taken - s.ahead.taken ≤ to_take s → e.ahead.taken - s.ahead.taken ≤ to_take s
 few_more s m e first more rest few = omega (arith, left_over (m.ahead.taken - s.ahead.taken) s m first, one_left m rest)
 
 -- whether the next position is due doesn't hang on what was taken

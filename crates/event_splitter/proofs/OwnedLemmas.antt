@@ -13,8 +13,7 @@ seen_alike near whole atoms event = search (any_alike, with_true)
 
 -- each of some worker's regions has the row
 abbrev Covered : (near : ℕ → Region) (count : ℕ) → Type 0
-Covered near count =
-    (vs : List ℕ) (v : Valuation) → 0 < count → (k : ℕ) × (k < count) × (near k vs v ≡ true)
+Covered near count = (vs : List ℕ) (v : Valuation) → 0 < count → (k : ℕ) × (k < count) × (near k vs v ≡ true)
 
 only_near : (near : ℕ → Region) (count : ℕ) → count ≡ 1 → Covered near count → (vs : List ℕ) (v : Valuation)
     → near 0 vs v ≡ true

@@ -29,8 +29,7 @@ module _ (free : List ℕ) (near : Region) (passes : Passes free near) where
 
   -- the slice with one event more
   pub slice_more : (atoms : List OneAtom) (events : List Event) (event : Event)
-      → slice near atoms (ascending event_cmp (events ++ event ∷ []))
-      ≡ cond (some_near (readings_of atoms event) near)
+      → slice near atoms (ascending event_cmp (events ++ event ∷ [])) ≡ cond (some_near (readings_of atoms event) near)
       (insert_key event_cmp (slice near atoms (ascending event_cmp events)) event)
       (slice near atoms (ascending event_cmp events))
   slice_more atoms events event =

@@ -22,13 +22,11 @@ fault_by ended points ending fault e = grind arith
 
 -- an answer without a fault or a time-point comes behind all time-points
 none_left : (ended : Bool) (points : List TimePoint) (ending : Ending) (answer : Result Next LogFault)
-    → answer_by ended points ending ≡ answer
-    → ((point : TimePoint) → answer ≡ Ok (Point point) → ⊥) → points ≡ []
+    → answer_by ended points ending ≡ answer → ((point : TimePoint) → answer ≡ Ok (Point point) → ⊥) → points ≡ []
 none_left ended points ending answer e none = grind arith
 
 first_left : (ended : Bool) (points : List TimePoint) (ending : Ending) (point : TimePoint)
-    → answer_by ended points ending ≡ Ok (Point point)
-    → (more : List TimePoint) × (points ≡ point ∷ more)
+    → answer_by ended points ending ≡ Ok (Point point) → (more : List TimePoint) × (points ≡ point ∷ more)
 first_left ended points ending point e = grind arith
 
 module _ (r : Progress) where

@@ -146,8 +146,7 @@ module _ (sig : List PredOf) (limits : Limits) (len : ℕ) (ends : Partial → R
         → Found p ts a
     unfolding run
     fronts [] p a b e = at_end p a b e
-    fronts (t ∷ ts) p a b e =
-        by_token p t ts a b (completes p.stage (symbol t)) refl e (λ q a b e. fronts ts q a b e)
+    fronts (t ∷ ts) p a b e = by_token p t ts a b (completes p.stage (symbol t)) refl e (λ q a b e. fronts ts q a b e)
 
   -- ---- each time-point that is completed is given
 

@@ -51,8 +51,7 @@ moment_at time s = record {
   events = events_behind (drawn 6 (moved_on s)) (moved_on (moved_on s));
 }
 
-moments_first : (n m time s : ℕ) → n ≡ suc m → moments n time s
-    ≡ moment_at time s
+moments_first : (n m time s : ℕ) → n ≡ suc m → moments n time s ≡ moment_at time s
     ∷ moments m (time + drawn 4 s) (state_behind_all (drawn 6 (moved_on s)) (moved_on (moved_on s)))
 unfolding moments moment_at
 moments_first n m time s e = rw e refl

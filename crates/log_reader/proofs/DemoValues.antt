@@ -50,8 +50,7 @@ module _ (limits : Limits) (enough : 5 ≤ limits.events) where
       grind (arith, le-ltb, mention_of, groups_counted, decimal_timestamp, events_value)
 
   first_value : (earliest room : ℕ) (m : Moment) (ms : List Moment) (points : List TimePoint)
-      → point_value demo_preds limits (point_text m) ≡ Some (point_of m)
-      → earliest ≤ m.time
+      → point_value demo_preds limits (point_text m) ≡ Some (point_of m) → earliest ≤ m.time
       → log_value demo_preds limits m.time room (map point_text ms) ≡ Some points
       → log_value demo_preds limits earliest (suc room) (map point_text (m ∷ ms)) ≡ Some (point_of m ∷ points)
   unfolding log_value
@@ -62,8 +61,7 @@ module _ (limits : Limits) (enough : 5 ≤ limits.events) where
   no_value earliest room = cc
 
   pub moments_value : (ms : List Moment) (earliest last room : ℕ) → last ≤ 2 ^ 62 → AreSound earliest last ms
-      → length ms ≤ room
-      → log_value demo_preds limits earliest room (map point_text ms) ≡ Some (map point_of ms)
+      → length ms ≤ room → log_value demo_preds limits earliest room (map point_text ms) ≡ Some (map point_of ms)
   moments_value [] earliest last room small sound fits = no_value earliest room
   moments_value (m ∷ ms) earliest last zero small sound fits = absurd (omega (arith, fits))
   moments_value (m ∷ ms) earliest last (suc room) small sound fits =

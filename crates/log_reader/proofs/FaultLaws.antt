@@ -37,13 +37,11 @@ module _ (ts : List Lexeme) (n : ℕ) (p : Partial) (path : paths Between (symbo
 
 module _ (sig : List PredOf) (limits : Limits) where
   tail_why : (ts : List Lexeme) (p : Partial) (tail : Tail LogFault) (fault : LogFault)
-      → run (step sig limits) ts nothing_read ≡ Ok p
-      → at_tail tail p ≡ Err fault → IsLast ts tail fault
+      → run (step sig limits) ts nothing_read ≡ Ok p → at_tail tail p ≡ Err fault → IsLast ts tail fault
   tail_why ts p tail fault sound e = grind (arith, refused, run_paths, accepts)
 
   tail_shows : (ts : List Lexeme) (p : Partial) (tail : Tail LogFault) (fault : LogFault)
-      → run (step sig limits) ts nothing_read ≡ Ok p
-      → IsLast ts tail fault → at_tail tail p ≡ Err fault
+      → run (step sig limits) ts nothing_read ≡ Ok p → IsLast ts tail fault → at_tail tail p ≡ Err fault
   tail_shows ts p tail fault sound why = grind (arith, unaccepted, run_paths, accepts)
 
   pub follows : FollowsGrammar (step sig limits) nothing_read at_tail IsViable (IsCause sig limits) IsLast

@@ -118,8 +118,7 @@ role_to AfterClose = GroupEnds
 
 -- the role of a symbol with which the grammar goes on says where it leads
 pub role_is : (sig : List PredOf) (p : Partial) (older : List Symbol) (s : Stage) (x : Symbol) (g : Stage)
-    → Transition s x g
-    → Stands sig s p older → role older x ≡ role_to g
+    → Transition s x g → Stands sig s p older → role older x ≡ role_to g
 role_is sig p older _ _ _ (times word digits) st = rw st.behind refl
 role_is sig p older _ _ _ (names_first word) st = rw (st.behind, st.inside) refl
 role_is sig p older _ _ _ (names_more word) st = rw (st.behind, st.inside) refl
@@ -151,8 +150,7 @@ before_more : (t : Lexeme) (ts : List Lexeme) (older : List Symbol)
 before_more t ts older = grind (arith, common_steps, append_assoc, reverse-append)
 
 module _ (sig : List PredOf) (limits : Limits) where
-  step_on : (p q : Partial) (t : Lexeme) (older : List Symbol) → step sig limits p t ≡ Ok q
-      → Stands sig p.stage p older
+  step_on : (p q : Partial) (t : Lexeme) (older : List Symbol) → step sig limits p t ≡ Ok q → Stands sig p.stage p older
       → Stands sig q.stage q (symbol t ∷ older)
   unfolding step
   step_on p q t older e st =
@@ -163,8 +161,7 @@ module _ (sig : List PredOf) (limits : Limits) where
       (transition p.stage (symbol t) q.stage leads) refl st)
 
   run_on : (ts : List Lexeme) (p q : Partial) (older : List Symbol) → run (step sig limits) ts p ≡ Ok q
-      → Stands sig p.stage p older
-      → Stands sig q.stage q (symbols_before ts ++ older)
+      → Stands sig p.stage p older → Stands sig q.stage q (symbols_before ts ++ older)
   unfolding run
   run_on [] p q older e st = let same : p ≡ q = cc in subst (λ (r : Partial). Stands sig r.stage r older) same st
   run_on (t ∷ ts) p q older e st =

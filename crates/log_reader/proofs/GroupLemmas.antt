@@ -73,8 +73,7 @@ abbrev took : Result (Unit {0}) LogFault
 took = Ok tt
 
 module _ {from : ℕ} {looked : List ℕ} {ended : Bool} {sig : List PredOf} {limits : Limits} where
-  pub stay : {at : ℕ} {p : Partial} → at ≤ length looked → IsCounted p
-      → Leads sig limits from looked ended at p [] at p
+  pub stay : {at : ℕ} {p : Partial} → at ≤ length looked → IsCounted p → Leads sig limits from looked ended at p [] at p
   stay le c = record { reads = λ more later is last. refl; within = le; counted = c; given = omega arith }
 
   pub go_on : {at b c : ℕ} {p q r : Partial} → Leads sig limits from looked ended at p [] b q
@@ -125,8 +124,7 @@ module _ (from : ℕ) (looked : List ℕ) (ended : Bool) (sig : List PredOf) (li
     module _ (some : 1 ≤ length (drop at looked)) where
       mark_leads : (q : Partial) → StepsMark limits p (from + at) (get_or (drop at looked) 0 0) took q
           → Goes at p (at + 1) q
-      mark_leads q s =
-          (front_leads 1 q (mark_takes sig limits p q (from + at) (drop at looked) some took s refl)).0
+      mark_leads q s = (front_leads 1 q (mark_takes sig limits p q (from + at) (drop at looked) some took s refl)).0
 
       pub comma_leads : p.stage ≡ AfterValue → get_or (drop at looked) 0 0 ≡ 44
           → Goes at p (at + 1) (record p { stage = AfterComma })
@@ -150,8 +148,7 @@ module _ (from : ℕ) (looked : List ℕ) (ended : Bool) (sig : List PredOf) (li
       opening_leads _ stage may room is = absurd cc
 
 lead_on : {limits : Limits} {from : ℕ} {looked : List ℕ} {ended : Bool} {at at' : ℕ} {p q : Partial} → at ≤ at'
-    → ((sig : List PredOf) → Goes from looked ended sig limits at p at' q)
-    → LeadsOn limits from looked ended at p at' q
+    → ((sig : List PredOf) → Goes from looked ended sig limits at p at' q) → LeadsOn limits from looked ended at p at' q
 lead_on further leads =
     let one = leads [] in
     record { leads = leads; within = one.within; counted = one.counted; further = further }
@@ -162,8 +159,7 @@ module _ (limits : Limits) (from : ℕ) (looked : List ℕ) (ended : Bool) (at :
 
   pub lead_further : (b c : ℕ) (q r : Partial) → LeadsOn limits from looked ended at p b q
       → LeadsOn limits from looked ended b q c r → LeadsOn limits from looked ended at p c r
-  lead_further b c q r x y =
-      lead_on (omega (arith, x.further, y.further)) (λ sig. go_on (x.leads sig) (y.leads sig))
+  lead_further b c q r x y = lead_on (omega (arith, x.further, y.further)) (λ sig. go_on (x.leads sig) (y.leads sig))
 
 module _ (from : ℕ) (looked : List ℕ) (ended : Bool) (sorts : List Sort) (start : ℕ) where
   -- the tokens from behind the `(` on up to an offset give these values; a value is due there, and these sorts

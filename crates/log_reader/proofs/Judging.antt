@@ -78,8 +78,7 @@ module _ (sig : List PredOf) (limits : Limits) where
 
   -- a step that leads on, and one that doesn't
   pub passes : {s : Stage} {x : Symbol} {ts : List Lexeme} {rest : List Symbol} (p q : Partial) (f : Front ts x rest)
-      → p.stage ≡ s → completes s x ≡ false
-      → stepped sig limits p f.token (stage_after s x) ≡ Ok q → Passed p q ts rest
+      → p.stage ≡ s → completes s x ≡ false → stepped sig limits p f.token (stage_after s x) ≡ Ok q → Passed p q ts rest
   passes {s} {x} p q f at c e = record {
     others = f.others;
     spelled = f.spelled;
@@ -145,8 +144,7 @@ with_event c args = record c { events = insert_key event_cmp c.events (record { 
 
 module _ (sig : List PredOf) (limits : Limits) where
   -- the values of a group and its `)` were read; or there is a fault
-  abbrev pub InsideJudged : Partial → Stage → List Sort → List Value → List Written → List Lexeme → List Symbol
-      → Type 0
+  abbrev pub InsideJudged : Partial → Stage → List Sort → List Value → List Written → List Lexeme → List Symbol → Type 0
   InsideJudged c stage due args ws ts rest =
       ((values : List Value) × (values_of due ws ≡ Some values)
       × Passed sig limits (within c stage due args) (resting (with_event c (args ++ values)) AfterClose) ts rest)
@@ -181,8 +179,7 @@ module _ (sig : List PredOf) (limits : Limits) where
       → stage_after stage (Says w) ≡ Some AfterValue → completes stage (Says w) ≡ false
       → symbols_of ts ≡ Says w ∷ spell_more ws (Closing ∷ rest)
       → ((due : List Sort) (args : List Value) (ts : List Lexeme) → symbols_of ts ≡ spell_more ws (Closing ∷ rest)
-      → InsideJudged c AfterValue due args ws ts rest)
-      → InsideJudged c stage due args (w ∷ ws) ts rest
+      → InsideJudged c AfterValue due args ws ts rest) → InsideJudged c stage due args (w ∷ ws) ts rest
   unfolding values_of
   value_then c stage [] args w ws ts rest g h e later =
       let f = front_of ts (Says w) (spell_more ws (Closing ∷ rest)) e in

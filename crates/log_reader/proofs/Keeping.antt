@@ -62,8 +62,7 @@ module _ (sig : List PredOf) (limits : Limits) (s : Stretch) (from : ℕ) (looke
   -- what the rest begins with is due
   due_led : (points : List TimePoint) → LeadsOn points → (log : List ℕ)
       → StandsForLog sig limits is_ended (given_of p) s at p log
-      → answer_of is_ended (skipped (given_of p) (reading sig limits log is_ended))
-      ≡ answer_of is_ended (behind points
+      → answer_of is_ended (skipped (given_of p) (reading sig limits log is_ended)) ≡ answer_of is_ended (behind points
       (run_from sig limits (nothing_left limits log is_ended) q (stretch_place limits s is_ended at')))
   due_led points l log st = grind (arith, due_rest, leads_now)
 

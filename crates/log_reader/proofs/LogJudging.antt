@@ -92,8 +92,7 @@ module _ (sig : List PredOf) (limits : Limits) (len : ℕ) where
       (cond (nat_lt p.ts earliest) None (log_value sig limits p.ts room log))) point
 
   log_is : (earliest room : ℕ) (p : PointText) (log : List PointText)
-      → log_value sig limits earliest (suc room) (p ∷ log)
-      ≡ log_by earliest room log
+      → log_value sig limits earliest (suc room) (p ∷ log) ≡ log_by earliest room log
       (point_by (timestamp_of p.stamp) (mentions_value sig [] p.mentions)
       (nat_lt limits.events (group_count p.mentions)))
   unfolding log_value point_value

@@ -44,8 +44,7 @@ module _ (sig : List PredOf) (limits : Limits) (len : ℕ) (ts : List Lexeme) wh
 
   value_of_read : (points : List TimePoint) (log : List PointText) → Spells (symbols_of ts) log
       → run_points sig limits (last sig limits len) nothing_read ts ≡ whole points
-      → LogJudged sig limits len nothing_read limits.points log ts
-      → Spelled points
+      → LogJudged sig limits len nothing_read limits.points log ts → Spelled points
   value_of_read points log spells e h = grind arith
 
   pub tokens_spelled : (points : List TimePoint)
@@ -78,8 +77,7 @@ record IsWhole (limits : Limits) (bytes : List ℕ) (fault : Option LexFault) : 
   pub whole : fault ≡ None
 
 whole_by : (limits : Limits) (bytes : List ℕ) (fault : Option LexFault) (long : Bool) (p q : Partial)
-    → is_long limits bytes ≡ long
-    → at_tail (tail_behind limits bytes true fault) p ≡ Ok q → IsWhole limits bytes fault
+    → is_long limits bytes ≡ long → at_tail (tail_behind limits bytes true fault) p ≡ Ok q → IsWhole limits bytes fault
 whole_by limits bytes fault long p q l e = grind arith
 
 module _ (sig : List PredOf) (limits : Limits) (bytes : List ℕ) where

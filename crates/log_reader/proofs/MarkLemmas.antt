@@ -114,8 +114,7 @@ module _ (sig : List PredOf) (limits : Limits) (from : ℕ) (looked : List ℕ) 
     found = seen.is ended
 
     takes : (behind : ℕ) → t.at + length t.text ≡ from + behind → (result : Result TokenStep LogFault) (at' : ℕ)
-        → StepsOver sig limits t behind at p result at' q
-        → TakesToken sig limits from looked ended at p result at' q
+        → StepsOver sig limits t behind at p result at' q → TakesToken sig limits from looked ended at p result at' q
     takes behind end result at' over =
         let far : (after here).at - from ≡ behind = omega (arith, seen.behind ended, end) in
         steps_over sig limits from looked ended at p t behind

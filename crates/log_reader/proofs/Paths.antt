@@ -107,12 +107,10 @@ before _ _ _ (times word digits) u = prepend (record u.parts { stamp = word }) u
 before _ _ _ (names_first word) u = prepend (with_mention word u.parts) u refl u.stamps tt
 before _ _ _ (names_more word) u = prepend (with_mention word u.parts) u refl u.stamps tt
 before _ _ _ opens_first u = prepend (record u.parts { group = u.parts.values }) u refl u.stamps tt
-before _ _ _ opens_more u =
-    prepend (record u.parts { groups = u.parts.values ∷ u.parts.groups }) u refl u.stamps tt
+before _ _ _ opens_more u = prepend (record u.parts { groups = u.parts.values ∷ u.parts.groups }) u refl u.stamps tt
 before _ _ _ (gives_first w) u = prepend (record u.parts { values = w ∷ u.parts.values }) u refl u.stamps tt
 before _ _ _ (gives_more w) u = prepend (record u.parts { value = w }) u refl u.stamps tt
-before _ _ _ separates u =
-    prepend (record u.parts { values = u.parts.value ∷ u.parts.values }) u refl u.stamps tt
+before _ _ _ separates u = prepend (record u.parts { values = u.parts.value ∷ u.parts.values }) u refl u.stamps tt
 before _ _ _ closes_empty u = prepend (record u.parts { values = [] }) u refl u.stamps tt
 before _ _ _ closes u = prepend (record u.parts { values = [] }) u refl u.stamps tt
 before _ _ _ ends_bare u = prepend (record nothing { is_closed = true; log = u.parts.log }) u refl u.stamps tt

@@ -45,8 +45,7 @@ module _ (sig : List PredOf) (limits : Limits) where
       → stage_after stage Opening ≡ Some AfterOpen → completes stage Opening ≡ false
       → symbols_of ts ≡ spell_group group (spell_groups groups rest)
       → ((c : Partial) (ts : List Lexeme) → symbols_of ts ≡ spell_groups groups rest → c.groups ≤ limits.events
-      → GroupsJudged pred c AfterClose groups ts rest)
-      → GroupsJudged pred c stage (group ∷ groups) ts rest
+      → GroupsJudged pred c AfterClose groups ts rest) → GroupsJudged pred c stage (group ∷ groups) ts rest
   unfolding groups_value
   one_group pred c stage group groups ts rest g h e later =
       let p = resting (of_pred c pred) stage in
@@ -134,8 +133,7 @@ module _ (sig : List PredOf) (limits : Limits) where
       (ts : List Lexeme) (rest : List Symbol) → is_whole stage ≡ true
       → named m.name sig ≡ found → symbols_of ts ≡ spell_mentions (m ∷ mentions) rest
       → ((c : Partial) (ts : List Lexeme) → symbols_of ts ≡ spell_mentions mentions rest → c.groups ≤ limits.events
-      → MentionsJudged c AfterClose mentions ts rest)
-      → MentionsJudged c stage (m ∷ mentions) ts rest
+      → MentionsJudged c AfterClose mentions ts rest) → MentionsJudged c stage (m ∷ mentions) ts rest
   unfolding mentions_value
   named_judged None c stage m mentions ts rest o n e later =
       let p = resting c stage in

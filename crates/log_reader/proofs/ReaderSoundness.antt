@@ -138,8 +138,7 @@ module _ (sig : List PredOf) (limits : Limits) (log : List ℕ) where
 
     -- what is due is what the rest gives
     pub due_rest : (at : ℕ) (p : Partial) → StandsForLog sig limits is_ended given s at p log
-        → answer_of is_ended (skipped given (reading sig limits log is_ended))
-        ≡ answer_of is_ended
+        → answer_of is_ended (skipped given (reading sig limits log is_ended)) ≡ answer_of is_ended
         (run_from sig limits (nothing_left limits log is_ended) p (stretch_place limits s is_ended at))
     due_rest at p st = ap (answer_of is_ended) (remains_now at p st).rest
 

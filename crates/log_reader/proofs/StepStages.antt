@@ -40,8 +40,7 @@ module _ (sig : List PredOf) (limits : Limits) (p : Partial) (t : Lexeme) where
   stepped_reaches g = grind arith
 
   -- a step without a fault follows the grammar
-  pub step_goes : (q : Partial) → step sig limits p t ≡ Ok q
-      → Reached limits p (stage_after p.stage (symbol t)) q
+  pub step_goes : (q : Partial) → step sig limits p t ≡ Ok q → Reached limits p (stage_after p.stage (symbol t)) q
   unfolding step
   step_goes q e = by_stage (stage_after p.stage (symbol t)) e
     where

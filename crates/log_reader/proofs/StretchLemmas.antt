@@ -62,8 +62,7 @@ module _ (limits : Limits) (from : ℕ) where
       ≡ tokens (stretch_place limits (with_piece (at_comment (hash ∷ comment)) more) later 0)
   hash_place comment more later none short = grind (arith, take_all, take-append, ap₂, length-append, shortening)
 
-  comment_place : (bytes more : List ℕ) (later : Bool) → blank_len false bytes ≡ 0
-      → from + length bytes ≤ limits.bytes
+  comment_place : (bytes more : List ℕ) (later : Bool) → blank_len false bytes ≡ 0 → from + length bytes ≤ limits.bytes
       → tokens (stretch_place limits (with_piece (shortened (at_comment bytes)) more) later 0)
       ≡ tokens (stretch_place limits (with_piece (at_comment bytes) more) later 0)
   comment_place bytes more later none short = grind (arith, cases_Bool, eqb-true, hash_place, take_all, ap₂)
@@ -75,7 +74,6 @@ pub shortened_end : (s : Stretch) → stretch_end (shortened s) ≡ stretch_end 
 shortened_end s = omega (arith, length-take (length s.bytes - comment_of s.bytes) s.bytes, comment_within s.bytes)
 
 pub shortened_place : (limits : Limits) (s : Stretch) → blank_len false s.bytes ≡ 0 → stretch_end s ≤ limits.bytes
-    → (more : List ℕ) (later : Bool)
-    → tokens (stretch_place limits (with_piece (shortened s) more) later 0)
+    → (more : List ℕ) (later : Bool) → tokens (stretch_place limits (with_piece (shortened s) more) later 0)
     ≡ tokens (stretch_place limits (with_piece s more) later 0)
 shortened_place limits s none short more later = comment_place limits s.from s.bytes more later none short

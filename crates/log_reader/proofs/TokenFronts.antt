@@ -47,8 +47,7 @@ no_blank b h = grind (arith, nat_tests)
 no_comment : (b : ℕ) → in_log_word b ≡ true → (b == hash) ≡ false
 no_comment b h = grind (arith, nat_tests)
 
-first_in : (b : ℕ) (bytes : List ℕ) (n : ℕ) → prefix_len in_log_word (b ∷ bytes) ≡ n → 0 < n
-    → in_log_word b ≡ true
+first_in : (b : ℕ) (bytes : List ℕ) (n : ℕ) → prefix_len in_log_word (b ∷ bytes) ≡ n → 0 < n → in_log_word b ≡ true
 first_in b bytes n e some = grind arith
 
 pub word_whole : (bytes : List ℕ) (n : ℕ) → prefix_len in_log_word bytes ≡ n → 0 < n → n ≤ 4096

@@ -44,13 +44,11 @@ token_at_offset from looked ended at t le e =
     })
 
 module _ (sig : List PredOf) (limits : Limits) (last : Partial → Reading) (p : Partial) (place : Place) where
-  by_tokens : (r : Result (Option Lexeme) LexFault) → next_token place ≡ r
-      → run_from sig limits last p place
+  by_tokens : (r : Result (Option Lexeme) LexFault) → next_token place ≡ r → run_from sig limits last p place
       ≡ (let ts = followed r (tokens (after place)) in run sig limits (behind_tokens ts.fault last) p ts.list)
   by_tokens r e = cc (tokens_step place)
 
-  pub token_run : (t : Lexeme) → next_token place ≡ Ok (Some t)
-      → run_from sig limits last p place
+  pub token_run : (t : Lexeme) → next_token place ≡ Ok (Some t) → run_from sig limits last p place
       ≡ behind (completed p t) (went_on (step sig limits p t) (λ q. run_from sig limits last q (after place)))
   unfolding run
   token_run t e = by_tokens (Ok (Some t)) e

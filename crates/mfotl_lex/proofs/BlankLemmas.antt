@@ -62,8 +62,7 @@ GoesOn ended count bytes more =
 
 mutual
   -- the blanks go on where those of the front end
-  pub blank_len-append : (ended : Bool) (bytes more : List ℕ)
-      → blank_len ended (bytes ++ more)
+  pub blank_len-append : (ended : Bool) (bytes more : List ℕ) → blank_len ended (bytes ++ more)
       ≡ blank_len false bytes + blank_len ended (drop (blank_len false bytes) bytes ++ more)
   blank_len-append ended [] more = rw blank_nil (sym (zero-add (blank_len ended more)))
   blank_len-append ended (b ∷ bytes) more = elim (first_byte b) [
@@ -94,8 +93,7 @@ mutual
   ]
 
 -- a comment that isn't closed goes on with more bytes
-comment_goes_on : (ended : Bool) (count : ℕ) (comment more : List ℕ)
-    → comment_len false count comment ≡ 0
+comment_goes_on : (ended : Bool) (count : ℕ) (comment more : List ℕ) → comment_len false count comment ≡ 0
     → comment_len ended count (comment ++ more) ≡ comment_len ended (length comment + count) more
 comment_goes_on ended count [] more none = rw zero-add refl
 comment_goes_on ended count (b ∷ comment) more none = elim (comment_byte b) [
@@ -161,8 +159,7 @@ all_blanks : (front more : List ℕ) → blank_len false (front ++ more) ≡ len
 all_blanks front more all = grind (arith, no_blanks, none_shown, blank_len-append, length-drop, blanks_within)
 
 -- the blanks alone are counted whole
-pub blank_len-take : (bytes : List ℕ)
-    → blank_len false (take (blank_len false bytes) bytes) ≡ blank_len false bytes
+pub blank_len-take : (bytes : List ℕ) → blank_len false (take (blank_len false bytes) bytes) ≡ blank_len false bytes
 blank_len-take bytes =
     let n = blank_len false bytes in
     let long = length-take-le n bytes (blanks_within false bytes) in
@@ -171,8 +168,7 @@ blank_len-take bytes =
 -- ---- what stands behind the blanks
 
 -- no blank stands there
-pub blank_len-drop : (ended : Bool) (bytes : List ℕ)
-    → blank_len ended (drop (blank_len ended bytes) bytes) ≡ 0
+pub blank_len-drop : (ended : Bool) (bytes : List ℕ) → blank_len ended (drop (blank_len ended bytes) bytes) ≡ 0
 blank_len-drop false bytes = none_shown bytes
 blank_len-drop true bytes =
     grind (arith, cases_lt, blanks_before_end, told_more, nil_from_length, length-drop, blank_nil)
@@ -183,8 +179,7 @@ pub blanks_are_whole : (ended : Bool) (bytes : List ℕ) → blank_len ended byt
 blanks_are_whole false bytes lt = blank_len-take bytes
 blanks_are_whole true bytes lt = rw (← blanks_before_end bytes lt) (blank_len-take bytes)
 
-pub no_space : (ended : Bool) (b : ℕ) (bytes : List ℕ) → blank_len ended (b ∷ bytes) ≡ 0
-    → is_space b ≡ false
+pub no_space : (ended : Bool) (b : ℕ) (bytes : List ℕ) → blank_len ended (b ∷ bytes) ≡ 0 → is_space b ≡ false
 no_space ended b bytes none = grind (arith, blank_space, cases_Bool)
 
 comment_counts : (count : ℕ) (bytes : List ℕ) → count ≤ comment_len true count bytes

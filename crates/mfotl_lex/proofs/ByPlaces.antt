@@ -50,8 +50,7 @@ module _ {S T E : Type 0} (step : S → T → Result S E) (start : S) (at : T �
         (holds_behind step Reached keeps [] ts start s begins ran).stands
 
     -- a fault's token is its cause
-    pub token_caused : (front : List T) (s : S) (t : T) (fault : E) → run step front start ≡ Ok s
-        → step s t ≡ Err fault
+    pub token_caused : (front : List T) (s : S) (t : T) (fault : E) → run step front start ≡ Ok s → step s t ≡ Err fault
         → IsCause front t fault
     token_caused front s t fault ran e =
         elim (knows.further front s t ran (reached front s ran)) [
@@ -66,8 +65,7 @@ module _ {S T E : Type 0} (step : S → T → Result S E) (start : S) (at : T �
 
     -- and one that ends viability shows Syntax
     pub ends_shown : (front : List T) (s : S) (t : T) (place : ℕ) → run step front start ≡ Ok s
-        → EndsViability IsViable at front t place
-        → step s t ≡ Err (syntax place)
+        → EndsViability IsViable at front t place → step s t ≡ Err (syntax place)
     ends_shown front s t place ran v =
         elim (knows.further front s t ran (reached front s ran)) [
           | inl stops ↦ stops ∙ ap (λ n. Err (syntax n)) (sym v.stands)

@@ -20,13 +20,11 @@ use Rattle.mfotl_lex.proofs.Sequence.{stopped_at_fault}
 
 -- ---- the blanks at the front
 
-len_front : (ended : Bool) (bytes : List ℕ)
-    → length (take (blank_len ended bytes) bytes) ≡ blank_len ended bytes
+len_front : (ended : Bool) (bytes : List ℕ) → length (take (blank_len ended bytes) bytes) ≡ blank_len ended bytes
 len_front ended bytes = length-take-le (blank_len ended bytes) bytes (blanks_within ended bytes)
 
 -- blanks whose end isn't needed are blanks at the end too
-blanks_at_end : (blanks : List ℕ) → blank_len false blanks ≡ length blanks
-    → blank_len true blanks ≡ length blanks
+blanks_at_end : (blanks : List ℕ) → blank_len false blanks ≡ length blanks → blank_len true blanks ≡ length blanks
 blanks_at_end blanks e = grind (arith, common_steps, nil_from_length, length-drop, blank_nil, told_more)
 
 front_is_blank : (ended : Bool) (bytes : List ℕ) → AreBlanks ended (take (blank_len ended bytes) bytes)
@@ -46,8 +44,7 @@ found_at p other t w e = absurd cc
 
 -- ---- at the end
 
-nothing_left : (mode : Mode) (front : List ℕ) → blank_len true front ≡ 0
-    → scan mode true front ≡ Unshown → front ≡ []
+nothing_left : (mode : Mode) (front : List ℕ) → blank_len true front ≡ 0 → scan mode true front ≡ Unshown → front ≡ []
 nothing_left mode [] none e = refl
 nothing_left mode (b ∷ bytes) none e = absurd (rw e at (shown_at_end mode b bytes (no_hash b bytes none)))
 
@@ -82,8 +79,7 @@ covers_step p (Err f) e behind = grind (arith, tokens_fault, stopped_at_fault, b
 
 covers : (n : ℕ) (p : Place) → length p.rest < n → AreTheBytes p
 covers zero p lt = absurd (omega arith)
-covers (suc n) p lt =
-    covers_step p (next_token p) refl (λ t e. covers n (after p) (omega (arith, after_shorter p t e)))
+covers (suc n) p lt = covers_step p (next_token p) refl (λ t e. covers n (after p) (omega (arith, after_shorter p t e)))
 
 -- the tokens and what lies between them are the bytes
 pub covering : TokensAreTheBytes

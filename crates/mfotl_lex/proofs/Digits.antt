@@ -10,8 +10,7 @@ grows n [] = omega arith
 grows n (b ∷ bytes) = omega (arith, grows (10 * n + (b - 48)) bytes)
 
 -- a number above the limit, and digits leave it there
-pub passes_limit : (limit n digit i : ℕ) (bytes : List ℕ) → i < length bytes
-    → digit ≡ get_or bytes i 0 - 48
+pub passes_limit : (limit n digit i : ℕ) (bytes : List ℕ) → i < length bytes → digit ≡ get_or bytes i 0 - 48
     → digits_value n (drop i bytes) ≡ digits_value 0 bytes → limit < 10 * n + digit
     → None ≡ within_limit limit (digits_value 0 bytes)
 unfolding digits_value

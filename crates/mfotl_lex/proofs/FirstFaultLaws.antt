@@ -15,8 +15,7 @@ pub bind_assoc : {A B C E : Type 0} (r : Result A E) (f : A → Result B E) (g :
 bind_assoc (Ok x) f g = refl
 bind_assoc (Err fault) f g = refl
 
-pub bind_same : {A B E : Type 0} (r : Result A E) (f g : A → Result B E) → ((x : A) → f x ≡ g x)
-    → (r >>= f) ≡ (r >>= g)
+pub bind_same : {A B E : Type 0} (r : Result A E) (f g : A → Result B E) → ((x : A) → f x ≡ g x) → (r >>= f) ≡ (r >>= g)
 bind_same (Ok x) f g same = same x
 bind_same (Err fault) f g same = refl
 
@@ -130,8 +129,7 @@ module _ {S T L E V : Type 0} (step : S → T → Result S E) (start : S) (at_ta
   shown_stop ts fault x = grind (arith, clear_sound)
 
   shown : (x : Text T L) (fault : E) (r : Result S E) → run step x.list start ≡ r
-      → (r >>= λ s. at_tail x.tail s) ≡ Err fault
-      → IsFirst IsViable IsCause IsLast x fault
+      → (r >>= λ s. at_tail x.tail s) ≡ Err fault → IsFirst IsViable IsCause IsLast x fault
   shown x fault (Ok s) e f = grind (arith, sound_clear)
   shown x fault (Err other) e f = inl (stop_shown x.list fault (stopped step start x.list fault (e ∙ cc f)))
 

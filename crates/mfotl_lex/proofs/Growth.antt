@@ -47,13 +47,11 @@ word_keeps : (ended : Bool) (limit count count' len len' : ℕ) → count ≤ co
     → Keeps (word_scan false limit count len) (word_scan ended limit count' len')
 word_keeps ended limit count count' len len' le same longer = grind (arith, nat_tests)
 
-number_keeps : (ended : Bool) (count count' : ℕ) (bytes more : List ℕ) →
-    (count < length bytes → count' ≡ count)
+number_keeps : (ended : Bool) (count count' : ℕ) (bytes more : List ℕ) → (count < length bytes → count' ≡ count)
     → Keeps (number_scan false count bytes) (number_scan ended count' (bytes ++ more))
 number_keeps ended count count' bytes more same = grind (arith, take-append-le, length-append)
 
-minus_keeps : (ended : Bool) (bytes more : List ℕ)
-    → Keeps (minus_scan false bytes) (minus_scan ended (bytes ++ more))
+minus_keeps : (ended : Bool) (bytes more : List ℕ) → Keeps (minus_scan false bytes) (minus_scan ended (bytes ++ more))
 unfolding minus_scan
 minus_keeps ended [] more = tt
 minus_keeps ended (b ∷ bytes) more =
@@ -68,8 +66,7 @@ unfolding text_end
 end_keeps ended content [] more = tt
 end_keeps ended content (b ∷ behind) more = keeps_same _
 
-text_keeps : (ended : Bool) (bytes more : List ℕ)
-    → Keeps (text_scan false bytes) (text_scan ended (bytes ++ more))
+text_keeps : (ended : Bool) (bytes more : List ℕ) → Keeps (text_scan false bytes) (text_scan ended (bytes ++ more))
 unfolding text_scan text_end
 text_keeps ended bytes more =
     let count = prefix_len in_text bytes in
@@ -97,8 +94,7 @@ run_keeps : (ended : Bool) (limit : ℕ) (p : ℕ → Bool) (bytes more : List �
     (word_scan ended limit (prefix_len p (bytes ++ more)) (length (bytes ++ more)))
 run_keeps ended limit p bytes more = grind (arith, word_keeps, prefix_grows, prefix_stays, length-append)
 
-digits_keep : (ended : Bool) (bytes more : List ℕ)
-    → Keeps (number_scan false (prefix_len is_ascii_digit bytes) bytes)
+digits_keep : (ended : Bool) (bytes more : List ℕ) → Keeps (number_scan false (prefix_len is_ascii_digit bytes) bytes)
     (number_scan ended (prefix_len is_ascii_digit (bytes ++ more)) (bytes ++ more))
 digits_keep ended bytes more = number_keeps ended _ _ bytes more (prefix_stays is_ascii_digit bytes more)
 
@@ -163,8 +159,7 @@ text_at_end : (bytes : List ℕ) → IsShown (text_scan true bytes)
 unfolding text_scan
 text_at_end bytes = search (shown_both, end_at_end, tt)
 
-order_at_end : (alone with_equal : Kind) (bytes : List ℕ)
-    → IsShown (order_scan true alone with_equal bytes)
+order_at_end : (alone with_equal : Kind) (bytes : List ℕ) → IsShown (order_scan true alone with_equal bytes)
 unfolding order_scan
 order_at_end alone with_equal [] = tt
 order_at_end alone with_equal (b ∷ bytes) = search (shown_both, tt)
@@ -174,8 +169,7 @@ mark_is_shown None = tt
 mark_is_shown (Some kind) = tt
 
 -- at the end every byte behind the blanks shows a token or a fault
-pub shown_at_end : (mode : Mode) (b : ℕ) (bytes : List ℕ) → (b == hash) ≡ false
-    → IsShown (scan mode true (b ∷ bytes))
+pub shown_at_end : (mode : Mode) (b : ℕ) (bytes : List ℕ) → (b == hash) ≡ false → IsShown (scan mode true (b ∷ bytes))
 unfolding plain_scan log_scan
 shown_at_end Plain b bytes no_comment = search (
   shown_both,

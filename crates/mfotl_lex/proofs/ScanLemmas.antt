@@ -35,15 +35,13 @@ unfolding minus_scan
 minus_within ended [] = within_both (minus ∷ []) ended _ _ (omega arith) tt
 minus_within ended (b ∷ bytes) = grind (arith, prefix_len-le-length, within_both, number_within)
 
-end_within : (first : ℕ) (bytes content behind : List ℕ) (ended : Bool)
-    → length content + length behind ≡ length bytes
+end_within : (first : ℕ) (bytes content behind : List ℕ) (ended : Bool) → length content + length behind ≡ length bytes
     → IsWithin (first ∷ bytes) (text_end ended content behind)
 unfolding text_end closed_text
 end_within first bytes content [] ended e = within_both (first ∷ bytes) ended _ _ (omega arith) tt
 end_within first bytes content (b ∷ behind) ended e = grind (arith, within_both)
 
-text_within : (first : ℕ) (bytes : List ℕ) (ended : Bool)
-    → IsWithin (first ∷ bytes) (text_scan ended bytes)
+text_within : (first : ℕ) (bytes : List ℕ) (ended : Bool) → IsWithin (first ∷ bytes) (text_scan ended bytes)
 unfolding text_scan
 text_within first bytes ended =
     let count = prefix_len in_text bytes in

@@ -34,8 +34,7 @@ shorter p q (Takes kind n) t w le e = omega (arith, w.0, w.1, length-drop n q.re
 shorter p q other t w le e = absurd cc
 
 -- a token takes a byte at least
-pub after_shorter : (p : Place) (t : Lexeme) → next_token p ≡ Ok (Some t)
-    → length (after p).rest < length p.rest
+pub after_shorter : (p : Place) (t : Lexeme) → next_token p ≡ Ok (Some t) → length (after p).rest < length p.rest
 after_shorter p t e = grind (arith, length-drop, after_is, shorter, at_within, next_is)
 
 same_mode : (p : Place) (s : Scan) → (place_after p (past_blanks p) s).mode ≡ p.mode
@@ -125,8 +124,7 @@ pub tokens_fault : (p : Place) (fault : LexFault) → next_token p ≡ Err fault
 tokens_fault p fault e = rw (tokens_step p, e)
 
 -- where reading stops, by the next token
-pub stopped_at_token : (p : Place) (t : Lexeme) → next_token p ≡ Ok (Some t) → stopped p
-    ≡ stopped (after p)
+pub stopped_at_token : (p : Place) (t : Lexeme) → next_token p ≡ Ok (Some t) → stopped p ≡ stopped (after p)
 stopped_at_token p t e = rw (stopped_step p, e)
 
 pub stopped_at_none : (p : Place) → next_token p ≡ Ok None → stopped p ≡ past_blanks p

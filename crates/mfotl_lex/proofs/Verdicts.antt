@@ -13,8 +13,7 @@ module _ {E : Type 0} (IsRule : E → Type 0) where
   abbrev pub Judged : {A : Type 0} → Type 0 → Result A E → A → Type 0
   Judged rules r x = (rules × (r ≡ Ok x)) ⊎ Broken rules r
 
-  pub breaks : {A : Type 0} (rules : Type 0) (fault : E) → IsRule fault → (rules → ⊥)
-      → Broken {A = A} rules (Err fault)
+  pub breaks : {A : Type 0} (rules : Type 0) (fault : E) → IsRule fault → (rules → ⊥) → Broken {A = A} rules (Err fault)
   breaks rules fault is_rule broken = record { broken = broken; fault = fault; is_rule = is_rule; shown = refl }
 
   still_broken : {A B : Type 0} {rules others : Type 0} {r : Result A E} {r' : Result B E} → (b : Broken rules r)
@@ -36,8 +35,7 @@ module _ {E : Type 0} (IsRule : E → Type 0) where
 
     -- a verdict, and then one more
     pub then_judged : {B : Type 0} (more all : Type 0) (f : A → Result B E) (y : B) → (rules → more → all)
-        → (all → rules × more)
-        → Judged rules r x → (rules → Judged more (f x) y) → Judged all (r >>= f) y
+        → (all → rules × more) → Judged rules r x → (rules → Judged more (f x) y) → Judged all (r >>= f) y
     then_judged more all f y to from (inr b) later = inr (still_broken b (λ k. (from k).0) (rw b.shown))
     then_judged more all f y to from (inl kept) later = grind (arith, still_broken)
 

@@ -15,8 +15,7 @@ or_last a b = grind arith
 
 module _ {K : Type 0} {cmp : K → K → Ordering} (total : IsTotalOrder cmp) (exact : CmpEqualImpliesEq cmp) where
   -- what a test finds after one more element was put in its place
-  pub any_insert : (p : K → Bool) (ks : List K) (k : K)
-      → list_any p (insert_key cmp ks k) ≡ (p k || list_any p ks)
+  pub any_insert : (p : K → Bool) (ks : List K) (k : K) → list_any p (insert_key cmp ks k) ≡ (p k || list_any p ks)
   any_insert p [] k = refl
   any_insert p (x ∷ xs) k = grind (arith, or_self_left, or_moved, any_insert p xs k)
 
@@ -25,8 +24,7 @@ module _ {K : Type 0} {cmp : K → K → Ordering} (total : IsTotalOrder cmp) (e
   any_ascending p [] = refl
   any_ascending p (x ∷ xs) = any_insert p (ascending cmp xs) x ∙ ap (λ b. p x || b) (any_ascending p xs)
 
-  below_inserted : (x k : K) (ks : List K) → cmp x k ≡ Less
-      → AllByRecursion (λ y. cmp x y ≡ Less) ks
+  below_inserted : (x k : K) (ks : List K) → cmp x k ≡ Less → AllByRecursion (λ y. cmp x y ≡ Less) ks
       → AllByRecursion (λ y. cmp x y ≡ Less) (insert_key cmp ks k)
   below_inserted x k [] low all = (low, all)
   below_inserted x k (y ∷ ys) low all = grind (arith, below_inserted x k ys low all.1)
@@ -37,8 +35,7 @@ module _ {K : Type 0} {cmp : K → K → Ordering} (total : IsTotalOrder cmp) (e
   below_all k x (y ∷ ys) low all = (total.trans k x y low all.0, below_all k x ys low all.1)
 
   -- an element put in its place keeps the list strictly ascending
-  pub sorted_insert : (ks : List K) (k : K) → IsStrictlySortedBy cmp ks
-      → IsStrictlySortedBy cmp (insert_key cmp ks k)
+  pub sorted_insert : (ks : List K) (k : K) → IsStrictlySortedBy cmp ks → IsStrictlySortedBy cmp (insert_key cmp ks k)
   unfolding IsStrictlySortedBy
   sorted_insert [] k sorted = (sorted, sorted)
   sorted_insert (x ∷ xs) k sorted = grind (arith, below_all, below_inserted, sorted_insert xs k sorted.1)
@@ -50,8 +47,7 @@ module _ {K : Type 0} {cmp : K → K → Ordering} (total : IsTotalOrder cmp) (e
   sorted_ascending (x ∷ xs) = sorted_insert (ascending cmp xs) x (sorted_ascending xs)
 
   -- lists with the same members come out the same
-  pub same_ascending : (xs ys : List K)
-      → ((q : K) → list_any (eq_by_cmp cmp q) xs ≡ list_any (eq_by_cmp cmp q) ys)
+  pub same_ascending : (xs ys : List K) → ((q : K) → list_any (eq_by_cmp cmp q) xs ≡ list_any (eq_by_cmp cmp q) ys)
       → ascending cmp xs ≡ ascending cmp ys
   same_ascending xs ys same =
       let left : BTreeSet K = record { keys = ascending cmp xs } in
@@ -61,8 +57,7 @@ module _ {K : Type 0} {cmp : K → K → Ordering} (total : IsTotalOrder cmp) (e
       (λ q. any_ascending (eq_by_cmp cmp q) xs ∙ same q ∙ sym (any_ascending (eq_by_cmp cmp q) ys)) exact
 
   -- an element put in its place is one more element behind
-  pub insert_behind : (xs : List K) (x : K)
-      → insert_key cmp (ascending cmp xs) x ≡ ascending cmp (xs ++ x ∷ [])
+  pub insert_behind : (xs : List K) (x : K) → insert_key cmp (ascending cmp xs) x ≡ ascending cmp (xs ++ x ∷ [])
   insert_behind xs x =
       same_ascending (x ∷ xs) (xs ++ x ∷ [])
       (λ q. sym (list_any-append (eq_by_cmp cmp q) xs (x ∷ [])

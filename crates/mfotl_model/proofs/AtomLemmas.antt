@@ -42,8 +42,7 @@ own : (terms : List Term) (values : List Value) (t : Term) (a : Value)
 own terms values t a has = grind arith
 
 -- values are equal one by one
-compared : (terms : List Term) (values : List Value) (ts : List Term) (vs : List Value)
-    → length ts ≡ length vs
+compared : (terms : List Term) (values : List Value) (ts : List Term) (vs : List Value) → length ts ≡ length vs
     → ((y : ℕ) → among y (flat_map variable_in ts) ≡ true → is_some (first_value terms values y) ≡ true)
     → list_all (λ p. stands_for terms values p.0 p.1) (zip ts vs)
     ≡ eq_by_cmp row_cmp (map (term_value (read_off terms values)) ts) vs

@@ -12,8 +12,7 @@ use Rattle.mfotl_model.specs.declared.value.Value.{Value}
 -- ---- columns that differ
 
 filter_apart_at : (s : ℕ → Bool) (x : ℕ) (xs : List ℕ) (b : Bool) → s x ≡ b → among x xs ≡ false
-    → all_apart (filter s xs) ≡ true
-    → all_apart (cond (s x) (x ∷ filter s xs) (filter s xs)) ≡ true
+    → all_apart (filter s xs) ≡ true → all_apart (cond (s x) (x ∷ filter s xs) (filter s xs)) ≡ true
 filter_apart_at s x xs true e out rest =
     ap all_apart (cond-true (s x) (x ∷ filter s xs) (filter s xs) e)
     ∙ and_from (not (among x (filter s xs))) (all_apart (filter s xs))

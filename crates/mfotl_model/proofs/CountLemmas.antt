@@ -6,10 +6,8 @@ use Rattle.std.specs.List.{range_with_len, take_while}
 use Rattle.mfotl_model.specs.{Counts.passing, Counts.settled_count, Laws.CountedSettled, Laws.NextUnsettled}
 use Rattle.mfotl_model.specs.{Settled.settled}
 
-passes_by : (p : ℕ → Bool) (i n : ℕ) (b : Bool) → p i ≡ b → (j : ℕ) → i ≤ j
-    → j < i + cond b (passing p (i + 1) n + 1) 0
-    → ((j : ℕ) → i + 1 ≤ j → j < i + 1 + passing p (i + 1) n → p j ≡ true)
-    → p j ≡ true
+passes_by : (p : ℕ → Bool) (i n : ℕ) (b : Bool) → p i ≡ b → (j : ℕ) → i ≤ j → j < i + cond b (passing p (i + 1) n + 1) 0
+    → ((j : ℕ) → i + 1 ≤ j → j < i + 1 + passing p (i + 1) n → p j ≡ true) → p j ≡ true
 passes_by p i n b e j low high rest = grind arith
 
 -- the numbers that are counted pass
@@ -37,8 +35,7 @@ next_unsettled times f less = grind (arith, count_stops)
 
 taken_by : (p : ℕ → Bool) (i n : ℕ) (b : Bool)
     → take_while p (range_with_len (i + 1) n) ≡ range_with_len (i + 1) (passing p (i + 1) n)
-    → cond b (i ∷ take_while p (range_with_len (i + 1) n)) []
-    ≡ range_with_len i (cond b (passing p (i + 1) n + 1) 0)
+    → cond b (i ∷ take_while p (range_with_len (i + 1) n)) [] ≡ range_with_len i (cond b (passing p (i + 1) n + 1) 0)
 taken_by p i n true rest = ap (λ xs. i ∷ xs) rest ∙ ap (range_with_len i) (sym (add-one (passing p (i + 1) n)))
 taken_by p i n false rest = refl
 

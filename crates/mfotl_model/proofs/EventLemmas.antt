@@ -37,6 +37,5 @@ pub events_of_pred : (pred : ℕ) (events : List Event)
 events_of_pred pred events = events_filtered (has_pred pred) events
 
 -- a test finds among the events in order what it finds among them
-pub any_event : (p : Event → Bool) (events : List Event)
-    → list_any p (ascending event_cmp events) ≡ list_any p events
+pub any_event : (p : Event → Bool) (events : List Event) → list_any p (ascending event_cmp events) ≡ list_any p events
 any_event p events = any_ascending event_total event_exact p events

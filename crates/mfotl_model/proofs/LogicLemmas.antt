@@ -14,12 +14,10 @@ pub funext : {A B : Type 0} (f g : A → B) → ((x : A) → f x ≡ g x) → f 
 funext f g h = λ i. λ x. h x i
 
 -- tests that agree find alike
-pub any_alike : {X : Type 0} (p q : X → Bool) (xs : List X) → ((x : X) → p x ≡ q x)
-    → list_any p xs ≡ list_any q xs
+pub any_alike : {X : Type 0} (p q : X → Bool) (xs : List X) → ((x : X) → p x ≡ q x) → list_any p xs ≡ list_any q xs
 any_alike p q xs h = ap (λ r. list_any r xs) (funext p q h)
 
-pub all_alike : {X : Type 0} (p q : X → Bool) (xs : List X) → ((x : X) → p x ≡ q x)
-    → list_all p xs ≡ list_all q xs
+pub all_alike : {X : Type 0} (p q : X → Bool) (xs : List X) → ((x : X) → p x ≡ q x) → list_all p xs ≡ list_all q xs
 all_alike p q xs h = ap (λ r. list_all r xs) (funext p q h)
 
 -- a number equals itself
@@ -37,8 +35,7 @@ and_moved a b c = grind arith
 pub with_true : (a b : Bool) → b ≡ true → (a && b) ≡ a
 with_true a b e = grind arith
 
-joined_by : (y : ℕ) (xs ys : List ℕ) (b : Bool) → among y xs ≡ b
-    → among y (joined xs ys) ≡ (b || among y ys)
+joined_by : (y : ℕ) (xs ys : List ℕ) (b : Bool) → among y xs ≡ b → among y (joined xs ys) ≡ (b || among y ys)
 joined_by y xs ys true h = list_any-append (nat_eq y) xs (filter (λ z. not (among z xs)) ys) ∙ or_left (among y xs) _ h
 joined_by y xs ys false h =
     list_any-append (nat_eq y) xs (filter (λ z. not (among z xs)) ys)
@@ -51,8 +48,7 @@ pub among_joined : (y : ℕ) (xs ys : List ℕ) → among y (joined xs ys) ≡ (
 among_joined y xs ys = joined_by y xs ys (among y xs) refl
 
 -- the variables without x
-pub among_without : (y x : ℕ) (xs : List ℕ)
-    → among y (without x xs) ≡ (not (nat_eq y x) && among y xs)
+pub among_without : (y x : ℕ) (xs : List ℕ) → among y (without x xs) ≡ (not (nat_eq y x) && among y xs)
 among_without y x xs = grind (arith, any-filter_same, eqb-true)
 
 or_nothing : (a b : Bool) → ((a || false) || b) ≡ (a || b)
@@ -64,8 +60,7 @@ among_distinct y [] = refl
 among_distinct y (x ∷ xs) = simp (among_joined, or_nothing, among_distinct y xs)
 
 -- a test that holds at each number of a range holds at one of them
-pub all_in : (p : ℕ → Bool) (a n k : ℕ) → list_all p (range_with_len a n) ≡ true → a ≤ k → k < a + n
-    → p k ≡ true
+pub all_in : (p : ℕ → Bool) (a n k : ℕ) → list_all p (range_with_len a n) ≡ true → a ≤ k → k < a + n → p k ≡ true
 all_in p a zero k h low high = absurd (omega arith)
 all_in p a (suc n) k h low high =
     elim (cases_eq a k) [
@@ -96,8 +91,7 @@ any_in p a (suc n) h =
     ]
 
 -- a number of a range at which a test holds is found
-pub any_from : (p : ℕ → Bool) (a n k : ℕ) → a ≤ k → k < a + n → p k ≡ true
-    → list_any p (range_with_len a n) ≡ true
+pub any_from : (p : ℕ → Bool) (a n k : ℕ) → a ≤ k → k < a + n → p k ≡ true → list_any p (range_with_len a n) ≡ true
 any_from p a zero k low high h = absurd (omega arith)
 any_from p a (suc n) k low high h =
     elim (cases_eq a k) [
@@ -130,8 +124,7 @@ range_suc a n =
     ∙ ap (λ xs. xs ++ (a + n) ∷ []) (map-id (range_with_len a n))
 
 -- a range splits after its first m numbers
-pub range_front : (a m n : ℕ)
-    → range_with_len a (m + n) ≡ range_with_len a m ++ range_with_len (a + m) n
+pub range_front : (a m n : ℕ) → range_with_len a (m + n) ≡ range_with_len a m ++ range_with_len (a + m) n
 range_front a zero n = rw (zero-add n) (rw (add-zero a) refl)
 range_front a (suc m) n = grind (arith, suc-add m n, range_front (a + 1) m n)
 

@@ -17,8 +17,7 @@ unfolding first_value
 first_more t terms a values y = grind arith
 
 -- what is read off with one place more in front
-read_more : (t : Term) (terms : List Term) (a : Value) (values : List Value) (y : ℕ) (b : Bool)
-    → is_variable y t ≡ b
+read_more : (t : Term) (terms : List Term) (a : Value) (values : List Value) (y : ℕ) (b : Bool) → is_variable y t ≡ b
     → read_off (t ∷ terms) (a ∷ values) y ≡ cond b a (read_off terms values y)
 read_more t terms a values y b is = grind (arith, pos, first_more)
 
@@ -27,8 +26,7 @@ later : (x y : ℕ) (terms : List Term) → (x ≡ y → ⊥)
 later x y terms ne m = grind arith
 
 -- what is read off the event that an atom stands for is its variables' own values
-pub reads_own : (v : Valuation) (terms : List Term) (y : ℕ)
-    → among y (flat_map variable_in terms) ≡ true
+pub reads_own : (v : Valuation) (terms : List Term) (y : ℕ) → among y (flat_map variable_in terms) ≡ true
     → read_off terms (map (term_value v) terms) y ≡ v y
 reads_own v [] y m = cc
 reads_own v (Var x ∷ terms) y m =
@@ -40,8 +38,7 @@ reads_own v (Var x ∷ terms) y m =
     ]
 reads_own v (Const c ∷ terms) y m = grind (arith, read_more, reads_own v terms y m)
 
-same_terms : (v w : Valuation) (terms : List Term)
-    → ((y : ℕ) → among y (flat_map variable_in terms) ≡ true → v y ≡ w y)
+same_terms : (v w : Valuation) (terms : List Term) → ((y : ℕ) → among y (flat_map variable_in terms) ≡ true → v y ≡ w y)
     → map (term_value v) terms ≡ map (term_value w) terms
 same_terms v w [] same = refl
 same_terms v w (Var x ∷ terms) same =
@@ -53,6 +50,5 @@ same_terms v w (Const c ∷ terms) same = ap (λ rest. c ∷ rest) (same_terms v
 
 -- an atom stands for one event, where its variables have the same values
 pub same_event_of : (v w : Valuation) (atom : OneAtom)
-    → ((y : ℕ) → among y (flat_map variable_in atom.args) ≡ true → v y ≡ w y)
-    → event_of v atom ≡ event_of w atom
+    → ((y : ℕ) → among y (flat_map variable_in atom.args) ≡ true → v y ≡ w y) → event_of v atom ≡ event_of w atom
 same_event_of v w atom same = cc (same_terms v w atom.args same)

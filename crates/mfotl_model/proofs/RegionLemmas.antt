@@ -53,8 +53,7 @@ both_pass free a b first second vs ws v w same h =
     and_from (a ws w) (b ws w) (first vs ws v w same parts.0) (second vs ws v w same parts.1)
 
 module _ (free : List ℕ) (near : Region) (passes : Passes free near) (atom : OneAtom) (v : Valuation) where
-  own : (y : ℕ) → among y (flat_map variable_in atom.args) ≡ true
-      → reads atom (event_of v atom) y ≡ v y
+  own : (y : ℕ) → among y (flat_map variable_in atom.args) ≡ true → reads atom (event_of v atom) y ≡ v y
   own y m = reads_own v atom.args y m
 
   stands : is_match atom (event_of v atom) ≡ true

@@ -45,8 +45,7 @@ pub any_none : {X : Type 0} (xs : List X) → list_any (λ x. false) xs ≡ fals
 any_none [] = refl
 any_none (x ∷ xs) = any_none xs
 
-any_and : {X : Type 0} (b : Bool) (p : X → Bool) (xs : List X)
-    → list_any (λ x. b && p x) xs ≡ (b && list_any p xs)
+any_and : {X : Type 0} (b : Bool) (p : X → Bool) (xs : List X) → list_any (λ x. b && p x) xs ≡ (b && list_any p xs)
 any_and true p xs = refl
 any_and false p xs = any_none xs
 

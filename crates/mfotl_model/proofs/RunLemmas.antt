@@ -17,10 +17,8 @@ use Rattle.mfotl_model.specs.declared.event.Event.{Event}
 
 -- the elements between two places are those that pass a test, where those and no others pass it
 pub between : {X : Type 0} (p : X → Bool) (xs : List X) (low high : ℕ) → low ≤ high → high ≤ length xs
-    → AllWithin (λ x. p x ≡ false) xs 0 low
-    → AllWithin (λ x. p x ≡ true) xs low high
-    → AllWithin (λ x. p x ≡ false) xs high (length xs)
-    → take (high - low) (drop low xs) ≡ filter p xs
+    → AllWithin (λ x. p x ≡ false) xs 0 low → AllWithin (λ x. p x ≡ true) xs low high
+    → AllWithin (λ x. p x ≡ false) xs high (length xs) → take (high - low) (drop low xs) ≡ filter p xs
 between p [] zero zero l n below mid above = refl
 between p [] (suc low) zero l n below mid above = absurd (omega arith)
 between p [] low (suc high) l n below mid above = absurd (omega arith)
@@ -60,8 +58,7 @@ sorted_by_pred events sorted =
 
 -- events stand by predicate where a test found none that is below the one before it
 pub tested_by_pred : (events : List Event) (answer : Bool)
-    → IsAllAdjacentAnswer (λ a b t. t ≡ nat_le a.pred b.pred) events answer
-    → IsTrue answer → StandByPred events
+    → IsAllAdjacentAnswer (λ a b t. t ≡ nat_le a.pred b.pred) events answer → IsTrue answer → StandByPred events
 tested_by_pred events true rises is =
     IsNonDecreasingBy-from_all_adjacent (λ e. e.pred) events (λ k d low.
     leb-true (slice_index_or events k d).pred (slice_index_or events (k + 1) d).pred (sym (rises k d low)))
@@ -87,8 +84,7 @@ all_up_to pred events last stand is low = (
 -- events stay by predicate where one is put between those that aren't above it and those that are
 pub still_by_pred : (events : List Event) (place : ℕ) (event : Event) → StandByPred events → place ≤ length events
     → IsPartitionPoint (λ (e : Event). nat_le e.pred event.pred ≡ true) (λ e. nat_le e.pred event.pred ≡ false)
-    events place
-    → StandByPred (insert events place event)
+    events place → StandByPred (insert events place event)
 still_by_pred events place event stand within parted =
     IsNonDecreasingBy-insert (λ e. e.pred) events place event stand within
     (λ k d b. leb-true (slice_index_or events k d).pred event.pred (parted.0 k d (omega arith) b))

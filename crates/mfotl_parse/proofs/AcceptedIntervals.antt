@@ -71,8 +71,7 @@ module _ (sig : List PredOf) (stack : List Frame) (nodes : ℕ) (names : SymbolT
   up_to end i ts fits h = grind arith
 
   bracket_one : (high : WrittenBound) (at low top : ℕ) (t : Lexeme) (ts : List Lexeme) (c : Class) → FitsBound high
-      → class_of t ≡ c
-      → if_moved (bracket (context_at stack nodes names) at low top c) (accepts sig ts) ≡ true
+      → class_of t ≡ c → if_moved (bracket (context_at stack nodes names) at low top c) (accepts sig ts) ≡ true
       → UpTo sig (map hold stack) (bound_spelling high ++ t ∷ ts)
   bracket_one high at low top t ts classes.CloseBracket fits class h =
       rw (← append_assoc (bound_spelling high) (t ∷ []) ts) (up_to (Included high t) _ ts (fits, class) h)
@@ -98,11 +97,9 @@ module _ (sig : List PredOf) (stack : List Frame) (nodes : ℕ) (names : SymbolT
       bracket_one (Count token n) at low n t ts c number class h
 
   endless_one : (star : Lexeme) (low : ℕ) (t : Lexeme) (ts : List Lexeme) (c : Class) → class_of star ≡ classes.Star
-      → class_of t ≡ c
-      → if_moved (endless_move (context_at stack nodes names) low c) (accepts sig ts) ≡ true
+      → class_of t ≡ c → if_moved (endless_move (context_at stack nodes names) low c) (accepts sig ts) ≡ true
       → UpTo sig (map hold stack) (star ∷ t ∷ ts)
-  endless_one star low t ts classes.CloseParen stars class h =
-      up_to (Unbounded star t) _ ts (stars, class) h
+  endless_one star low t ts classes.CloseParen stars class h = up_to (Unbounded star t) _ ts (stars, class) h
   endless_one star low t ts _ stars class h = refused h _
 
   high_one : (at low : ℕ) (t : Lexeme) (ts : List Lexeme) (c : Class) → class_of t ≡ c
@@ -117,8 +114,7 @@ module _ (sig : List PredOf) (stack : List Frame) (nodes : ℕ) (names : SymbolT
 
   -- a lower bound, its comma and the rest
   comma_back : (low : WrittenBound) (at from : ℕ) (t : Lexeme) (ts : List Lexeme) → FitsBound low → class_of t
-      ≡ classes.Comma
-      → accepts sig ts (at_place (ExpectHigh at from) stack nodes names) ≡ true
+      ≡ classes.Comma → accepts sig ts (at_place (ExpectHigh at from) stack nodes names) ≡ true
       → FromLow sig (map hold stack) (bound_spelling low ++ t ∷ ts)
   comma_back low at from t ts fits class h =
       let u = by_token sig (UpTo sig (map hold stack)) _ refl (high_one at from) ts h in
@@ -137,8 +133,7 @@ module _ (sig : List PredOf) (stack : List Frame) (nodes : ℕ) (names : SymbolT
       }
 
   low_done_one : (low : WrittenBound) (at from : ℕ) (t : Lexeme) (ts : List Lexeme) (c : Class) → FitsBound low
-      → class_of t ≡ c
-      → if_moved (low_done_move (context_at stack nodes names) at from c) (accepts sig ts) ≡ true
+      → class_of t ≡ c → if_moved (low_done_move (context_at stack nodes names) at from c) (accepts sig ts) ≡ true
       → FromLow sig (map hold stack) (bound_spelling low ++ t ∷ ts)
   low_done_one low at from t ts c fits class h = grind (arith, comma_back, refused)
 
@@ -191,8 +186,7 @@ module _ (sig : List PredOf) (stack : List Frame) (nodes : ℕ) (names : SymbolT
 
   from_paren : (t : Lexeme) (ts : List Lexeme) → class_of t ≡ classes.OpenParen → FromLow sig (map hold stack) ts
       → Timing sig (map hold stack) (t ∷ ts)
-  from_paren t ts class f =
-      from_low (Above t f.low f.comma f.end) t ts f (class, f.fits, f.commas, f.fits_end) refl
+  from_paren t ts class f = from_low (Above t f.low f.comma f.end) t ts f (class, f.fits, f.commas, f.fits_end) refl
 
   maybe_units : (t number unit : Lexeme) (at number_at n : ℕ) (ts : List Lexeme) (seconds : Option ℕ) → class_of t
       ≡ classes.OpenParen → class_of number ≡ classes.Integer (pos n) → class_of unit ≡ classes.Name
@@ -336,8 +330,7 @@ module _ (sig : List PredOf) (q : Quantifier) where
 
   binder_marked_one : (n : ℕ) (mark : Lexeme) (stack : List Frame) (nodes : ℕ) (names : SymbolTable) (t : Lexeme)
       (ts : List Lexeme) (c : Class) → LaterVariables n → length ts ≤ n → class_of mark ≡ classes.Question
-      → class_of t ≡ c
-      → if_moved (binder_marked_move (context_at stack nodes names) q t c) (accepts sig ts) ≡ true
+      → class_of t ≡ c → if_moved (binder_marked_move (context_at stack nodes names) q t c) (accepts sig ts) ≡ true
       → Quantifying sig (map hold stack) (mark ∷ t ∷ ts)
   binder_marked_one n mark stack nodes names t ts classes.Name later few marks class h =
       bound_back n (Asked mark t) _ _ stack nodes _ ts later (omega (arith, few)) (marks, class) h

@@ -151,8 +151,7 @@ module _ (sig : List PredOf) where
       × (length rest ≤ length ts) × Wanting sig (map hold stack) rest
   timing_of timed stack nodes names ts h = grind (arith, fresh_back)
 
-  no_zero : (o : Operator) (hs : List Held) → (wanted hs ≤ precedence o) ⊎ (precedence o ≡ 0)
-      → wanted hs ≤ precedence o
+  no_zero : (o : Operator) (hs : List Held) → (wanted hs ≤ precedence o) ⊎ (precedence o ≡ 0) → wanted hs ≤ precedence o
   no_zero o hs h = grind arith
 
   at_operator : (n : ℕ) (hs : List Held) (tree : Tree) (o : Operator) (t : Lexeme) (ts : List Lexeme) (p : Context)

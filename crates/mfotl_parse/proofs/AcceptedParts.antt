@@ -126,8 +126,7 @@ module _ (sig : List PredOf) (stack : List Frame) where
   compared_one left side t ts nodes names c fits class h = grind (arith, sign_back, refused)
 
   pub compared_back : (left : WrittenTerm) (side : Side) (ts : List Lexeme) (nodes : ℕ) (names : SymbolTable)
-      → FitsTerm left
-      → accepts sig ts (at_place (ExpectSign side) stack nodes names) ≡ true
+      → FitsTerm left → accepts sig ts (at_place (ExpectSign side) stack nodes names) ≡ true
       → Primary sig stack (term_spelling left ++ ts)
   compared_back left side ts nodes names fits h =
       by_token sig (λ us. Primary sig stack (term_spelling left ++ us)) _ refl

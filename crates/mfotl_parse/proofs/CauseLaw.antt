@@ -188,8 +188,7 @@ module _ (sig : List PredOf) (ts : List Lexeme) (s : Partial) (ran : run (step s
       ∙ sorted_clash _ (all_names sig c.tree).clash (uneven_pair (all_names sig c.tree)) _ at
       (clashes_agree sig c.tree ∙ c.clash)
 
-  ninth : (tail : Tail LexFault) (at : ℕ) → HasNinthVariable sig ts tail at
-      → at_tail tail s ≡ Err (TooManyVariables at)
+  ninth : (tail : Tail LexFault) (at : ℕ) → HasNinthVariable sig ts tail at → at_tail tail s ≡ Err (TooManyVariables at)
   ninth tail at c =
       ap (λ x. at_tail x s) c.whole.ended
       ∙ finished_by sig ts s ran c.tree c.whole.fits c.whole.spelled c.whole.end

@@ -20,8 +20,7 @@ use Rattle.mfotl_parse.proofs.{VariableOrder.tree_order}
 
 -- the sorts of the columns from a number on
 columns_from : (given : ℕ → Option Sort) (from : ℕ) (free : List (List ℕ × ℕ)) (sorts : List (Option Sort))
-    → length sorts ≡ length free
-    → ((k : ℕ) → k < length free → given (from + k) ≡ given_at (slice_get sorts k))
+    → length sorts ≡ length free → ((k : ℕ) → k < length free → given (from + k) ≡ given_at (slice_get sorts k))
     → map (λ v. v.sort) (vars_of free sorts) ≡ map (λ x. sort_or_integer (given x)) (range_with_len from (length free))
 unfolding vars_of
 columns_from given from [] sorts sized each = refl

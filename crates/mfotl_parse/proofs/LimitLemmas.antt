@@ -5,8 +5,7 @@ use Rattle.mfotl_sig.specs.Preds.{PredOf}
 use Rattle.mfotl_parse.specs.{Limits.max_free, Meanings.IsValue, Reading.PolicyOf, SymbolTable.vars_of}
 use Rattle.mfotl_parse.proofs.FreeNames.{few_met}
 
-pub length_vars_of : (free : List (List ℕ × ℕ)) (given : List (Option Sort)) → length (vars_of free given)
-    ≡ length free
+pub length_vars_of : (free : List (List ℕ × ℕ)) (given : List (Option Sort)) → length (vars_of free given) ≡ length free
 unfolding vars_of
 length_vars_of [] given = refl
 length_vars_of (k ∷ free) [] = ap suc (length_vars_of free [])

@@ -170,8 +170,7 @@ module _ (before : List SortMention) (count : ℕ) (n : SymbolTable) (f : Follow
   -- nothing changes
   kept : (m : SortMention) → PairsOf n.free (m ∷ []) [] → (n.clash ≡ None → clashes before m ≡ false)
       → (n.clash ≡ None → (c : Binding) (t : Sort) → (differ (given_to c n) (Some t) || (asks_other c t m || false))
-      ≡ differ (given_to c n) (Some t))
-      → Follows (before ++ m ∷ []) count n
+      ≡ differ (given_to c n) (Some t)) → Follows (before ++ m ∷ []) count n
   kept m none test same = grind (arith, same_clash n.clash, clash_is m false test, list_any-append, pairs_same m none)
 
   -- it clashes

@@ -57,8 +57,7 @@ module _ (scope : Scope) (around : Around) (binds : Binds scope around) where
   variable_placed v n before count within f = search (resolved_place)
 
   term_follows : (t : WrittenTerm) (sort : Sort) (before : List SortMention) (count : ℕ) (n : SymbolTable)
-      → Inside scope n → Follows before count n
-      → Follows (before ++ term_mention t sort around ∷ []) count
+      → Inside scope n → Follows before count n → Follows (before ++ term_mention t sort around ∷ []) count
       (constrain_term (operand_of t scope n) (place_of t) sort (term_names t scope n))
   term_follows (Named v) sort before count n within f = search (occurs, term_met, variable_refers, variable_placed)
   term_follows (Number token z) sort before count n within f = stands before count n f sorts.Int token.at sort
@@ -90,8 +89,7 @@ module _ (scope : Scope) (around : Around) (binds : Binds scope around) where
   -- ---- comparisons
 
   sides_follow : (left right : WrittenTerm) (at : ℕ) (before : List SortMention) (count : ℕ) (n : SymbolTable)
-      → Inside scope n → Follows before count n
-      → Follows (before ++ comparison_mention left at right around ∷ []) count
+      → Inside scope n → Follows before count n → Follows (before ++ comparison_mention left at right around ∷ []) count
       (with_comparison (operand_of left scope n) (place_of left) at (operand_of right scope (term_names left scope n))
       (place_of right) (term_names right scope (term_names left scope n)))
   sides_follow (Named v) (Named w) at before count n within f =
@@ -183,5 +181,4 @@ none_inside name k e = absurd cc
 
 pub all_follow : (sig : List PredOf) (tree : Tree)
     → Follows (mentions sig tree) (0 + quantified_count tree) (all_names sig tree)
-all_follow sig tree =
-    tree_follows sig tree no_scope [] [] 0 no_names (λ name. refl) none_inside none_follow
+all_follow sig tree = tree_follows sig tree no_scope [] [] 0 no_names (λ name. refl) none_inside none_follow

@@ -65,8 +65,7 @@ one_name a b free k e f =
 
 -- ---- sorts at places
 
-pub none_more : (xs : List (Option Sort)) (k : ℕ) → given_at (slice_get (xs ++ None ∷ []) k)
-    ≡ given_at (slice_get xs k)
+pub none_more : (xs : List (Option Sort)) (k : ℕ) → given_at (slice_get (xs ++ None ∷ []) k) ≡ given_at (slice_get xs k)
 none_more [] zero = refl
 none_more [] (suc k) = refl
 none_more (x ∷ xs) zero = refl

@@ -145,10 +145,8 @@ module _ (sig : List PredOf) where
   read_silent ts more p q e = grind (arith, read_moves, trace_both, trace, shows_silent)
 
   silent_one : (t : Lexeme) (ts more : List Lexeme) (later : Showing) (p : Partial) (o : Option Transition)
-      → transition sig p t ≡ o
-      → ((n : Partial) → trace sig (ts ++ more) n ≡ silent ts ++ later → (read : Partial)
-      × (run (step sig) ts n ≡ Ok read))
-      → traced t.at o (trace sig (ts ++ more)) ≡ [] ∷ (silent ts ++ later)
+      → transition sig p t ≡ o → ((n : Partial) → trace sig (ts ++ more) n ≡ silent ts ++ later → (read : Partial)
+      × (run (step sig) ts n ≡ Ok read)) → traced t.at o (trace sig (ts ++ more)) ≡ [] ∷ (silent ts ++ later)
       → (read : Partial) × (run (step sig) (t ∷ ts) p ≡ Ok read)
   silent_one t ts more later p None is further e = absurd cc
   silent_one t ts more later p (Some m) is further e =

@@ -99,8 +99,7 @@ module _ (sig : List PredOf) (last : SymbolTable) (clash : last.clash ≡ None) 
       ∙ g.sorts (variables.Bound (length n.bound_sorts)) sort (given_last n.bound_sorts sort)
 
   arguments_sorted : (xs : WrittenArguments) (places : List Sort) (scope : Scope) (n : SymbolTable) → Inside scope n
-      → Sized n
-      → Grows (arguments_names xs places scope n) last → length places ≡ argument_count xs
+      → Sized n → Grows (arguments_names xs places scope n) last → length places ≡ argument_count xs
       → HaveSorts (given_by last) (arguments_terms xs places scope n) places
   arguments_sorted (LastArgument a) [] scope n inside sized g count = absurd (omega (arith, count))
   arguments_sorted (LastArgument a) (sort ∷ []) scope n inside sized g count = search (argument_sorted)
@@ -188,8 +187,7 @@ module _ (sig : List PredOf) (last : SymbolTable) (clash : last.clash ≡ None) 
   truth_sorted which = grind arith
 
   pub tree_sorted : (tree : Tree) (scope : Scope) (n : SymbolTable) → Inside scope n → Sized n → PartsKeep sig tree
-      → Grows (names_behind sig tree scope n) last
-      → FitsSorts sig (given_by last) (value sig tree scope n)
+      → Grows (names_behind sig tree scope n) last → FitsSorts sig (given_by last) (value sig tree scope n)
   tree_sorted (Truth token which) scope n inside sized keeps g = truth_sorted which
   tree_sorted (BareAtom name opening closing) scope n inside sized keeps g = grind (arith, bare_sorted)
   tree_sorted (AtomOf name opening arguments closing) scope n inside sized keeps g = grind (arith, atom_sorted)

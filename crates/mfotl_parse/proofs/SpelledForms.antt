@@ -114,8 +114,7 @@ module _ (sig : List PredOf) where
       (nodes more : ℕ) (names others : SymbolTable) (before behind all : Type 0)
       → class_of t ≡ classes.Operator o → precedence o < left → edge ≤ right_precedence o → IsLoose (precedence o) base
       → (all → before) → (all → AreKept (deepening (deepens o) t.at base (within_nodes t.at nodes ∷ [])))
-      → (all → behind)
-      → (depth p.context.stack ≤ max_levels
+      → (all → behind) → (depth p.context.stack ≤ max_levels
       → AreKept (deepening (deepens o) t.at base (within_nodes t.at nodes ∷ []))
       → depth (Left o any_distance v ∷ base) ≤ max_levels)
       → (AreKept (deepening (deepens o) t.at base (within_nodes t.at nodes ∷ [])) → before → behind → all)
@@ -213,7 +212,6 @@ module _ (sig : List PredOf) (stack : List Frame) (nodes : ℕ) (names : SymbolT
 
   -- an operand where an interval may stand
   pub takes_fresh : (ts : List Lexeme) (base : List Frame) (edge : ℕ) (v : Form) (more : ℕ) (others : SymbolTable)
-      (keeps : Type 0)
-      → Takes sig (at_place ExpectOperand stack nodes names) ts base edge v more others keeps
+      (keeps : Type 0) → Takes sig (at_place ExpectOperand stack nodes names) ts base edge v more others keeps
       → Takes sig (at_place AfterTemporal stack nodes names) ts base edge v more others keeps
   takes_fresh ts base edge v more others keeps t = grind (arith, fresh_too)

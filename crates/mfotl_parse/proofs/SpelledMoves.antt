@@ -50,8 +50,7 @@ moves_one sig t p q rules e =
     moves_first sig t [] p q q rules [] e (moves_nothing sig q) ∙ ap (λ x. goes x q) (append-nil rules)
 
 moves_both_at : (sig : List PredOf) (b : List Lexeme) (m : Option Transition) (f : Partial → Option Transition)
-    (g : Partial → Option Transition)
-    → ((p : Partial) → g p ≡ then_moves (f p) (moves sig b)) → then_moves m g
+    (g : Partial → Option Transition) → ((p : Partial) → g p ≡ then_moves (f p) (moves sig b)) → then_moves m g
     ≡ then_moves (then_moves m f) (moves sig b)
 moves_both_at sig b None f g each = refl
 moves_both_at sig b (Some m) f g each = ap (behind_move m) (each m.next) ∙ associated m (f m.next)

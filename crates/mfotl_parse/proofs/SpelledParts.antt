@@ -208,8 +208,7 @@ module _ (sig : List PredOf) where
 
   -- the `)` of an atom without arguments
   bare_leads : (found : Option PredOf) (closing : Lexeme) (stack : List Frame) (nodes : ℕ) (names : SymbolTable)
-      → class_of closing ≡ classes.CloseParen
-      → Leads sig (closing ∷ [])
+      → class_of closing ≡ classes.CloseParen → Leads sig (closing ∷ [])
       (at_place (FirstArgument (call_of found (length names.bound_sorts))) stack nodes names)
       (at_place (AfterOperand (atom found [] (length names.bound_sorts) (length names.bound_sorts))) stack nodes names)
       (none_due closing.at (call_of found 0).rest ∷ []) (closing_shown closing.at (places_of found) ∷ [])
@@ -220,8 +219,7 @@ module _ (sig : List PredOf) where
   closes_leads : (found : Option PredOf) (xs : WrittenArguments) (closing : Lexeme) (stack : List Frame) (nodes : ℕ)
       (names : SymbolTable) → FitsArguments xs → class_of closing ≡ classes.CloseParen
       → Leads sig (arguments_spelling xs ++ closing ∷ [])
-      (at_place (FirstArgument (call_of found (length names.bound_sorts))) stack nodes names)
-      (at_place (AfterOperand
+      (at_place (FirstArgument (call_of found (length names.bound_sorts))) stack nodes names) (at_place (AfterOperand
       (atom found (arguments_terms xs (call_of found 0).rest (scope_of stack) names) (length names.bound_sorts)
       (length (arguments_names xs (call_of found 0).rest (scope_of stack) names).bound_sorts)))
       stack (arguments_nodes xs nodes) (arguments_names xs (call_of found 0).rest (scope_of stack) names))
@@ -250,8 +248,7 @@ module _ (sig : List PredOf) where
   -- a whole atom, without arguments and with some
   pub bare_atom_leads : (name opening closing : Lexeme) (stack : List Frame) (nodes : ℕ) (names : SymbolTable)
       → IsAtomName name → class_of opening ≡ classes.OpenParen → class_of closing ≡ classes.CloseParen
-      → Leads sig (name ∷ opening ∷ closing ∷ []) (at_place ExpectOperand stack nodes names)
-      (at_place (AfterOperand
+      → Leads sig (name ∷ opening ∷ closing ∷ []) (at_place ExpectOperand stack nodes names) (at_place (AfterOperand
       (atom (named name.text sig) [] (length names.bound_sorts) (length names.bound_sorts))) stack (suc nodes) names)
       (known name.at (named name.text sig) ∷ within_nodes name.at nodes
       ∷ none_due closing.at (call_of (named name.text sig) 0).rest ∷ [])
@@ -334,13 +331,11 @@ module _ (sig : List PredOf) where
       (stack : List Frame) (nodes : ℕ) (names : SymbolTable) → FitsTerm left → class_of token ≡ classes.Sign sign
       → FitsTerm right
       → Leads sig (term_spelling left ++ token ∷ term_spelling right) (at_place ExpectOperand stack nodes names)
-      (at_place (AfterOperand
-      (comparison (operand_of left (scope_of stack) names) sign
+      (at_place (AfterOperand (comparison (operand_of left (scope_of stack) names) sign
       (operand_of right (scope_of stack) (term_names left (scope_of stack) names)))) stack (suc nodes)
       (with_comparison (operand_of left (scope_of stack) names) (place_of left) token.at
       (operand_of right (scope_of stack) (term_names left (scope_of stack) names)) (place_of right)
-      (term_names right (scope_of stack) (term_names left (scope_of stack) names))))
-      (within_nodes token.at nodes ∷ [])
+      (term_names right (scope_of stack) (term_names left (scope_of stack) names)))) (within_nodes token.at nodes ∷ [])
       (silent (term_spelling left) ++ node_shown token.at nodes ∷ silent (term_spelling right))
   comparison_leads left token sign right stack nodes names fits class fits_too =
       rw (
@@ -401,8 +396,7 @@ module _ (sig : List PredOf) where
   inner_leads : (p : Partial) (at from : ℕ) (low : WrittenBound) (comma : Lexeme) (end : WrittenEnd)
       (stack : List Frame) (nodes : ℕ) (names : SymbolTable) (rules : List Rule) (shown : Showing)
       → Leads sig (bound_spelling low ++ comma ∷ []) p (at_place (ExpectHigh at from) stack nodes names) rules shown
-      → FitsEnd end
-      → Leads sig (bound_spelling low ++ comma ∷ end_spelling end) p
+      → FitsEnd end → Leads sig (bound_spelling low ++ comma ∷ end_spelling end) p
       (at_place ExpectOperand (with_interval (interval_from from end) stack) nodes names)
       (rules ++ end_rules at from end) (shown ++ end_shown at from end)
   inner_leads p at from low comma end stack nodes names rules shown l fits =
@@ -467,8 +461,7 @@ module _ (sig : List PredOf) where
   -- an operand behind an operator and its interval
   pub takes_interval : (timed : Bool) (interval : WrittenInterval) (frame : Interval → Frame)
       (base lower : List Frame) (ts : List Lexeme) (nodes edge more : ℕ) (names others : SymbolTable) (v : Form)
-      (keeps : Type 0)
-      → FitsOperator timed interval → ((i : Interval) → framed i (frame any_distance) ≡ frame i)
+      (keeps : Type 0) → FitsOperator timed interval → ((i : Interval) → framed i (frame any_distance) ≡ frame i)
       → Takes sig (at_place ExpectOperand
       (frame (interval_of interval) ∷ base) nodes names) ts lower edge v more others keeps
       → Takes sig (at_place (now_behind timed) (frame any_distance ∷ base) nodes names)

@@ -86,8 +86,7 @@ module _ (sig : List PredOf) where
       within_depth (place_of_variable v) stack ∷ within_nodes (place_of_variable v) nodes ∷ []
 
   pub variable_leads : (q : Quantifier) (v : WrittenVariable) (stack : List Frame) (nodes : ℕ) (names : SymbolTable)
-      → FitsVariable v
-      → Leads sig (variable_spelling v) (at_place (ExpectVariable q) stack nodes names)
+      → FitsVariable v → Leads sig (variable_spelling v) (at_place (ExpectVariable q) stack nodes names)
       (at_place (AfterVariable q) (Binding q (length names.bound_sorts) (name_of v) ∷ stack) (suc nodes)
       (bound_more None names)) (variable_rules stack v nodes) (variable_shown v (depth stack) nodes)
   unfolding moves trace transition
@@ -95,8 +94,7 @@ module _ (sig : List PredOf) where
 
   -- a variable and the mark behind it
   bound_read : (q : Quantifier) (v : WrittenVariable) (mark : Lexeme) (now : Stage) (c : Class) (stack : List Frame)
-      (nodes : ℕ) (names : SymbolTable) → FitsVariable v → class_of mark ≡ c
-      → bound_move
+      (nodes : ℕ) (names : SymbolTable) → FitsVariable v → class_of mark ≡ c → bound_move
       (context_at (Binding q (length names.bound_sorts) (name_of v) ∷ stack) (suc nodes) (bound_more None names)) q c
       ≡ goes [] (at_place now (Binding q (length names.bound_sorts) (name_of v) ∷ stack) (suc nodes)
       (bound_more None names))

@@ -49,12 +49,9 @@ module _ (sig : List PredOf) (stack : List Frame) (nodes : ℕ) (names : SymbolT
   by_sign at number_at z t ts rules q c e = grind arith
 
   behind_number : (at number_at : ℕ) (z : ℤ) (ts : List Lexeme) (rules : List Rule) (q : Partial) → IsHave q.now
-      → moves sig ts
-      (at_place (ExpectSign (number_side number_at z)) (Parens ∷ stack) nodes names) ≡ goes rules q
-      → trace sig ts (at_place (AfterParenNumber at number_at z) stack nodes names)
-      ≡ level_first at (depth stack)
-      (trace sig ts
-      (at_place (ExpectSign (number_side number_at z)) (Parens ∷ stack) nodes names))
+      → moves sig ts (at_place (ExpectSign (number_side number_at z)) (Parens ∷ stack) nodes names) ≡ goes rules q
+      → trace sig ts (at_place (AfterParenNumber at number_at z) stack nodes names) ≡ level_first at (depth stack)
+      (trace sig ts (at_place (ExpectSign (number_side number_at z)) (Parens ∷ stack) nodes names))
   unfolding moves trace transition
   behind_number at number_at z [] rules q have e = absurd (not_have (λ n. n) e have)
   behind_number at number_at z (t ∷ ts) rules q have e = by_sign at number_at z t ts rules q (class_of t) e
@@ -79,8 +76,7 @@ module _ (sig : List PredOf) (stack : List Frame) (nodes : ℕ) (names : SymbolT
 
   maybe_trace : (at : ℕ) (ts : List Lexeme) (rules : List Rule) (q : Partial) → IsHave q.now
       → moves sig ts (at_place ExpectOperand (Parens ∷ stack) nodes names) ≡ goes rules q
-      → trace sig ts (at_place (AfterParen at) stack nodes names)
-      ≡ postponed at (depth stack) (begins_with_number ts)
+      → trace sig ts (at_place (AfterParen at) stack nodes names) ≡ postponed at (depth stack) (begins_with_number ts)
       (trace sig ts (at_place ExpectOperand (Parens ∷ stack) nodes names))
   unfolding moves trace transition
   maybe_trace at ts rules q have e = grind (arith, not_have, by_class)
@@ -168,8 +164,7 @@ module _ (sig : List PredOf) where
   comparison_any timed left ts stack nodes names fits = grind (arith, trace_any)
 
   atom_any : (timed : Bool) (name : Lexeme) (ts : List Lexeme) (stack : List Frame) (nodes : ℕ) (names : SymbolTable)
-      → IsAtomName name
-      → trace sig (name ∷ ts) (at_place (now_behind timed) stack nodes names)
+      → IsAtomName name → trace sig (name ∷ ts) (at_place (now_behind timed) stack nodes names)
       ≡ trace sig (name ∷ ts) (at_place ExpectOperand stack nodes names)
   atom_any timed name ts stack nodes names h = grind (arith, trace_any)
 

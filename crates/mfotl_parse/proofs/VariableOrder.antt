@@ -191,9 +191,7 @@ unfolding fv
 atom_fv found args outer inner = simp (blanks_order)
 
 sides_order : (left right : WrittenTerm) (scope : Scope) (n : SymbolTable)
-    → length (term_names right scope (term_names left scope n)).free ≤ max_free
-    → joined (seen n)
-    (free_in (variables_in
+    → length (term_names right scope (term_names left scope n)).free ≤ max_free → joined (seen n) (free_in (variables_in
     (term_of (operand_of left scope n) ∷ term_of (operand_of right scope (term_names left scope n)) ∷ [])))
     ≡ seen (term_names right scope (term_names left scope n))
 sides_order left right scope n few =

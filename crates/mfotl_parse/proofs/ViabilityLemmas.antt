@@ -106,8 +106,7 @@ having c stack f = record { context = with_stack c stack; now = AfterOperand f }
 
 -- neither does the end
 closed_alike : (sig : List PredOf) (n : ℕ) (c : Context) (above below : List Frame) (f g : Form) → reduce 0 f above
-    ≡ reduce 0 g below
-    → accepts sig (parens n) (having c above f) ≡ accepts sig (parens n) (having c below g)
+    ≡ reduce 0 g below → accepts sig (parens n) (having c above f) ≡ accepts sig (parens n) (having c below g)
 unfolding accepts transition
 closed_alike sig n c above below f g same = grind arith
 

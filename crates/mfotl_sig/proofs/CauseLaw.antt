@@ -25,8 +25,7 @@ use Rattle.mfotl_sig.proofs.Verdicts.{IsRule, judged}
 
 -- behind the Word with which an argument begins
 word_read : (done : List PredOf) (name : List ℕ) (sorts : List Sort) (ls : List Listed) (w : Lexeme)
-    (us : List Lexeme) (p : Partial)
-    → w.kind ≡ Word → run step (w ∷ us) (within done name sorts (stage_in ls)) ≡ Ok p
+    (us : List Lexeme) (p : Partial) → w.kind ≡ Word → run step (w ∷ us) (within done name sorts (stage_in ls)) ≡ Ok p
     → run step us (within done name sorts (word_stage w)) ≡ Ok p
 unfolding run step
 word_read done name sorts ls w us p kind e = grind (arith, cond_ok, cond_bind)
@@ -120,8 +119,7 @@ module _ (ts : List Lexeme) (p : Partial) (ran : run step ts nothing_read ≡ Ok
   no_draft d is accepted = grind (arith, spelled_read ts accepted.0 p accepted.1 ran)
 
   end_shown : (end : ℕ) (fault : SigFault) (draft : Option DraftOf) → p.draft ≡ draft
-      → at_end end p.done draft ≡ Err fault
-      → IsLast ts (End end) fault
+      → at_end end p.done draft ≡ Err fault → IsLast ts (End end) fault
   end_shown end fault draft is e = grind (arith, no_draft, stands)
 
   last_shown : (tail : Tail LexFault) (fault : SigFault) → at_tail tail p ≡ Err fault → IsLast ts tail fault

@@ -71,8 +71,7 @@ pub record IsLent (lent : Option (Bor Pred)) (name : List ℕ) (preds : List Pre
   pub member : IfSome lent (λ p. Contains preds (pred_of p.now))
 
 lent_by : (lent : Option (Bor Pred)) (name : List ℕ) (preds : List PredOf) → Lends lent name preds
-    → Finds name preds ⊎ Lacks name preds
-    → IsLent lent name preds
+    → Finds name preds ⊎ Lacks name preds → IsLent lent name preds
 lent_by lent name preds e h = grind arith
 
 pub is_lent : (lent : Option (Bor Pred)) (name : List ℕ) (preds : List PredOf) → Lends lent name preds

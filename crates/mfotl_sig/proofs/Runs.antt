@@ -97,8 +97,7 @@ module _ (done : List PredOf) (name : List ℕ) where
 
   -- arguments, and what is behind them
   more_run : (sorts : List Sort) (ls : List Listed) (last : Option Argument) (us : List Lexeme)
-      (then : List Sort → Result Partial SigFault)
-      → AllByRecursion FitsListed ls
+      (then : List Sort → Result Partial SigFault) → AllByRecursion FitsListed ls
       → ((more : List Sort) → run step us (within done name more AfterComma) ≡ (admit_all more [] last >>= then))
       → run step (spell_listed ls us) (within done name sorts AfterComma) ≡ (admit_all sorts ls last >>= then)
   more_run sorts [] last us then fits end = end sorts
@@ -111,8 +110,7 @@ module _ (done : List PredOf) (name : List ℕ) where
       → run step (spell_listed ls us) (within done name [] AfterOpen)
       ≡ (admit_all [] ls None >>= λ more. run step us (within done name more (stage_in ls)))
   listed_run [] us fits = refl
-  listed_run (l ∷ ls) us fits =
-      first_run l.argument _ fits.0.0 ∙ more_run [] (l ∷ ls) None us _ fits (λ more. refl)
+  listed_run (l ∷ ls) us fits = first_run l.argument _ fits.0.0 ∙ more_run [] (l ∷ ls) None us _ fits (λ more. refl)
 
   -- all arguments and the closing bracket
   closed_run : (ls : List Listed) (last : Option Argument) (t : Lexeme) (ts : List Lexeme)
@@ -129,8 +127,7 @@ module _ (done : List PredOf) (name : List ℕ) where
 
 -- a name and its bracket
 begun_run : (done : List PredOf) (name opening : Lexeme) (ts : List Lexeme) → name.kind ≡ Word
-    → opening.kind ≡ OpenParen
-    → run step (name ∷ opening ∷ ts) (between done)
+    → opening.kind ≡ OpenParen → run step (name ∷ opening ∷ ts) (between done)
     ≡ (admit_name done name >>= λ fresh. run step ts (within fresh name.text [] AfterOpen))
 unfolding run step
 begun_run done name opening ts named opens = rw (named, opens) (simp cond_bind)

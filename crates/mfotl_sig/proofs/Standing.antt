@@ -35,8 +35,7 @@ spelled_run ts ws s = ap (λ us. run step us nothing_read) s.spelled ∙ preds_r
 
 -- whole predicates
 pub spelled_read : (ts : List Lexeme) (ws : List WrittenPredicate) (p : Partial) → Spells ts ws
-    → run step ts nothing_read ≡ Ok p
-    → KeepsRules ws × (p ≡ between (numbered 0 ws))
+    → run step ts nothing_read ≡ Ok p → KeepsRules ws × (p ≡ between (numbered 0 ws))
 spelled_read ts ws p s ran =
     let done = bind_ok (judge [] ws) (λ done. run step [] (between done)) p (sym (spelled_run ts ws s) ∙ ran) in
     let kept = judged_ok IsRule (KeepsRules ws) (judge [] ws) (numbered 0 ws) done.0 (judged ws) done.1 in
@@ -66,8 +65,7 @@ StandsAt front AfterName =
 StandsAt front AfterOpen = (b : Begun front []) × (b.listed ≡ [])
 StandsAt front (AfterWord sort at) =
     (w : Lexeme) × Begun front (w ∷ []) × (w.kind ≡ Word) × (sort_of w.text ≡ sort) × (at ≡ w.at)
-StandsAt front AfterLabel =
-    (l : Lexeme) × (c : Lexeme) × Begun front (l ∷ c ∷ []) × (l.kind ≡ Word) × (c.kind ≡ Colon)
+StandsAt front AfterLabel = (l : Lexeme) × (c : Lexeme) × Begun front (l ∷ c ∷ []) × (l.kind ≡ Word) × (c.kind ≡ Colon)
 StandsAt front AfterSort = (a : Argument) × Begun front (spell_argument a []) × FitsArgument a
 StandsAt front AfterComma = Begun front []
 
@@ -95,8 +93,7 @@ opened front t kind (before, name, parts, accepted, named) = (
   refl,
 )
 
-worded : (front : List Lexeme) (t : Lexeme) → t.kind ≡ Word → Begun front []
-    → StandsAt (front ++ t ∷ []) (word_stage t)
+worded : (front : List Lexeme) (t : Lexeme) → t.kind ≡ Word → Begun front [] → StandsAt (front ++ t ∷ []) (word_stage t)
 worded front t kind b = (t, begun_more front [] t b, kind, refl, refl)
 
 labelled : (front : List Lexeme) (t : Lexeme) → t.kind ≡ Word → StandsAt front AfterLabel
@@ -162,8 +159,7 @@ module _ (front : List Lexeme) (t : Lexeme) (done : List PredOf) (name : List �
   with_sort_moves sorts (Some sort) at next place cause = search (moves)
 
   unknown_only : (sort : Option Sort) (at : ℕ) → (t.kind ≡ Comma) ⊎ (t.kind ≡ CloseParen)
-      → StandsAt front (AfterWord sort at)
-      → sort ≡ None → IsCause front t (UnknownSort at)
+      → StandsAt front (AfterWord sort at) → sort ≡ None → IsCause front t (UnknownSort at)
   unknown_only sort at ends w none = grind arith
 
   unknown_labelled : t.kind ≡ Word → StandsAt front AfterLabel → sort_of t.text ≡ None
@@ -231,8 +227,7 @@ module _ (front : List Lexeme) (t : Lexeme) (ws : List WrittenPredicate) (s : Sp
   begins_further k kind = grind (arith, name_moves, look_up)
 
 further_from : (front : List Lexeme) (p : Partial) (t : Lexeme) → run step front nothing_read ≡ Ok p
-    → (draft : Option DraftOf) → p.draft ≡ draft → Stands front draft
-    → Further front t (step_from p.done draft t)
+    → (draft : Option DraftOf) → p.draft ≡ draft → Stands front draft → Further front t (step_from p.done draft t)
 further_from front p t ran None is accepted =
     rw ((spelled_read front accepted.0 p accepted.1 ran).1) (begins_further front t accepted.0 accepted.1 t.kind refl)
 further_from front p t ran (Some d) is at =

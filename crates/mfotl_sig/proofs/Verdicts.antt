@@ -34,8 +34,7 @@ Judged rules r x = layer.Judged IsRule rules r x
 abbrev sorts_of : List (List ℕ) → List Sort
 sorts_of words = filter_map sort_of words
 
-one_more : (sort : Option Sort) (more : List Sort) → IsSome sort
-    → length (cons_option sort more) ≡ suc (length more)
+one_more : (sort : Option Sort) (more : List Sort) → IsSome sort → length (cons_option sort more) ≡ suc (length more)
 one_more sort more some = grind arith
 
 length-sorts_of : (words : List (List ℕ)) → AllKnown words → length (sorts_of words) ≡ length words

@@ -33,8 +33,7 @@ own_variable y x h = grind (arith, nat_tests)
 
 -- the value of an equation's variable is the constant
 equation : (base : List Value) (sign : Sign) (left right : Term) (v : Valuation) (y : ℕ)
-    → (is_equal sign && pairs_constant left right) ≡ true
-    → Includes base (constant_in left ++ constant_in right)
+    → (is_equal sign && pairs_constant left right) ≡ true → Includes base (constant_in left ++ constant_in right)
     → compares sign (term_value v left) (term_value v right) ≡ true
     → among y (variables_in (left ∷ right ∷ [])) ≡ true → in_domain base (v y) ≡ true
 equation base Equal (Var x) (Const a) v y b has h m = grind arith

@@ -76,8 +76,7 @@ at_position q (p ∷ log) zero none h = or_left _ _ h
 at_position q (p ∷ log) (suc i) none h = or_right _ _ (at_position q log i none h)
 
 pub event_value : (log : List TimePoint) (i : ℕ) (event : Event) (a : Value)
-    → has_event (database_at log i) event ≡ true
-    → in_domain event.args a ≡ true → in_domain (log_values log) a ≡ true
+    → has_event (database_at log i) event ≡ true → in_domain event.args a ≡ true → in_domain (log_values log) a ≡ true
 event_value log i event a h m =
     any_flat_map (eq_by_cmp value_cmp a) (λ point. flat_map (λ e. e.args) point.db) log
     ∙ at_position (λ db. in_domain (flat_map (λ e. e.args) db) a) log i refl
@@ -91,8 +90,7 @@ truth_holds p n j h = grind (arith, cases_lt, truth_is, length-map-range_with_le
 
 -- where a range has a position at which all of three tests hold, the one in the middle holds there
 middle_holds : (a c p : ℕ → Bool) (n from size : ℕ)
-    → list_any (λ j. a j && truth_at (truths n p) j && c j) (range_with_len from size) ≡ true
-    → (j : ℕ) × (p j ≡ true)
+    → list_any (λ j. a j && truth_at (truths n p) j && c j) (range_with_len from size) ≡ true → (j : ℕ) × (p j ≡ true)
 middle_holds a c p n from size h = grind (arith, any_in, truth_holds, and_parts)
 
 -- where SINCE or UNTIL holds, the right operand holds somewhere

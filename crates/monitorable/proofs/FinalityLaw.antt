@@ -52,8 +52,7 @@ module _ (log more : List TimePoint) where
   previous_same I p q i l e = grind (arith, zero, time_same, truth_same)
 
   next_same : (I : Interval) (p q : ℕ → Bool) (i : ℕ) → i + 1 < length log → p (i + 1) ≡ q (i + 1)
-      → next I (times log) (truths (length log) p) i
-      ≡ next I (times (log ++ more)) (truths (length (log ++ more)) q) i
+      → next I (times log) (truths (length log) p) i ≡ next I (times (log ++ more)) (truths (length (log ++ more)) q) i
   unfolding next
   next_same I p q i l e = grind (arith, lt-ltb, size, size_more, time_same, truth_same)
 

@@ -152,8 +152,7 @@ used_variable x f h =
 
 -- each variable of SINCE or UNTIL is free in the right operand
 pub right_variable : (names : Names) (f g : CoreForm) (y : ℕ) → covers names f g ≡ None
-    → among y (joined (fv (meaning f)) (fv (meaning g))) ≡ true
-    → among y (fv (meaning g)) ≡ true
+    → among y (joined (fv (meaning f)) (fv (meaning g))) ≡ true → among y (fv (meaning g)) ≡ true
 right_variable names f g y h m =
     elim (or_cases (among y (fv (meaning f))) (among y (fv (meaning g)))
     (sym (among_joined y (fv (meaning f)) (fv (meaning g))) ∙ m)) [

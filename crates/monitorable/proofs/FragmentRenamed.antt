@@ -81,8 +81,7 @@ uses_new p n x f s h =
     rw (none_new (with_number p x.number n) (fv (meaning f)) (x.number ∷ []) (renamed_fv f s) own (no_variable _ _ h))
 
 pub renamed_fits : (names names' : Names) (role : Role) (f : CoreForm) {p : Numbers} {n : ℕ}
-    → Spread p n (fv (meaning f))
-    → fault_in names role f ≡ None → fault_in names' role (renamed p n f) ≡ None
+    → Spread p n (fv (meaning f)) → fault_in names role f ≡ None → fault_in names' role (renamed p n f) ≡ None
 unfolding fault_in renamed fv
 renamed_fits names names' role (Compare c) s h =
     asked_kept (judges_comparison role) (guards names (Compare c)) _ (guards_new names names' (Compare c) s) h

@@ -15,8 +15,7 @@ not_not : (a : Bool) → a ≡ not (not a)
 not_not a = grind arith
 
 module _ (log : List TimePoint) (dom : List Value) where
-  holds : (f : Form) (v : Valuation) (i : ℕ)
-      → (sat log dom v i (meaning (positive f)) ≡ sat log dom v i f)
+  holds : (f : Form) (v : Valuation) (i : ℕ) → (sat log dom v i (meaning (positive f)) ≡ sat log dom v i f)
       × (sat log dom v i (meaning (negative f)) ≡ not (sat log dom v i f))
   unfolding sat positive negative
   holds (Not f) v i = grind (arith, holds f v i)
@@ -25,8 +24,7 @@ module _ (log : List TimePoint) (dom : List Value) where
   holds (Implies f g) v i = grind (arith, holds f v i, holds g v i)
   holds (Equiv f g) v i = grind (arith, holds f v i, holds g v i)
   holds (Exists x f) v i = simp (λ (a : Value). (holds f (with_value v x.number a) i).0) (refl, refl)
-  holds (Forall x f) v i =
-      simp (λ (a : Value). (holds f (with_value v x.number a) i).1, all_any) (refl, not_not _)
+  holds (Forall x f) v i = simp (λ (a : Value). (holds f (with_value v x.number a) i).1, all_any) (refl, not_not _)
   holds (Previous interval f) v i = simp (λ (j : ℕ). (holds f v j).0) (refl, refl)
   holds (Next interval f) v i = simp (λ (j : ℕ). (holds f v j).0) (refl, refl)
   holds (Once interval f) v i = simp (λ (j : ℕ). (holds f v j).0) (refl, refl)
@@ -46,8 +44,7 @@ module _ (times : List ℕ) where
       → (nat_lt j (length times) && settled times (meaning f) j) ≡ settled times (meaning f) j
   beside_true f j = absorbed _ _ (λ h. lt-ltb j (length times) (core_within times f j h))
 
-  same : (f : Form) (i : ℕ)
-      → (settled times (meaning (positive f)) i ≡ settled times f i)
+  same : (f : Form) (i : ℕ) → (settled times (meaning (positive f)) i ≡ settled times f i)
       × (settled times (meaning (negative f)) i ≡ settled times f i)
   unfolding settled positive negative
   same (Not f) i = ((same f i).1, (same f i).0)

@@ -25,13 +25,11 @@ left f g c = grind (arith, in_left)
 
 -- with more room
 right : {p : Numbers} {n : ℕ} {v w : Valuation} (f g : CoreForm)
-    → Carries p n (joined (fv (meaning f)) (fv (meaning g))) v w
-    → Carries p (n + binder_count f) (fv (meaning g)) v w
+    → Carries p n (joined (fv (meaning f)) (fv (meaning g))) v w → Carries p (n + binder_count f) (fv (meaning g)) v w
 right f g c = grind (arith, in_right)
 
 -- under a quantifier, whose variable gets the number n and has the value a
-bound : {p : Numbers} {n : ℕ} {v w : Valuation} (x : ℕ) (xs : List ℕ) (a : Value)
-    → Carries p n (without x xs) v w
+bound : {p : Numbers} {n : ℕ} {v w : Valuation} (x : ℕ) (xs : List ℕ) (a : Value) → Carries p n (without x xs) v w
     → Carries (with_number p x n) (n + 1) xs (with_value v n a) (with_value w x a)
 bound x xs a c = grind (arith, among_without)
 
@@ -50,8 +48,7 @@ variables_same : (p : Numbers) (terms : List Term) (v w : Valuation)
 variables_same p terms v w agree = search (terms_same, among_distinct)
 
 module _ (log : List TimePoint) (dom : List Value) where
-  pub renamed_holds : (f : CoreForm) (i : ℕ) {p : Numbers} {n : ℕ} {v w : Valuation}
-      → Carries p n (fv (meaning f)) v w
+  pub renamed_holds : (f : CoreForm) (i : ℕ) {p : Numbers} {n : ℕ} {v w : Valuation} → Carries p n (fv (meaning f)) v w
       → sat log dom v i (meaning (renamed p n f)) ≡ sat log dom w i (meaning f)
   unfolding sat fv renamed
   renamed_holds (Atom atom) i {p} c = cc (variables_same p atom.args _ _ c.same)

@@ -35,8 +35,7 @@ module _ (log : List TimePoint) (names : Names) (g : CoreForm) (i : ℕ) (table 
   vars = fv (meaning g)
 
   -- a row with a value for each column is in the table exactly where the core holds of it
-  alike : (row : List Value) → nat_eq (length row) (length vars) ≡ true
-      → has_row table.rows row ≡ satisfies log g i row
+  alike : (row : List Value) → nat_eq (length row) (length vars) ≡ true → has_row table.rows row ≡ satisfies log g i row
   unfolding has
   alike row size =
       ap (has_row table.rows)
@@ -44,8 +43,7 @@ module _ (log : List TimePoint) (names : Names) (g : CoreForm) (i : ℕ) (table 
       ∙ ap (λ cs. has_row table.rows (map (valuation vars row) cs)) (sym exact.columns)
       ∙ exact.rows (core_domain log g) (valuation vars row) (λ a h. h) refl
 
-  member : (row : List Value)
-      → has_row (satisfying_rows log g i) row
+  member : (row : List Value) → has_row (satisfying_rows log g i) row
       ≡ (satisfies log g i row && (nat_eq (length row) (length vars) && list_all (in_domain (core_domain log g)) row))
   member row =
       any_ascending row_total row_exact (eq_by_cmp row_cmp row)

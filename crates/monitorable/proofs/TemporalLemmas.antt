@@ -34,8 +34,7 @@ module _ (I : Interval) (t u : List ℕ) (a b c d : List Bool) (ready : ℕ → 
     (more : length t ≤ length u) (rising : NeverFalls u)
     (times : (j : ℕ) → j < length t → time_at t j ≡ time_at u j)
     (same : (j : ℕ) → j < length t → ready j ≡ true → Same t u a b c d j) where
-  meets_same : (j : ℕ) → i ≤ j → j < length t → time_at t j ≤ time_at t i + r.hi
-      → meets I t a b i j ≡ meets I u c d i j
+  meets_same : (j : ℕ) → i ≤ j → j < length t → time_at t j ≤ time_at t i + r.hi → meets I t a b i j ≡ meets I u c d i j
   meets_same j low high near = grind (arith, all_same)
 
   forth : (j : ℕ) → i ≤ j → j < length t → meets I t a b i j ≡ true → meets I u c d i j ≡ true

@@ -13,8 +13,7 @@ use Rattle.monitorable.specs.{Fragment.frag, Laws.TextFinal, Laws.log_of, Normal
 -- two lists of verdicts, each as far as its test holds, where the second test holds wherever the first does
 module _ (p q : ℕ → Bool) (v w : ℕ → VerdictOf) (follows : (i : ℕ) → p i ≡ true → q i ≡ true)
     (same : (i : ℕ) → p i ≡ true → v i ≡ w i) where
-  longer : (a n m : ℕ) → n ≤ m
-      → (rest : List VerdictOf)
+  longer : (a n m : ℕ) → n ≤ m → (rest : List VerdictOf)
       × (map w (take_while q (range_with_len a m)) ≡ map v (take_while p (range_with_len a n)) ++ rest)
   longer a zero m l = (map w (take_while q (range_with_len a m)), refl)
   longer a (suc n) zero l = absurd (omega arith)

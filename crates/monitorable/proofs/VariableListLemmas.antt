@@ -55,8 +55,7 @@ joined_mapped p xs ys inj =
     (λ y h t. refl))
     ∙ sym (map-append p xs (filter (λ z. not (among z xs)) ys))
 
-pub distinct_mapped : (p : ℕ → ℕ) (xs : List ℕ) → Injective p (distinct xs)
-    → distinct (map p xs) ≡ map p (distinct xs)
+pub distinct_mapped : (p : ℕ → ℕ) (xs : List ℕ) → Injective p (distinct xs) → distinct (map p xs) ≡ map p (distinct xs)
 distinct_mapped p [] inj = refl
 distinct_mapped p (x ∷ xs) inj =
     ap (joined (p x ∷ []))

@@ -25,8 +25,7 @@ all_insert p ks k = grind (
   any_insert row_total row_exact (λ x. not (p x)) ks k,
 )
 
-pub all_ascending : (p : List Value → Bool) (xs : List (List Value))
-    → list_all p (ascending row_cmp xs) ≡ list_all p xs
+pub all_ascending : (p : List Value → Bool) (xs : List (List Value)) → list_all p (ascending row_cmp xs) ≡ list_all p xs
 all_ascending p xs =
     all_any p (ascending row_cmp xs) ∙ ap not (any_ascending row_total row_exact (λ x. not (p x)) xs)
     ∙ sym (all_any p xs)
@@ -40,6 +39,5 @@ sized_inserted n xs row = all_insert (λ r. nat_eq (length r) n) xs row
 
 -- rows in ascending order are a table
 pub made_is : (columns : List ℕ) (xs ys : List (List Value)) → all_apart columns ≡ true
-    → all_sized (length columns) xs ≡ true
-    → ys ≡ ascending row_cmp xs → IsTable columns ys
+    → all_sized (length columns) xs ≡ true → ys ≡ ascending row_cmp xs → IsTable columns ys
 made_is columns xs ys apart sized e = grind (arith, sized_ascending, rows_ascend)

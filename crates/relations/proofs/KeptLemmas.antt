@@ -81,8 +81,7 @@ none_more o p b none = grind (arith, common_steps, or_none o)
 
 -- what is kept for a row stays
 pub there_already : {X : Type 0} (row u : List Value) (es : List (List Value × X)) (p : Option X)
-    → is_some (kept_for es row) ≡ true
-    → kept_for es u ≡ option_or (kept_for es u) (cond (is_at (row_cmp u) row) p None)
+    → is_some (kept_for es row) ≡ true → kept_for es u ≡ option_or (kept_for es u) (cond (is_at (row_cmp u) row) p None)
 there_already row u es p there = grind (arith, common_steps, same_row u row, or_none (kept_for es u))
 
 -- one row more

@@ -17,8 +17,7 @@ either P b x y z e p q = grind arith
 -- after a change at one key, the value there is changed, and no other
 pub changed : {X : Type 0} (d : X) (h : X → X) (row v : List Value) (m n : List (List Value × X)) (w : Option X)
     → lookup (is_at (row_cmp v)) n ≡ cond (is_at (row_cmp row) v) w (lookup (is_at (row_cmp v)) m)
-    → unwrap_or w d ≡ h (unwrap_or (lookup (is_at (row_cmp row)) m) d)
-    → unwrap_or (lookup (is_at (row_cmp v)) n) d
+    → unwrap_or w d ≡ h (unwrap_or (lookup (is_at (row_cmp row)) m) d) → unwrap_or (lookup (is_at (row_cmp v)) n) d
     ≡ cond (is_at (row_cmp row) v) (h (unwrap_or (lookup (is_at (row_cmp v)) m) d))
     (unwrap_or (lookup (is_at (row_cmp v)) m) d)
 changed d h row v m n w gets gives = grind (arith, common_steps, same_row row v, gets, gives)

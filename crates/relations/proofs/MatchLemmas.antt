@@ -24,8 +24,7 @@ module _ (f : List Value → List Value) (rows keys : List (List Value)) (key : 
     (upto : (i : ℕ) (d : List Value) → i < high → before true (row_cmp (slice_index_or keys i d) key) ≡ true)
     (past : (i : ℕ) (d : List Value) → high ≤ i → i < length keys
     → before true (row_cmp (slice_index_or keys i d) key) ≡ false) where
-  equal_at : (i : ℕ) (d : List Value) → i < length rows
-      → eq_by_cmp row_cmp key (f (slice_index_or rows i d))
+  equal_at : (i : ℕ) (d : List Value) → i < length rows → eq_by_cmp row_cmp key (f (slice_index_or rows i d))
       ≡ (before true (row_cmp (slice_index_or keys i d) key)
       && not (before false (row_cmp (slice_index_or keys i d) key)))
   equal_at i d l =

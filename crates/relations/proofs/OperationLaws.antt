@@ -128,8 +128,7 @@ inserted_again xs y sorted there =
     row_exact
 
 pub inserted_is : (columns : List ℕ) (rows : List (List Value)) (row : List Value) → IsTable columns rows
-    → length row ≡ length columns
-    → IsTable columns (insert_key row_cmp rows row)
+    → length row ≡ length columns → IsTable columns (insert_key row_cmp rows row)
 inserted_is columns rows row is size =
     record {
       apart = is.apart;
@@ -138,15 +137,13 @@ inserted_is columns rows row is size =
     }
 
 pub either_way : {T E : Type 0} (P : List (List Value) → Type 0) (r : Result T E) (new a b : List (List Value))
-    → OnOk r (new ≡ a) → OnErr r (new ≡ b)
-    → P a → P b → P new
+    → OnOk r (new ≡ a) → OnErr r (new ≡ b) → P a → P b → P new
 either_way P r new a b h k p q = grind arith
 
 -- tables by their columns and rows
 
 pub has_as : (t : TableOf) (columns : List ℕ) (rows : List (List Value)) (v : Valuation) → t.columns ≡ columns
-    → t.rows ≡ rows
-    → has t v ≡ has_row rows (map v columns)
+    → t.rows ≡ rows → has t v ≡ has_row rows (map v columns)
 unfolding has
 has_as t columns rows v c r = λ i. has_row (r i) (map v (c i))
 

@@ -32,8 +32,7 @@ agree_is ca cb ra rb = simp (rows_tie, all_of_kept)
 -- a row with those that have its key
 pub pairs_by_key : (ca cb : List ℕ) (bs : List (List Value)) (ra : List Value)
     → map (λ rb. ra ++ part cb (others ca cb) rb) (filter
-    (λ rb. eq_by_cmp row_cmp (part ca (common ca cb) ra) (part cb (common ca cb) rb)) bs)
-    ≡ pairs_of ca cb bs ra
+    (λ rb. eq_by_cmp row_cmp (part ca (common ca cb) ra) (part cb (common ca cb) rb)) bs) ≡ pairs_of ca cb bs ra
 unfolding pairs_of combined
 pairs_by_key ca cb bs ra = simp (filter_agree, agree_is)
 
@@ -89,8 +88,7 @@ module _ (ca cb : List ℕ) (q : List Value) where
   unfoldable pub makes : List Value → List Value → Bool
   makes ra rb = agree ca cb ra rb && eq_by_cmp row_cmp q (combined ca cb ra rb)
 
-  has_of_one : (bs : List (List Value)) (ra : List Value)
-      → has_row (pairs_of ca cb bs ra) q ≡ list_any (makes ra) bs
+  has_of_one : (bs : List (List Value)) (ra : List Value) → has_row (pairs_of ca cb bs ra) q ≡ list_any (makes ra) bs
   unfolding pairs_of makes
   has_of_one bs ra = simp (any_map, any_filter)
 

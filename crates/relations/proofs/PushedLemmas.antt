@@ -22,8 +22,7 @@ first_is ys y n e = grind arith
 
 -- the first of what stands, and the rest
 pub stand_first : {X : Type 0} (P : ℕ → X → Type 0) (p : ℕ) (all rest : List X) (x : X) → all ≡ x ∷ rest
-    → StandFrom P p all
-    → P p x × StandFrom P (p + 1) rest
+    → StandFrom P p all → P p x × StandFrom P (p + 1) rest
 stand_first P p all rest x e stands = subst (StandFrom P p) e stands
 
 pub over_first : (columns : List ℕ) (all rest : List TableOf) (x : TableOf) → all ≡ x ∷ rest → AreOver columns all

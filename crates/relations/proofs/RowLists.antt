@@ -24,8 +24,7 @@ weakly xs h = λ k d _ l.
 
 -- a binary search finds a row exactly if it is among the rows
 pub searched_row : (xs : List (List Value)) (u : List Value) (r : Result ℕ ℕ) → IsStrictlySortedBy row_cmp xs
-    → IsSearchInRange r (length xs)
-    → IsBinarySearchResult (λ y. row_cmp y u) xs r → is_ok r ≡ has_row xs u
+    → IsSearchInRange r (length xs) → IsBinarySearchResult (λ y. row_cmp y u) xs r → is_ok r ≡ has_row xs u
 searched_row xs u (Ok i) h low found = grind (arith, list_any_at, row_exact (get_or xs i u) u (found u))
 searched_row xs u (Err i) h low found =
     let apart = found (searchable_from_sorted row_total (λ (y : List Value). y) xs u (weakly xs h)) in

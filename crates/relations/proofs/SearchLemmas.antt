@@ -53,8 +53,7 @@ module _ (past : Bool) (keys : List (List Value)) (key : List Value) (rises : Is
   spent_more low high old now d s n l = grind arith
 
   left_more : (low high new old now d : ℕ) → Searching past keys key low high old now → length keys < 2 ^ d
-      → low < high → 2 * new ≤ high - low
-      → new < 2 ^ (old + d - (now + 1))
+      → low < high → 2 * new ≤ high - low → new < 2 ^ (old + d - (now + 1))
   left_more low high new old now d s n l h =
       let e : old + d - (now + 1) ≡ old + d - now - 1 = omega arith in
       rw e (halved (old + d - now) (high - low) new (s.left d n) (omega arith) h)
@@ -76,8 +75,7 @@ module _ (past : Bool) (keys : List (List Value)) (key : List Value) (rises : Is
   }
 
   pub goes_down : (low high middle old now : ℕ) → Searching past keys key low high old now → low ≤ middle
-      → middle < high
-      → 2 * (middle - low) ≤ high - low → high - low ≤ 2 * (middle - low) + 1
+      → middle < high → 2 * (middle - low) ≤ high - low → high - low ≤ 2 * (middle - low) + 1
       → (x : List Value) → x ≡ slice_index_or keys middle x → before past (row_cmp x key) ≡ false
       → Searching past keys key low middle old (now + 1)
   goes_down low high middle old now s l m low_half high_half x is h = record {

@@ -15,8 +15,7 @@ use Rattle.relations.proofs.{AscendingRows.made_is, InsideLemmas.matched_is, Joi
 use Rattle.relations.proofs.{OperationLaws.has_joined, OperationLaws.sized_pairs, PairLemmas.join_moved}
 
 -- what a row has at a column that it lacks
-absent : (columns : List ℕ) (row : List Value) (x : ℕ) → among x columns ≡ false
-    → valuation columns row x ≡ Int (pos 0)
+absent : (columns : List ℕ) (row : List Value) (x : ℕ) → among x columns ≡ false → valuation columns row x ≡ Int (pos 0)
 absent [] row x out = refl
 absent (y ∷ columns) [] x out = refl
 absent (y ∷ columns) (a ∷ row) x out = grind (arith, common_steps, absent columns row x)

@@ -76,8 +76,7 @@ module _ (vars : List Var) where
   Closed s = ended s.entries s.stage
 
   pub over_here : (es : Entries) (o : Opening) (is : Integers) → max_workers < workers_of (strategy_of vars
-      (Then es o is))
-      → Closed (behind vars (Whole (Then es o is))) ≡ Err (TooManyWorkers o.name.at)
+      (Then es o is)) → Closed (behind vars (Whole (Then es o is))) ≡ Err (TooManyWorkers o.name.at)
   over_here es o is many = rw (lt-leb (workers_of (strategy_of vars (Then es o is))) max_workers many)
 
   over_closed : (ts : List Lexeme) (s : Partial) (at : ℕ) → Ran ts s → IsOver vars ts at

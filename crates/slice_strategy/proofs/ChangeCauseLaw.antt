@@ -110,8 +110,7 @@ module _ (vars : List Var) where
 
     own_shows : (inner : List Lexeme) (c : InChange front inner) (p : Part) → IsPart inner p → IsNoBefore p
         → (fault : StrategyFault) → strategy_causes.IsCause vars inner t fault
-        → (is_before t.kind t.text && may_begin (behind vars p).stage) ≡ false
-        → step vars s t ≡ Err (Strategy fault)
+        → (is_before t.kind t.text && may_begin (behind vars p).stage) ≡ false → step vars s t ≡ Err (Strategy fault)
     own_shows inner c p is own fault cause other =
         let other_step = else_step vars (changes_of vars c.whole) (point_number c.count) (behind vars p) t other in
         rw (
@@ -123,8 +122,7 @@ module _ (vars : List Var) where
     of_kind : (k : Kind) (b : Bool) → t.kind ≡ k → k ≢ Word → (is_before t.kind t.text && b) ≡ false
     of_kind k b kind other = ap (λ x. x && b) (word_only t.kind t.text (λ word. other (sym kind ∙ word)))
 
-    over_shows : (at : ℕ) → IsOverIn vars front at → t.kind ≢ Comma → step vars s t ≡ Err (Strategy
-        (TooManyWorkers at))
+    over_shows : (at : ℕ) → IsOverIn vars front at → t.kind ≢ Comma → step vars s t ≡ Err (Strategy (TooManyWorkers at))
     over_shows at c other =
         let es = Then c.over.before c.over.opening c.over.integers in
         let q = behind vars (Whole es) in
@@ -257,8 +255,7 @@ module _ (vars : List Var) where
         → IsNumber t → IsViableScript (front ++ t ∷ [])
     number_goes script word c numbered = grind (arith, number_viable)
 
-    never : (at : ℕ) → IsSyntax vars front t at → (fault : ChangeFault) → IsRule fault
-        → IsCause vars front t fault → ⊥
+    never : (at : ℕ) → IsSyntax vars front t at → (fault : ChangeFault) → IsRule fault → IsCause vars front t fault → ⊥
     never at c (Strategy (Syntax n)) rule x = absurd rule
     never at c (Strategy Memory) rule x = x
     never at c (Strategy fault) rule (inl x) =
@@ -388,8 +385,7 @@ module _ (vars : List Var) where
 
     -- ---- and what it is the cause of
 
-    inner_stops : (r : Script) (w n : Lexeme) (p : Part) → IsPlace ts (Inside r w n p) → (tail : Tail LexFault)
-        (at : ℕ)
+    inner_stops : (r : Script) (w n : Lexeme) (p : Part) → IsPlace ts (Inside r w n p) → (tail : Tail LexFault) (at : ℕ)
         → StopsAt ts tail at → strategy_causes.StopsAt (spell_part p) tail at
     inner_stops r w n p is (Broken x) at place = place
     inner_stops r w n p is (End end) at early = record {

@@ -204,8 +204,7 @@ module _ (vars : List Var) where
     done = changes_of vars s
 
     -- a `before` behind whole entries
-    stop_moves : (es : Entries) (t : Lexeme) → FitsPlace (Here (Whole es)) → IsBefore t
-        → Moves (Here (Whole es)) t
+    stop_moves : (es : Entries) (t : Lexeme) → FitsPlace (Here (Whole es)) → IsBefore t → Moves (Here (Whole es)) t
         (lifted (ended (behind vars (Whole es)).entries (behind vars (Whole es)).stage)
         >>= λ q. Ok (interrupted done (point_number n) t q))
     stop_moves NoEntry t fits is =
@@ -222,8 +221,7 @@ module _ (vars : List Var) where
         ]
 
     before_moves : (p : Part) (t : Lexeme) → FitsPlace (Here p) → IsBefore t → may_begin (behind vars p).stage ≡ true
-        → Moves (Here p) t
-        (lifted (ended (behind vars p).entries (behind vars p).stage) >>= λ q. Ok
+        → Moves (Here p) t (lifted (ended (behind vars p).entries (behind vars p).stage) >>= λ q. Ok
         (interrupted done (point_number n) t q))
     before_moves p t fits is begins = grind (arith, begins_whole, stop_moves)
 

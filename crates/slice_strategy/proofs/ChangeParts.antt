@@ -97,8 +97,7 @@ module _ (vars : List Var) where
 
   -- what the reader of strategies shows, the reader of scripts does
   pub lifted_judged : {A : Type 0} (rules : Type 0) (r : Result A StrategyFault) (x : A) (f : A → ScriptOf)
-      → layer.Judged strategies.IsRule rules r x
-      → Judged rules (lifted r >>= λ q. Ok (f q)) (f x)
+      → layer.Judged strategies.IsRule rules r x → Judged rules (lifted r >>= λ q. Ok (f q)) (f x)
   lifted_judged rules r x f h = grind (arith, breaks)
 
   -- the changes that are whole, up to the end of the last entry
@@ -145,8 +144,7 @@ module _ (vars : List Var) where
       else if full then Err (TooManyChanges w.at)
       else Ok (inside_of s t (Whole NoEntry))
 
-  pub number_due : (s : Script) (w t : Lexeme) → IsNumber t
-      → step vars (stopped s w) t
+  pub number_due : (s : Script) (w t : Lexeme) → IsNumber t → step vars (stopped s w) t
       ≡ due_by s w t (falls (current_of s) (point_number t)) (nat_le max_changes (length (changes_of vars s)))
   unfolding step
   number_due s w t is = rw (is.0, is.1, with_last s)
@@ -157,8 +155,7 @@ module _ (vars : List Var) where
   number_judged s w t fits before is = grind (arith, number_due, leb_tells, breaks)
 
   stop_read : (s : Script) (w : Lexeme) → FitsScript s → IsBefore w → Judged (KeepsWhole s) (Told
-      (spell_script s)) (at_whole s)
-      → Judged (KeepsScript vars s) (Told (spell_script s ++ w ∷ [])) (stopped s w)
+      (spell_script s)) (at_whole s) → Judged (KeepsScript vars s) (Told (spell_script s ++ w ∷ [])) (stopped s w)
   stop_read s w fits is before =
       then_token (step vars) nothing_read IsRule (spell_script s) w (KeepsWhole s) (FewIn s) (KeepsScript vars s)
       (at_whole s) (stopped s w) (kept_of s) (whole_of s) before (λ k. before_read s w fits is)
@@ -193,6 +190,5 @@ module _ (vars : List Var) where
   stands_at p s fits ran = grind (arith, judged_ok, place_read)
 
   -- the tokens of whole changes show no Syntax
-  pub shows_rule : (s : Script) (fault : ChangeFault) → FitsScript s → Told (spell_script s) ≡ Err fault
-      → IsRule fault
+  pub shows_rule : (s : Script) (fault : ChangeFault) → FitsScript s → Told (spell_script s) ≡ Err fault → IsRule fault
   shows_rule s fault fits ran = grind (arith, judged_rule, script_read)

@@ -11,8 +11,7 @@ use Rattle.slice_strategy.specs.ChangeReading.{ScriptOf, step, at_tail, ends, br
 
 -- behind the tokens before this place the text reads on like this
 abbrev pub Leads : List Var → List ℕ → Place → ScriptOf → Type 0
-Leads vars bytes place s =
-    reading_on (step vars) at_tail (tail_of true (length bytes)) place s ≡ reading vars bytes
+Leads vars bytes place s = reading_on (step vars) at_tail (tail_of true (length bytes)) place s ≡ reading vars bytes
 
 pub fails_on : {A B : Type 0} (fault : ChangeFault) (x : Result A ChangeFault) (y : Result B ChangeFault)
     → (x ≡ Err fault → y ≡ Err fault) → Fails fault x → Fails fault y

@@ -78,10 +78,8 @@ module _ (vars : List Var) (done : List Change) (number : ℕ) where
       → (within_of r >>= λ s. script.step vars s t) ≡ within_of (r >>= λ p. step vars p t)
   then_by t r same = grind arith
 
-  then_alike : (front : List Lexeme) (t : Lexeme) → Alike front
-      → ((p : Partial) → Ran front ≡ Ok p
-      → script.step vars (change_goes_on done number p) t ≡ within_of (step vars p t))
-      → Alike (front ++ t ∷ [])
+  then_alike : (front : List Lexeme) (t : Lexeme) → Alike front → ((p : Partial) → Ran front ≡ Ok p
+      → script.step vars (change_goes_on done number p) t ≡ within_of (step vars p t)) → Alike (front ++ t ∷ [])
   then_alike front t alike same = rw (more_told front t, more_ran front t, alike) (then_by t (Ran front) same)
 
   -- behind a part, a token that is no `before` or not at an entry's place
@@ -108,8 +106,7 @@ module _ (vars : List Var) (done : List Change) (number : ℕ) where
   name_again es n q fits other closed = grind (arith, closed_few, ended_step, behind, between_step)
 
   unit_by : (es : Entries) (n e : Lexeme) → Fits es → n.kind ≢ Comma → e.kind ≡ Equal
-      → (r : Result Partial StrategyFault)
-      → ended (behind vars (Whole es)).entries (behind vars (Whole es)).stage ≡ r
+      → (r : Result Partial StrategyFault) → ended (behind vars (Whole es)).entries (behind vars (Whole es)).stage ≡ r
       → ((lifted r >>= λ q. Ok (interrupted done number n q)) >>= λ s. script.step vars s e)
       ≡ within_of (step vars (behind vars (Whole es)) n >>= λ q. step vars q e)
   unit_by es n e fits other kind r closed = grind (arith, name_again, equal_step, ended_step, behind)
@@ -178,8 +175,7 @@ module _ (vars : List Var) (done : List Change) (number : ℕ) where
   -- so every part
   pub alike : (p : Part) → FitsPart p → IsNoBefore p → Alike (spell_part p)
   alike (Whole es) fits own = whole_alike es fits
-  alike (ToName es n) fits own =
-      part_alike (Whole es) n fits.0 (whole_alike es fits.0) (rw own)
+  alike (ToName es n) fits own = part_alike (Whole es) n fits.0 (whole_alike es fits.0) (rw own)
   alike (ToEqual es n e) fits own = equal_alike es n e fits (whole_alike es fits.0)
   alike (ToMethod es n e w m) fits own = method_alike es n e w m fits (whole_alike es fits.0)
   alike (ToColon es o) fits own = colon_alike es o fits (whole_alike es fits.0)

@@ -108,8 +108,7 @@ module _ (vars : List Var) (bytes : List ℕ) where
   whole_given : (s : Script) → FitsScript s → KeepsScript vars s
       → at_tail (End end) (at_whole vars s) ≡ Ok (changes_of vars s)
   whole_given NoChange fits kept = refl
-  whole_given (Change s w n es) fits kept =
-      rw (few_closed vars es fits.3 (few_of vars es kept.3))
+  whole_given (Change s w n es) fits kept = rw (few_closed vars es fits.3 (few_of vars es kept.3))
 
   pub spelled_is_read : (changes : List ChangeOf) → IsValue vars bytes changes → reading vars bytes ≡ Ok changes
   unfolding reading layer.reading
@@ -149,8 +148,7 @@ value_given view vars bytes (Ok x) given = read_is_spelled vars bytes (view x) g
 value_given view vars bytes (Err fault) given = tt
 
 pub fault_shown : {X : Type 0} (view : X → List ChangeOf) (vars : List Var) (bytes : List ℕ)
-    (result : Result X ChangeFault)
-    → Gives view result (reading vars bytes)
+    (result : Result X ChangeFault) → Gives view result (reading vars bytes)
     → IfErr result (λ fault. fault ≢ Within Memory → IsShown vars bytes fault)
 fault_shown view vars bytes (Ok x) given = tt
 fault_shown view vars bytes (Err (Within Memory)) given = λ other. absurd (other refl)

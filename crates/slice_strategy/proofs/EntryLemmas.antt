@@ -57,8 +57,7 @@ entries_size items = length-map items entry_of
 
 -- the same of a strategy that has these entries
 pub read_entry : (items : List Entry) (strategy : Strategy) (i : ℕ) (e : Entry) → entries_of items ≡ strategy
-    → i < length strategy → e ≡ get_or items i e
-    → slice_get (entries_of items) i ≡ Some (entry_of e)
+    → i < length strategy → e ≡ get_or items i e → slice_get (entries_of items) i ≡ Some (entry_of e)
 read_entry items strategy i e same low is = grind (arith, found_entry, entries_size)
 
 -- ---- an owner's digits, from the first entry on
@@ -98,8 +97,7 @@ owes_bound items row number i owes =
         some_behind items i (both_some (parts_of (entry_of e)) (workers_of (entries_of items)) some).1
 
 pub owes_parts : (items : List Entry) (row : List Value) (number i : ℕ) → Owes items row number i → (e : Entry)
-    → i < length items → e ≡ get_or items i e
-    → (0 < parts_of (entry_of e)) × (parts_of (entry_of e) ≤ max_workers)
+    → i < length items → e ≡ get_or items i e → (0 < parts_of (entry_of e)) × (parts_of (entry_of e) ≤ max_workers)
     × (number * parts_of (entry_of e) ≤ max_workers * max_workers)
 owes_parts items row number i owes e low is = grind (arith, has_parts, found_entry, owes_bound, mul-le)
 

@@ -128,8 +128,7 @@ module _ (vars : List Var) where
 
   -- the first integer
   pub first_judged : (es : Entries) (o : Opening) → FitsPart (ToColon es o) → (t : Lexeme) → t.kind ≡ Integer
-      → Judged (spell_part (ToColon es o)) t (AreInOrder o.method (First t)) (step_by (behind
-      (ToColon es o)) t Integer)
+      → Judged (spell_part (ToColon es o)) t (AreInOrder o.method (First t)) (step_by (behind (ToColon es o)) t Integer)
       (behind (Whole (Then es o (First t))))
   first_judged es o fits t kind = grind (arith, itself, cases_Bool, breaks)
 

@@ -195,13 +195,11 @@ module _ (items : List Entry) (e : Entry) (vs : List ℕ) (v : Valuation) (y pla
       ]
 
   pub nearest_next : IsNearest (λ k. near_from (y + 1) (behind items 1) k vs v) (from % (place / parts)) (place / parts)
-      least next
-      → ((d : ℕ) → may_be held d ≡ (not (among y vs) || nat_eq (strategy_part (entry_of e) (v y)) d))
+      least next → ((d : ℕ) → may_be held d ≡ (not (among y vs) || nat_eq (strategy_part (entry_of e) (v y)) d))
       → IfSome held (λ a. a < parts_of (entry_of e))
       → IfSome above (λ d. (from / (place / parts) < d) × (d < parts) × (may_be held d ≡ true))
       → NoneFrom (from / (place / parts) + 1) (end_of parts above) (may_be held)
-      → IsNearest (λ k. near_from y (entries_of items) k vs v) from place
-      (unwrap_or held 0 * (place / parts) + least)
+      → IsNearest (λ k. near_from y (entries_of items) k vs v) from place (unwrap_or held 0 * (place / parts) + least)
       (next_number (may_be held (from / (place / parts))) (from / (place / parts)) (place / parts) least next above)
   nearest_next below digits low found first =
       let w = place / parts in

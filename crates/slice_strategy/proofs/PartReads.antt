@@ -86,8 +86,7 @@ module _ (vars : List Var) where
       (λ k both. (few_kept es k both.0, both.1)) (λ k. (kept_whole es k.0, (few_of es k.0, k.1))) before
       (λ k. name_judged vars es fits.0 (known_whole es k) n fits.1)
 
-  equal_read : (es : Entries) (n e : Lexeme) → FitsPart (ToEqual es n e) → Reads (ToName es n)
-      → Reads (ToEqual es n e)
+  equal_read : (es : Entries) (n e : Lexeme) → FitsPart (ToEqual es n e) → Reads (ToName es n) → Reads (ToEqual es n e)
   equal_read es n e fits before = search (reads_on)
 
   method_read : (es : Entries) (n e w : Lexeme) (m : Method) → FitsPart (ToMethod es n e w m)

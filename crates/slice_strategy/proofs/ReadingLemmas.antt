@@ -12,8 +12,7 @@ use Rattle.slice_strategy.specs.Reading.{Partial, step, at_end, at_tail, broken_
 
 -- behind the tokens before this place the text reads on like this
 abbrev pub Leads : List Var → List ℕ → Place → Partial → Type 0
-Leads vars bytes place p =
-    reading_on (step vars) at_tail (tail_of true (length bytes)) place p ≡ reading vars bytes
+Leads vars bytes place p = reading_on (step vars) at_tail (tail_of true (length bytes)) place p ≡ reading vars bytes
 
 pub fails_on : {A B : Type 0} (fault : StrategyFault) (x : Result A StrategyFault) (y : Result B StrategyFault)
     → (x ≡ Err fault → y ≡ Err fault) → Fails fault x → Fails fault y

@@ -28,8 +28,7 @@ module _ {P : Type 0} (give : P → P) where
 
   -- one part more is given it
   given_at : (p q : ℕ → Bool) (y i : ℕ) (parts : List P) (other : P) → i < length parts
-      → p (y + i) ≡ false → q (y + i) ≡ true
-      → ((k : ℕ) → y ≤ k → k < y + length parts → (k ≡ y + i → ⊥) → p k ≡ q k)
+      → p (y + i) ≡ false → q (y + i) ≡ true → ((k : ℕ) → y ≤ k → k < y + length parts → (k ≡ y + i → ⊥) → p k ≡ q k)
       → set (given_to give p y parts) i (give (get_or (given_to give p y parts) i other)) ≡ given_to give q y parts
   given_at p q y i [] other low no_p is_q same = absurd (omega arith)
   given_at p q y zero (part ∷ parts) other low no_p is_q same = grind (arith, given_alike, add-zero)
@@ -49,8 +48,7 @@ module _ {P : Type 0} (give : P → P) where
   pub given_next : (test : ℕ → Bool) (from k next : ℕ) (parts : List P) (other : P) → from ≤ k → k < length parts
       → k < next → test k ≡ true → NoneFrom from k test → NoneFrom (k + 1) next test
       → set (given_to give (up_to test from) 0 parts) k
-      (give (get_or (given_to give (up_to test from) 0 parts) k other))
-      ≡ given_to give (up_to test next) 0 parts
+      (give (get_or (given_to give (up_to test from) 0 parts) k other)) ≡ given_to give (up_to test next) 0 parts
   given_next test from k next parts other high low up is before behind =
       grind (arith, given_at, cases_lt, and-false, and-true)
 

@@ -32,10 +32,8 @@ named_sound : (entries : Strategy) (found : Option ℕ) (t : Lexeme)
 named_sound entries found t = grind (arith, fresh_sound, slice_get)
 
 module _ (n : ℕ) (head : Head) (low : head.variable < n) (t : Lexeme) where
-  chosen_sound : (a b c : Bool)
-      → Sound n (if a then Ok (Divided head method.Hash)
-      else if b then (if c then Err (CutSort t.at) else Ok (Divided head method.Cut))
-      else syntax_at t)
+  chosen_sound : (a b c : Bool) → Sound n (if a then Ok (Divided head method.Hash)
+      else if b then (if c then Err (CutSort t.at) else Ok (Divided head method.Cut)) else syntax_at t)
   chosen_sound a b c = grind arith
 
   count_sound : (v : ℤ) → Sound n (with_count head v t.at)

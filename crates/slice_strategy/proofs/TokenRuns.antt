@@ -17,8 +17,7 @@ pub told : {A E : Type 0} (IsRule IsCause : E → Type 0) (rules : Type 0) (r : 
 told IsRule IsCause rules r x h = grind arith
 
 module _ {S T E : Type 0} (step : S → T → Result S E) (start : S) where
-  pub one_more : (front : List T) (t : T)
-      → run step (front ++ t ∷ []) start ≡ (run step front start >>= λ s. step s t)
+  pub one_more : (front : List T) (t : T) → run step (front ++ t ∷ []) start ≡ (run step front start >>= λ s. step s t)
   unfolding run
   one_more front t = simp (run-append, bind_same, all_of)
 

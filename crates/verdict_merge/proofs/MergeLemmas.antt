@@ -18,8 +18,7 @@ partition_merges xs all sorted moved =
     row_exact
 
 -- lists of the same members come out the same
-pub ascending_permuted : (xs ys : List (List Value)) → IsPermutation xs ys
-    → ascending row_cmp ys ≡ ascending row_cmp xs
+pub ascending_permuted : (xs ys : List (List Value)) → IsPermutation xs ys → ascending row_cmp ys ≡ ascending row_cmp xs
 ascending_permuted xs ys moved =
     let left : BTreeSet (List Value) = record { keys = ascending row_cmp ys } in
     let right : BTreeSet (List Value) = record { keys = ascending row_cmp xs } in

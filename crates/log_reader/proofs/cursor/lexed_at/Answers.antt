@@ -17,5 +17,4 @@ returns-in-Ok c = (
 )
 
 pub returns-in-Err : goal.returns-in-Err
-returns-in-Err c =
-    ap next_token (sym c.lexer_at-lexer.ensures) ∙ sym c.next.ensures.found ∙ ap seen c.in-Err.is
+returns-in-Err c = ap next_token (sym c.lexer_at-lexer.ensures) ∙ sym c.next.ensures.found ∙ ap seen c.in-Err.is

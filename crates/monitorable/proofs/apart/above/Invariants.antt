@@ -4,5 +4,4 @@ use Rattle.monitorable.specs.Renaming.{above}
 use Rattle.monitorable.proofs.apart.above.Given as goal
 
 abbrev pub invariant-loop-variable : goal.invariant-loop-variable
-invariant-loop-variable l =
-    max l.least (above (drop l.variable-index l.variables)) ≡ above l.variables
+invariant-loop-variable l = max l.least (above (drop l.variable-index l.variables)) ≡ above l.variables

@@ -6,8 +6,7 @@ use Rattle.slice_strategy.proofs.ReadingLemmas.{begins_so, goes_on, step_fails, 
 use Rattle.slice_strategy.proofs.reading.read_strategy.Goals as goal
 
 pub loop-token-init : goal.loop-token-init
-loop-token-init c =
-    rw (c.new-lexer.ensures, c.in_ok-reader.ensures) (begins_so c.args.vars.now c.args.bytes.now)
+loop-token-init c = rw (c.new-lexer.ensures, c.in_ok-reader.ensures) (begins_so c.args.vars.now c.args.bytes.now)
 
 pub returns-in_err-reader-in-Ok-Some : goal.returns-in_err-reader-in-Ok-Some
 returns-in_err-reader-in-Ok-Some c =

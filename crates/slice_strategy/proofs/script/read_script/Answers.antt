@@ -6,8 +6,7 @@ use Rattle.slice_strategy.proofs.ChangeReadingLemmas.{begins_so, goes_on, step_f
 use Rattle.slice_strategy.proofs.script.read_script.Goals as goal
 
 pub loop-token-init : goal.loop-token-init
-loop-token-init c =
-    rw (c.new-lexer.ensures, c.new-script.ensures) (begins_so c.args.vars.now c.args.bytes.now)
+loop-token-init c = rw (c.new-lexer.ensures, c.new-script.ensures) (begins_so c.args.vars.now c.args.bytes.now)
 
 pub returns-in_err-script-in-Ok-Some : goal.returns-in_err-script-in-Ok-Some
 returns-in_err-script-in-Ok-Some c =

@@ -5,5 +5,4 @@ pub invariant_of-result-2 : goal.invariant_of-result-2
 invariant_of-result-2 c = sorted_by_pred c.sort_unstable.new.self.items c.sort_unstable.ensures.sorted
 
 pub returns : goal.returns
-returns c =
-    events_moved c.args.events.items c.sort_unstable.new.self.items c.sort_unstable.ensures.permutation
+returns c = events_moved c.args.events.items c.sort_unstable.new.self.items c.sort_unstable.ensures.permutation
