@@ -1,22 +1,18 @@
 -- Each step keeps the rule.
-use Rattle.std.proofs.Common.{◌≡◌, ◌≢◌, ◌⊎◌, ℕ, suc, zero, ◌<◌, List, [], ◌∷◌, ◌++◌, length, set, sym, refl, ap}
-use Rattle.std.proofs.Common.{◌∙◌, inl, inr, ⊎_elim, arith, Option, Some, None, length-set, get_or-set_same}
+use Rattle.std.proofs.Common.{◌≡◌, ◌≢◌, ◌⊎◌, ℕ, suc, zero, ◌<◌, List, [], ◌∷◌, ◌++◌, length, set, sym, refl, ap, ◌∙◌}
+use Rattle.std.proofs.Common.{inl, inr, ⊎_elim, arith, Option, Some, None, length-set, get_or-set_same}
 use Rattle.std.proofs.Common.{get_or-set_other, eqb-true, append-nil}
-use Rattle.std.proofs.Math.Logic.{⊎_map}
+use Rattle.std.proofs.{Math.Logic.⊎_map, lemmas.Option.none-some, lemmas.Option.same_Some}
+use Rattle.std.proofs.{lemmas.Bool.false_from_ne_true, lemmas.List.set-get_or}
 use mathlib.Core.Logic.{dite}
 use mathlib.Core.Option.{some, none, some-injective, some-ne-none}
 use mathlib.Core.Option as maybe
 use native.Mathlib.Decide.{ℕ_discrete}
 use lib.ListN.{get_elem?}
 use Rattle.std.specs.Prelude.{slice_index}
-use Rattle.std.proofs.lemmas.Option.{none-some, same_Some}
-use Rattle.std.proofs.lemmas.Bool.{false_from_ne_true}
-use Rattle.std.proofs.lemmas.List.{set-get_or}
 use Rattle.atomic_table.specs.Table.{State, keeps, takes, gives, Allows, step}
 use Rattle.atomic_table.proofs.Lists.{at_set, set_here, set_else}
-use Rattle.turn_hub.specs.declared.view.Cell.{Cell}
-use Rattle.turn_hub.specs.declared.view.Line.{Line}
-use Rattle.turn_hub.specs.declared.view.View.{View}
+use Rattle.turn_hub.specs.declared.{view.Cell.Cell, view.Line.Line, view.View.View}
 use Rattle.turn_hub.specs.Rule.{Rests, Ready, Due, Has, Out, CellOk, Ruled}
 use Rattle.turn_hub.specs.Steps.{Seated, looked, with_line, handed_over, main_looks, hands_over}
 
@@ -37,19 +33,12 @@ module _ {W S I O : Type 0} where
       → ((q : ℕ) → w.number ≡ Some q → v.number ≡ Some q)
       → (j : ℕ) (u : View W S I O) (q : ℕ) → get_elem? (set views id w) j ≡ some u → u.number ≡ Some q
       → (u' : View W S I O) × (get_elem? views j ≡ some u') × (u'.number ≡ Some q)
-  was views id v w seated number j u q e num = ⊎_elim (λ t. (v, rw t.0 seated, number q (rw t.1 num)))
-      (λ t. (u, t.1, num)) (at_set views id j w u e)
+  was views id v w seated number j u q e num = grind (arith, ⊎_elim, at_set)
 
   -- who has the cell still has it, where another seat moves
   pub still_out : (views : List (View W S I O)) (id : ℕ) (v w : View W S I O) (k : ℕ) → get_elem? views id ≡ some v
       → (o : Out views k) → (o.1 ≡ v → ⊥) → Out (set views id w) k
-  still_out views id v w k seated o other = (
-    o.0,
-    o.1,
-    set_else views id o.0 w (λ e. other (some-injective o.1 v (sym o.2 ∙ rw e seated))) ∙ o.2,
-    o.3,
-    o.4,
-  )
+  still_out views id v w k seated o other = grind (arith, set_else, some-injective)
 
 module _ {W S I O : Type 0} (stands : S → List I → List O → W → Type 0) (may : S → List I → Type 0) where
   -- a word that was written is read
@@ -78,14 +67,13 @@ module _ {W S I O : Type 0} (stands : S → List I → List O → W → Type 0) 
           allowed = ok.allowed;
           mine = ok.mine;
           ready = λ z. ⊎_map (λ t. t) (λ t. (rw like.3 t.0, like.4 t.0 ∙ t.1)) (ok.ready z);
-          due = λ one. ⊎_map (λ t. t) (λ o. still_out s.views id v w k seated o (λ is. o.4 (rw is none_held)))
-              (ok.due one);
+          due = λ one. ⊎_map (λ t. t) (λ o. still_out s.views id v w k seated o (grind arith)) (ok.due one);
         };
     each_hand = λ j u k e num. let o = was s.views id v w seated number j u k e num in
         record {
           below = rw like.2 (r.each_hand j o.0 k o.1 o.2).below;
-          has = ⊎_elim (λ t c h. absurd (none-some c (sym none_left ∙ rw t.1 h)))
-              (λ t c h. rw like.1 ((r.each_hand j u k t.1 num).has c h)) (at_set s.views id j w u e);
+          has = λ c h. ⊎_elim (λ t. absurd cc) (λ t. rw like.1 ((r.each_hand j u k t.1 num).has c h))
+              (at_set s.views id j w u e);
         };
     once = λ i j u y k e f num num'. let a = was s.views id v w seated number i u k e num in let b =
         was s.views id v w seated number j y k f num' in r.once i j a.0 b.0 k a.1 b.1 a.2 b.2;
@@ -97,10 +85,8 @@ module _ {W S I O : Type 0} (stands : S → List I → List O → W → Type 0) 
     pub seated : get_elem? s.views id ≡ some v
     pub near : k < length s.homes
     pub first : get_elem? (set s.views id w) 0 ≡ some main'
-    pub no_hand : main'.number ≡ None
+    pub kept : (main'.number ≡ None) × (main'.made ≡ r.main.made) × (length main'.lines ≡ length r.main.lines)
     pub number : (q : ℕ) → w.number ≡ Some q → v.number ≡ Some q
-    pub made : main'.made ≡ r.main.made
-    pub lined : length main'.lines ≡ length r.main.lines
     pub lines : (q : ℕ) → q ≢ k → get_elem? main'.lines q ≡ get_elem? r.main.lines q
     pub line : get_elem? main'.lines k ≡ some l
     pub here : CellOk stands may (set s.homes k home) (set s.views id w) main' k n l
@@ -120,9 +106,9 @@ module _ {W S I O : Type 0} (stands : S → List I → List O → W → Type 0) 
   moved s r k n id home v w main' l m = record {
     main = main';
     first = m.first;
-    no_hand = m.no_hand;
+    no_hand = m.kept.0;
     wide = length-set s.words k n ∙ r.wide ∙ sym (length-set s.homes k home);
-    lined = m.lined ∙ r.lined ∙ sym (length-set s.homes k home);
+    lined = m.kept.2 ∙ r.lined ∙ sym (length-set s.homes k home);
     has = m.has;
     each_cell = λ q l' e. dite (ℕ_discrete q k)
         (λ is. rw (is, same_word s k n r m.near, some-injective l' l (sym e ∙ rw is m.line)) m.here)
@@ -131,18 +117,17 @@ module _ {W S I O : Type 0} (stands : S → List I → List O → W → Type 0) 
           known = ok.known;
           allowed = ok.allowed;
           mine = ok.mine;
-          ready = λ z. ⊎_map (λ t. (t.0, set_else s.homes k q home other ∙ t.1, t.2))
-              (λ t. m.others q other t.0 t.1) (ok.ready z);
-          due = λ z. ⊎_map (λ t. (t.0, set_else s.homes k q home other ∙ t.1, t.2))
-              (λ o. still_out s.views id v w q m.seated o (λ is. other (m.only q (rw (← is) o.3)))) (ok.due z);
+          ready = λ z. ⊎_map (λ t. (t.0, grind (arith, set_else), t.2)) (λ t. grind arith) (ok.ready z);
+          due = λ z. ⊎_map (λ t. (t.0, grind (arith, set_else), t.2))
+              (λ o. still_out s.views id v w q m.seated o (grind arith)) (ok.due z);
         });
     each_hand = λ j u q e num. let o = was s.views id v w m.seated m.number j u q e num in
         record {
-          below = rw m.made (r.each_hand j o.0 q o.1 o.2).below;
-          has = ⊎_elim
-              (λ t c h. let num' = m.number q (rw t.1 num) in let is : q ≡ k = m.only q num' in
+          below = rw m.kept.1 (r.each_hand j o.0 q o.1 o.2).below;
+          has = λ c h. ⊎_elim
+              (λ t. let num' = m.number q (rw t.1 num) in let is : q ≡ k = m.only q num' in
               rw is (m.mine c (rw is at num') (rw t.1 h)))
-              (λ t c h. dite (ℕ_discrete q k) (λ is. absurd (m.alone j u c t.0 t.1 (rw is at num) h))
+              (λ t. dite (ℕ_discrete q k) (λ is. absurd (grind arith))
               (λ other. let had = (r.each_hand j u q t.1 num).has c h in
               (had.0, m.lines q other ∙ had.1, get_or-set_other s.words k q n 0 other ∙ had.2, had.3)))
               (at_set s.views id j w u e);
@@ -153,96 +138,32 @@ module _ {W S I O : Type 0} (stands : S → List I → List O → W → Type 0) 
 
   module _ (s : State (Option (Cell W I O)) (View W S I O)) (r : Ruled stands may s) (k : ℕ)
       (near : k < length s.homes) (l : Line S I O) (line : get_elem? r.main.lines k ≡ some l) where
-    no_number : (q : ℕ) → r.main.number ≡ Some q → ⊥
-    no_number q num = none-some q (sym r.no_hand ∙ num)
-
     new_first : (w : View W S I O) → get_elem? (set s.views 0 w) 0 ≡ some w
     new_first w = set_here s.views 0 w (within s.views 0 r.main r.first)
 
-    -- no hand has the cell where the word is main's
-    no_taker : slice_index s.words k ≡ 0 → (j : ℕ) (u : View W S I O) (c : Cell W I O) → get_elem? s.views j ≡ some u
-        → u.number ≡ Some k → u.has ≡ Some c → ⊥
-    no_taker z j u c at' num h = let one = ((r.each_hand j u k at' num).has c h).2 in omega arith
-
-    -- main's look takes the cell, which is ready
-    takes_back : r.main.has ≡ None → slice_index s.words k ≡ 0 → (c : Cell W I O) → Ready stands l c
-        → Ruled stands may record {
-          words = set s.words k (slice_index s.words k);
-          homes = set s.homes k maybe.none;
-          views = set s.views 0 (looked r.main k (slice_index s.words k) (Some c));
-        }
-    takes_back nothing z c ready = let x : ℕ = slice_index s.words k in let ok = r.each_cell k l line in
-        let w : View W S I O = looked r.main k x (Some c) in
-        moved s r k x 0 maybe.none r.main w w l record {
-          seated = r.first;
-          near = near;
-          first = new_first w;
-          no_hand = r.no_hand;
-          number = λ q num. num;
-          made = refl;
-          lined = refl;
-          lines = λ q other. refl;
-          line = line;
-          here = record {
-            known = ok.known;
-            allowed = ok.allowed;
-            mine = ok.mine;
-            ready = λ _. inr ((λ e. none-some c (sym e)), refl);
-            due = λ one. absurd (omega arith);
-          };
-          has = λ c' e. (l, line, same_word s k x r near ∙ z, rw (same_Some c c' e) at ready);
-          others = λ q other has is. absurd (has nothing);
-          only = λ q num. absurd (no_number q num);
-          mine = λ c' num has. absurd (no_number k num);
-          alone = λ j u c' _ at' num has. no_taker z j u c' at' num has;
-        }
-
-    -- main's store
-    hands : (c c' : Cell W I O) (new : ℕ) → r.main.has ≡ Some c → r.main.cell ≡ k → c'.work ≡ c.work
-        → c'.outs.items ≡ [] → c'.count ≡ length c'.items.items → may l.seed (l.handed ++ c'.items.items)
-        → ((new ≡ 0) × (c'.items.items ≡ [])) ⊎ ((new ≡ 1) × (c'.items.items ≢ []))
-        → Ruled stands may record {
-          words = set s.words k new;
-          homes = set s.homes k (some (Some c'));
-          views = set s.views 0 (with_line r.main k (handed_over l c c' new));
-        }
-    hands c c' new has cell work outs count allowed turn =
-        let next : Line S I O = handed_over l c c' new in let w : View W S I O = with_line r.main k next in
-        let home = set_here s.homes k (some (Some c')) near in
-        let held : Has stands s.words r.main.lines k 0 c (Ready stands) = rw cell at (r.has c has) in
-        let stood : stands l.seed l.handed (l.back ++ c.outs.items) c'.work =
-        rw (work, sym (some-injective held.0 l (sym held.1 ∙ line))) held.3.0 in
-        moved s r k new 0 (some (Some c')) r.main w w next record {
-          seated = r.first;
-          near = near;
-          first = new_first w;
-          no_hand = r.no_hand;
-          number = λ q num. num;
-          made = refl;
-          lined = length-set r.main.lines k next;
-          lines = λ q other. set_else r.main.lines k q next other;
-          line = set_here r.main.lines k next (within r.main.lines k l line);
-          here = record {
-            known = ⊎_elim (λ t. let e = t.0 in omega arith) (λ t. let e = t.0 in omega arith) turn;
-            allowed = allowed;
-            mine = λ e. eqb-true new 0 e;
-            ready = λ z. inl (
-              c',
-              home,
-              (
-                ⊎_elim (λ t. simp (t.1, outs, append-nil) stood) (λ t. let e = t.0 in absurd (omega arith)) turn,
-                count,
-                λ _. outs,
-              ),
-            );
-            due = λ one. inl (c', home, (l.handed, refl, stood, outs, count));
-          };
-          has = λ y e. absurd (none-some y e);
-          others = λ q other h is. absurd (other (sym is ∙ cell));
-          only = λ q num. absurd (no_number q num);
-          mine = λ y num h. absurd (no_number k num);
-          alone = λ j u y _ at' num h. no_taker held.2 j u y at' num h;
-        }
+    -- main's step at the cell k, whose word is main's
+    main_moves : (n : ℕ) (home : maybe.Option (Option (Cell W I O))) (w : View W S I O) (next : Line S I O)
+        → slice_index s.words k ≡ 0 → (r.main.has ≢ None → r.main.cell ≡ k)
+        → (w.number ≡ None) × (w.made ≡ r.main.made) × (length w.lines ≡ length r.main.lines)
+        → ((q : ℕ) → q ≢ k → get_elem? w.lines q ≡ get_elem? r.main.lines q) → get_elem? w.lines k ≡ some next
+        → CellOk stands may (set s.homes k home) (set s.views 0 w) w k n next
+        → ((c : Cell W I O) → w.has ≡ Some c → (n ≡ 0) × (w.cell ≡ k) × Ready stands next c)
+        → Ruled stands may record { words = set s.words k n; homes = set s.homes k home; views = set s.views 0 w }
+    main_moves n home w next z held like lines is here has = moved s r k n 0 home r.main w w next record {
+      seated = r.first;
+      near = near;
+      first = new_first w;
+      kept = like;
+      number = λ q num. absurd (grind arith);
+      lines = lines;
+      line = is;
+      here = here;
+      has = λ c e. let h = has c e in (next, rw h.1 is, rw h.1 (same_word s k n r near) ∙ h.0, h.2);
+      others = λ q other h is. absurd (other (sym is ∙ held h));
+      only = λ q num. absurd (grind arith);
+      mine = λ c num h. absurd (grind arith);
+      alone = λ j u c _ at' num h. let one = ((r.each_hand j u k at' num).has c h).2 in omega arith;
+    }
 
   pub main_loads : (n id k : ℕ) (me : Seated W S I O) → id ≡ 0 → me.0.has ≡ None → length me.0.lines ≡ n → k < n
       → Allows (Ruled stands may) n id me k (λ y. y) (main_looks stands (step n k 0 0 none) me)
@@ -256,7 +177,14 @@ module _ {W S I O : Type 0} (stands : S → List I → List O → W → Type 0) 
         looked r.main k x (Some h.0),
         takes k (Some h.0),
         h.1,
-        takes_back s r k near' t.0 t.1 nothing z h.0 h.2,
+        main_moves s r k near' t.0 t.1 x maybe.none (looked r.main k x (Some h.0)) t.0 z (λ has. absurd (has nothing))
+            (r.no_hand, refl, refl) (λ q other. refl) t.1 record {
+              known = o.known;
+              allowed = o.allowed;
+              mine = o.mine;
+              ready = λ _. inr ((λ e. none-some h.0 (sym e)), refl);
+              due = λ one. absurd (omega arith);
+            } (λ c e. (z, refl, rw (same_Some h.0 c e) at h.2)),
         (((λ _. (h.0, refl, (t.0, t.1, h.2))), (λ nz. absurd (nz z)), o.known), (λ nz. absurd (nz z))),
       ))
       (λ nz. (
@@ -284,10 +212,24 @@ module _ {W S I O : Type 0} (stands : S → List I → List O → W → Type 0) 
       let near' : k < length s.homes = omega arith in
       let line' : get_elem? r.main.lines k ≡ some l = rw (← is, holds) line in
       let has : r.main.has ≡ Some c = rw (← is, holds, same) in let cell : r.main.cell ≡ k = rw (← is, holds) in
+      let next : Line S I O = handed_over l c c' new in
+      let home = set_here s.homes k (some (Some c')) near' in
+      let held : Has stands s.words r.main.lines k 0 c (Ready stands) = rw cell at (r.has c has) in
+      let stood : stands l.seed l.handed (l.back ++ c.outs.items) c'.work =
+      rw (work, sym (some-injective held.0 l (sym held.1 ∙ line'))) held.3.0 in
+      let kept = main_moves s r k near' l line' new (some (Some c')) (with_line r.main k next) next held.2 (λ _. cell)
+      (r.no_hand, refl, length-set r.main.lines k next) (λ q other. set_else r.main.lines k q next other)
+      (set_here r.main.lines k next (within r.main.lines k l line')) record {
+        known = grind arith;
+        allowed = allowed;
+        mine = λ e. eqb-true new 0 e;
+        ready = λ z. inl (c', home, (grind (arith, append-nil), count, λ _. outs));
+        due = λ one. inl (c', home, (l.handed, refl, stood, outs, count));
+      } (λ y e. absurd (none-some y e)) in
       rw (is_first, is) (
-        with_line r.main k (handed_over l c c' new),
+        with_line r.main k next,
         gives,
         tt,
-        rw holds (hands s r k near' l line' c c' new has cell work outs count allowed turn),
+        rw holds kept,
         (l, c, c', line', has, rw holds, refl),
       )

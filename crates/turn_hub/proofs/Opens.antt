@@ -1,19 +1,15 @@
 -- The rule holds at the start, and a new hand keeps it.
-use Rattle.std.proofs.Common.{◌≡◌, ◌⊎◌, ℕ, suc, zero, ◌<◌, List, [], ◌∷◌, ◌++◌, map, length, set, sym, refl, ap}
-use Rattle.std.proofs.Common.{◌∙◌, inl, inr, ⊎_elim, arith, Option, Some, None}
-use Rattle.std.proofs.Math.Logic.{⊎_map}
-use Rattle.std.proofs.lemmas.List.{length-map}
+use Rattle.std.proofs.Common.{◌≡◌, ◌⊎◌, ℕ, suc, zero, ◌<◌, List, [], ◌∷◌, ◌++◌, map, length, set, sym, refl, ◌∙◌, inl}
+use Rattle.std.proofs.Common.{inr, ⊎_elim, arith, Option, Some, None}
+use Rattle.std.proofs.{Math.Logic.⊎_map, lemmas.List.length-map, lemmas.Option.none-some}
 use mathlib.Core.Option.{some, some-injective, some-ne-none}
 use lib.ListN.{get_elem?}
 use Rattle.std.specs.Prelude.{slice_index, All}
-use Rattle.std.proofs.lemmas.Option.{none-some}
 use Rattle.atomic_table.specs.Table.{State, opening, Splits}
 use Rattle.atomic_table.proofs.Lists.{at_set, set_here, at_longer, at_map}
-use Rattle.turn_hub.specs.declared.view.Cell.{Cell}
-use Rattle.turn_hub.specs.declared.view.View.{View}
-use Rattle.turn_hub.specs.Rule.{Ruled}
+use Rattle.turn_hub.specs.declared.{view.Cell.Cell, view.View.View}
+use Rattle.turn_hub.specs.{Rule.Ruled, Ends.IsFresh}
 use Rattle.turn_hub.specs.Steps.{started, first_view, one_more, new_hand}
-use Rattle.turn_hub.specs.Ends.{IsFresh}
 use Rattle.turn_hub.proofs.Keeps.{still_out, within}
 
 module _ {A : Type 0} where
@@ -22,7 +18,7 @@ module _ {A : Type 0} where
   at_end [] a b zero e = inr (refl, some-injective a b e)
   at_end [] a b (suc j) e = absurd (some-ne-none b (sym e))
   at_end (x ∷ xs) a b zero e = inl e
-  at_end (x ∷ xs) a b (suc j) e = ⊎_elim (λ t. inl t) (λ t. let n = t.0 in inr (omega arith, t.1)) (at_end xs a b j e)
+  at_end (x ∷ xs) a b (suc j) e = let old = at_end xs a b j e in grind arith
 
   pub from_map : {B : Type 0} (f : A → B) (xs : List A) (k : ℕ) (y : B) → get_elem? (map f xs) k ≡ some y
       → (x : A) × (get_elem? xs k ≡ some x) × (f x ≡ y)
@@ -50,11 +46,7 @@ module _ {W S I O : Type 0} (stands : S → List I → List O → W → Type 0) 
               known = omega (arith, zero_word);
               allowed = none_may (seed t.0);
               mine = λ _. zero_word;
-              ready = λ _. inl (
-                f.0,
-                at_map some slots k (Some f.0) f.1,
-                (rw (f.4, f.2) (starts k t.0 t.1), f.3, λ _. f.4),
-              );
+              ready = λ _. inl (f.0, at_map some slots k (Some f.0) f.1, grind arith);
               due = λ one. absurd (omega (arith, zero_word, one));
             };
         each_hand = λ j v k seated num. absurd (alone j v k seated num);
@@ -63,8 +55,8 @@ module _ {W S I O : Type 0} (stands : S → List I → List O → W → Type 0) 
     where
       alone : (j : ℕ) (v : View W S I O) (k : ℕ) → get_elem? (first_view {I = I} {O = O} seed works ∷ []) j ≡ some v
           → v.number ≡ Some k → ⊥
-      alone zero v k seated num = none-some k (ap (λ (u : View W S I O). u.number) (some-injective _ v seated) ∙ num)
-      alone (suc j) v k seated num = some-ne-none v (sym seated)
+      alone zero v k seated num = grind arith
+      alone (suc j) v k seated num = grind arith
 
   module _ (s : State (Option (Cell W I O)) (View W S I O)) (r : Ruled stands may s) where
     -- a seat with a number is an old hand, or the new one
@@ -72,10 +64,7 @@ module _ {W S I O : Type 0} (stands : S → List I → List O → W → Type 0) 
         → get_elem? (set s.views 0 (one_more r.main) ++ new_hand r.main ∷ []) j ≡ some u → u.number ≡ Some k
         → ((get_elem? s.views j ≡ some u) × (k < r.main.made))
         ⊎ ((j ≡ length (set s.views 0 (one_more r.main))) × (k ≡ r.main.made) × (u.has ≡ None))
-    split j u k e num = ⊎_map
-        (λ t. ⊎_elim (λ h. absurd (none-some k (sym r.no_hand ∙ ap (λ (y : View W S I O). y.number) h.1 ∙ num)))
-        (λ h. (h.1, (r.each_hand j u k h.1 num).below)) (at_set s.views 0 j (one_more r.main) u t))
-        (λ t. (t.0, cc (t.1, num), cc t.1)) (at_end (set s.views 0 (one_more r.main)) (new_hand r.main) u j e)
+    split j u k e num = grind (arith, ⊎_map, ⊎_elim, none-some, at_set, at_end)
 
     splits : Ruled stands may record {
       words = s.words;
@@ -96,25 +85,18 @@ module _ {W S I O : Type 0} (stands : S → List I → List O → W → Type 0) 
         mine = ok.mine;
         ready = ok.ready;
         due = λ one. ⊎_map (λ t. t)
-            (λ o. let p = still_out s.views 0 r.main (one_more r.main) k r.first o
-            (λ is. none-some k (sym r.no_hand ∙ rw (← is) o.3)) in
+            (λ o. let p = still_out s.views 0 r.main (one_more r.main) k r.first o (grind arith) in
             (p.0, p.1, at_longer old _ p.0 p.1 p.2, p.3, p.4)) (ok.due one);
       };
       each_hand = λ j u k e num. ⊎_elim
           (λ t. record { below = omega (arith, t.1); has = (r.each_hand j u k t.0 num).has })
-          (λ t. record { below = omega (arith, t.1); has = λ c h. absurd (none-some c (sym t.2 ∙ h)) })
-          (split j u k e num);
-      once = λ i j u y k e f num num'. ⊎_elim
-          (λ t. ⊎_elim (λ t'. r.once i j u y k t.0 t'.0 num num') (λ t'. absurd (omega (arith, t.1, t'.1)))
-          (split j y k f num'))
-          (λ t. ⊎_elim (λ t'. absurd (omega (arith, t.1, t'.1))) (λ t'. t.0 ∙ sym t'.0) (split j y k f num'))
-          (split i u k e num);
+          (λ t. record { below = omega (arith, t.1); has = λ c h. absurd cc }) (split j u k e num);
+      once = λ i j u y k e f num num'.
+          let a = split i u k e num in let b = split j y k f num' in let old = r.once i j u y k in grind arith;
     }
 
   pub new_hands : (id : ℕ) (v : View W S I O) → id ≡ 0 → Splits (Ruled stands may) id v (one_more v) (new_hand v)
-  new_hands id v is_first s r seated =
-      let is : v ≡ r.main = some-injective v r.main (sym seated ∙ rw is_first r.first) in
-      rw (is_first, is) (splits s r)
+  new_hands id v is_first s r seated = grind (arith, some-injective, splits)
 
 -- what holds in each place holds of each
 pub all_at : {A : Type 0} (P : A → Type 0) (xs : List A) → ((k : ℕ) (x : A) → get_elem? xs k ≡ some x → P x) → All P xs

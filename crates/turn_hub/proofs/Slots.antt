@@ -1,13 +1,11 @@
 -- What a seat has after it moved the cell of its slot out, and another in.
-use Rattle.std.proofs.Common.{◌≡◌, ℕ, List, ◌∷◌, Option, Some, None, get_or, ap, sym}
-use Rattle.std.proofs.lemmas.Option.{same_Some}
+use Rattle.std.proofs.Common.{◌≡◌, ℕ, List, ◌∷◌, Option, Some, None, arith}
 use Rattle.atomic_table.specs.Table.{Me, rest}
 
 module _ {C V : Type 0} {k : ℕ} {v : V} {x y : C} {xs : List (ℕ × Option C)} {me : Me (Option C) V} where
   -- out comes what lay there
   pub same_slot : me ≡ (v, (k, Some x) ∷ xs) → me.1 ≡ (k, Some y) ∷ rest me.1 → y ≡ x
-  same_slot held out =
-      same_Some y x (ap (λ (ys : List (ℕ × Option C)). (get_or ys 0 (k, None)).1) (sym (rw held at out)))
+  same_slot held out = grind arith
 
   -- and another cell is in after both moves
   pub swapped_out : {z : C} {me' me'' : Me (Option C) V} → me ≡ (v, (k, Some x) ∷ xs)

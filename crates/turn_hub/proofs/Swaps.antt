@@ -1,14 +1,11 @@
 -- What a swap that gave the cell back tells.
-use Rattle.std.proofs.Common.{◌≡◌, ◌≢◌, ◌⊎◌, ℕ, List, [], ◌∷◌, ◌++◌, length, set, sym, refl, ap, ◌∙◌, arith, Some, ◌==◌}
-use Rattle.std.proofs.Math.Logic.{⊎_map}
-use Rattle.std.proofs.lemmas.Bool.Decides.{nat_tests}
-use Rattle.std.proofs.lemmas.List.{nil_from_length}
-use Rattle.std.proofs.lemmas.Option.{same_Some}
+use Rattle.std.proofs.Common.{◌≡◌, ◌≢◌, ◌⊎◌, ℕ, List, [], ◌∷◌, ◌++◌, length, set, sym, refl, ◌∙◌, arith, Some, ◌==◌}
+use Rattle.std.proofs.{Math.Logic.⊎_map, lemmas.Bool.Decides.nat_tests, lemmas.List.nil_from_length}
+use Rattle.std.proofs.{lemmas.Option.same_Some}
 use mathlib.Core.Option.{some, none, some-injective}
 use lib.ListN.{get_elem?}
 use Rattle.atomic_table.specs.Table.{step}
-use Rattle.turn_hub.specs.declared.view.Cell.{Cell}
-use Rattle.turn_hub.specs.declared.view.Line.{Line}
+use Rattle.turn_hub.specs.declared.{view.Cell.Cell, view.Line.Line}
 use Rattle.turn_hub.specs.Steps.{Seated, looked, main_looks, IsLeft, hands_over, ReadyAt}
 use Rattle.turn_hub.specs.Answers.{LooksOnce, swapped_line}
 use Rattle.turn_hub.proofs.Slots.{same_slot}
@@ -16,8 +13,7 @@ use Rattle.turn_hub.proofs.Slots.{same_slot}
 -- no items, or some
 pub turn_is : {A : Type 0} (xs : List A) (n g : ℕ) → g ≡ length xs → ((n ≡ 0) × (g ≡ 0)) ⊎ ((n ≡ 1) × (g ≢ 0))
     → ((n ≡ 0) × (xs ≡ [])) ⊎ ((n ≡ 1) × (xs ≢ []))
-turn_is xs n g e =
-    ⊎_map (λ t. (t.0, nil_from_length xs (sym e ∙ t.1))) (λ t. (t.0, λ none. t.1 (e ∙ ap length none)))
+turn_is xs n g e = grind (arith, ⊎_map, nil_from_length, none)
 
 pub turn_same : {A : Type 0} (xs : List A) (n g : ℕ) → g ≡ length xs → ((n ≡ 0) × (g ≡ 0)) ⊎ ((n ≡ 1) × (g ≢ 0))
     → (n == 0) ≡ (length xs == 0)

@@ -1,6 +1,6 @@
 -- takes and leads, said by stands and may alone, meet the laws of a Work.
 use Rattle.turn_hub.specs.Work.{Takes, Leads}
-use Rattle.std.proofs.Common.{List, [], ◌++◌, append-nil, append_assoc}
+use Rattle.std.proofs.Common.{List, [], ◌++◌, append-nil, append_assoc, arith}
 
 module _ {W S I O : Type 0} (stands : S → List I → List O → W → Type 0) (may : S → List I → Type 0)
     (less : (s : S) (a b : List I) → may s (a ++ b) → may s a) where
@@ -9,13 +9,11 @@ module _ {W S I O : Type 0} (stands : S → List I → List O → W → Type 0) 
 
   pub leads_on : (w : W) (a : List I) (x : W) (p : List O) (b : List I) (y : W) (q : List O)
       → Leads stands may w a x p → Leads stands may x b y q → Leads stands may w (a ++ b) y (p ++ q)
-  leads_on w a x p b y q l m s t g st all = let both : may s ((t ++ a) ++ b) = simp append_assoc all in
-      simp append_assoc at (m s (t ++ a) (g ++ p) (l s t g st (less s (t ++ a) b both)) both)
+  leads_on w a x p b y q l m s t g st all = grind (arith, append_assoc)
 
   pub takes_less : (w : W) (a b : List I) → Takes stands may w (a ++ b) → Takes stands may w a
   takes_less w a b k = (k.0, k.1, k.2, k.3, less k.0 (k.1 ++ a) b (simp append_assoc k.4))
 
   pub takes_on : (w : W) (a b : List I) (x : W) (outs : List O) → Takes stands may w (a ++ b)
       → Leads stands may w a x outs → Takes stands may x b
-  takes_on w a b x outs k l = let both : may k.0 ((k.1 ++ a) ++ b) = simp append_assoc k.4 in
-      (k.0, k.1 ++ a, k.2 ++ outs, l k.0 k.1 k.2 k.3 (less k.0 (k.1 ++ a) b both), both)
+  takes_on w a b x outs k l = grind (arith, append_assoc)

@@ -1,8 +1,6 @@
 use Rattle.std.proofs.Common.{◌≡◌, ◌<◌, ◌≤◌, ◌+◌, ℕ, List, [], ◌∷◌, ◌++◌, length, ap, sym, ◌∙◌, arith, length-append}
-use Rattle.std.proofs.Common.{Some, Option, get_or, set, true, false, Bool, get_or-set_same, get_or-set_other}
-use Rattle.std.proofs.lemmas.Option.{none-some, same_Some}
-use mathlib.Core.Logic.{dite}
-use native.Mathlib.Decide.{ℕ_discrete}
+use Rattle.std.proofs.Common.{Some, Option, get_or, set, true, false, Bool, get_or-set_other}
+use Rattle.std.proofs.{lemmas.Option.none-some, lemmas.Grind.get_or-set_at}
 use mathlib.Core.Option.{some, some-injective}
 use lib.ListN.{get_elem?}
 use Rattle.atomic_table.proofs.Lists.{at_longer, at_last}
@@ -16,20 +14,15 @@ more_works : {W I O : Type 0} (slots : List (Option (Cell W I O))) (works : List
     → ((k : ℕ) (x : Cell W I O) → k < n → get_elem? slots k ≡ some (Some x) → get_elem? works k ≡ some x.work)
     → (k : ℕ) (x : Cell W I O) → k < n + 1 → get_elem? slots k ≡ some (Some x)
     → get_elem? (works ++ c.work ∷ []) k ≡ some x.work
-more_works slots works n c long there old k x below e = dite (ℕ_discrete k n)
-    (λ is. rw (is, at_last works c.work n long, same_Some c x (some-injective _ _ (sym there ∙ (rw is at e)))))
-    (λ other. at_longer works (c.work ∷ []) k x.work (old k x (omega arith) e))
+more_works slots works n c long there old k x below e = grind (arith, at_last, at_longer)
 
 all_taken : (fs : List Bool) (k n : ℕ) → k < n → n ≡ length fs → ((q : ℕ) → q < k → get_or fs q false ≡ false)
     → (q : ℕ) → q < k + 1 → get_or (set fs k false) q false ≡ false
-all_taken fs k n near long old q below = dite (ℕ_discrete q k)
-    (λ is. rw is (get_or-set_same fs k false false (omega arith)))
-    (λ other. get_or-set_other fs k q false false other ∙ old q (omega arith))
+all_taken fs k n near long old q below = grind (arith, get_or-set_at, get_or-set_other)
 
 still_full : (fs : List Bool) (k n : ℕ) → ((q : ℕ) → k ≤ q → q < n → get_or fs q false ≡ true) → (q : ℕ) → k + 1 ≤ q
     → q < n → get_or (set fs k false) q false ≡ true
-still_full fs k n old q above below =
-    get_or-set_other fs k q false false (λ e. omega arith) ∙ old q (omega arith) below
+still_full fs k n old q above below = grind (arith, get_or-set_other)
 
 pub unreachable-requires : goal.unreachable-requires
 unreachable-requires g c = let i = c.loop-k.invariant in
@@ -53,8 +46,5 @@ loop-k-preserved g c = let i = c.loop-k.invariant in let t = c.in-Some.ensures {
 
 pub returns : goal.returns
 returns g c = let i = c.loop-k.invariant in let k : ℕ = c.loop-k.k in
-    let test : c.slot_count-k-end.result ≤ k = c.loop-k-test.false in
-    let upto : k ≤ c.slot_count-k-end.result = c.loop-k.auto.k-end in
-    let same : k ≡ c.slot_count-k-end.result = omega arith in
-    let whole : k ≡ length (slots_items c.args.closed.slots) = same ∙ i.3 ∙ i.4 ∙ c.args.closed.slots.ok.0 in
+    let whole : k ≡ length (slots_items c.args.closed.slots) = omega (arith, i.3, i.4) in
     (i.5 ∙ whole, λ q x e. i.7 q x (rw whole (within _ q (Some x) e)) (rw i.2 e))

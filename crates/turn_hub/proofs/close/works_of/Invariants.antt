@@ -1,9 +1,8 @@
 use Rattle.std.proofs.Common.{◌≡◌, ◌<◌, ◌≤◌, ℕ, false, get_or, length, Some}
-use Rattle.std.specs.Prelude.{vec_capacity}
+use Rattle.std.specs.{Prelude.vec_capacity, Mem.Slots.Ownership.Filled}
 use mathlib.Core.Option.{some}
 use lib.ListN.{get_elem?}
 use Rattle.std.specs.Mem.Slots.{slots_filled, slots_len, slots_items}
-use Rattle.std.specs.Mem.Slots.Ownership.{Filled}
 use Rattle.turn_hub.specs.declared.view.Cell.{Cell}
 use Rattle.turn_hub.proofs.close.works_of.Given as goal
 

@@ -1,14 +1,5 @@
-use Rattle.turn_hub.proofs.WorkLemmas.{leads_none, leads_on, takes_less, takes_on}
+use Rattle.turn_hub.proofs.WorkLemmas.{leads_on, takes_less, takes_on}
 use Rattle.turn_hub.proofs.laws.takes_and_leads.Goals as goal
-
-pub returns-clause-stands_takes : goal.returns-clause-stands_takes
-returns-clause-stands_takes g c s t given w items stood allowed = (s, t, given, stood, allowed)
-
-pub returns-clause-stands_on : goal.returns-clause-stands_on
-returns-clause-stands_on g c s t given w items x outs stood allowed led = led s t given stood allowed
-
-pub returns-clause-leads_none : goal.returns-clause-leads_none
-returns-clause-leads_none g c = leads_none g.W.Work.stands g.W.Work.may g.met.W.Work.may_less
 
 pub returns-clause-leads_on : goal.returns-clause-leads_on
 returns-clause-leads_on g c = leads_on g.W.Work.stands g.W.Work.may g.met.W.Work.may_less

@@ -1,7 +1,7 @@
-use Rattle.std.proofs.Common.{◌≡◌, ◌++◌, ◌+◌, [], ◌∷◌, ℕ, List, length, ap, sym, ◌∙◌}
-use Rattle.std.proofs.Common.{append-nil, append_assoc, length-append, Option, Some, ⊎_elim, arith, suc}
+use Rattle.std.proofs.Common.{◌≡◌, ◌++◌, ◌+◌, [], ◌∷◌, ℕ, List, length, ap, sym, ◌∙◌, append-nil, append_assoc}
+use Rattle.std.proofs.Common.{length-append, Option, Some, ⊎_elim, arith}
 use Rattle.std.proofs.lemmas.List.{nil_from_length}
-use mathlib.Core.Option.{some, some-ne-none}
+use mathlib.Core.Option.{some}
 use lib.ListN.{get_elem?}
 use Rattle.atomic_table.proofs.Lists.{at_longer, at_last}
 use Rattle.turn_hub.specs.declared.view.Cell.{Cell}
@@ -15,23 +15,13 @@ more_fresh : {W I O : Type 0} (works : List W) (slots : List (Option (Cell W I O
     → get_elem? (works ++ w ∷ []) k ≡ some x → IsFresh (slots ++ Some c ∷ []) k x
 more_fresh works slots w c long new old k x e = ⊎_elim
     (λ t. let f = old k x t in (f.0, at_longer slots (Some c ∷ []) k (Some f.0) f.1, f.2, f.3, f.4))
-    (λ t. (c, rw t.0 (at_last slots (Some c) (length works) long), new.0 ∙ t.1, new.1, new.2))
-    (at_end works w x k e)
-
-pub loop-work-init : goal.loop-work-init
-loop-work-init g c = let e = c.in_ok-slots.ensures {u = tt} in (
-  sym c.into_iter-work-iterator.ensures.into_iter_gives.0,
-  ap length e.items,
-  λ k w h. absurd (some-ne-none w (sym h)),
-  rw (← c.args.works.ok.0, ← c.len.ensures) e.capacity,
-)
+    (λ t. (c, rw t.0 (at_last slots (Some c) (length works) long), new.0 ∙ t.1, new.1, new.2)) (at_end works w x k e)
 
 pub push_reserved-requires : goal.push_reserved-requires
 push_reserved-requires g c =
-    let i = c.loop-work.invariant in let left = c.next.new.self.rest.items in let long = c.loop-work.slots.ok.0 in
-    let all : length c.args.works.items ≡ length c.loop-work.yielded + suc (length left) =
-    rw (i.0, (c.in-Some.ensures {u = tt}).steps.0) (length-append c.loop-work.yielded (c.in-Some.work ∷ left)) in
-    let wide = i.1 in let room = i.3 in omega arith
+    let i = c.loop-work.invariant in
+    let all = simp length-append at (ap length (rw (c.in-Some.ensures {u = tt}).steps.0 at i.0)) in
+    omega (arith, i.1, i.3, c.loop-work.slots.ok.0)
 
 pub loop-work-preserved : goal.loop-work-preserved
 loop-work-preserved g c = let steps = (c.in-Some.ensures {u = tt}).steps in let i = c.loop-work.invariant in let p =
@@ -45,9 +35,6 @@ loop-work-preserved g c = let steps = (c.in-Some.ensures {u = tt}).steps in let 
 
 pub returns : goal.returns
 returns g c = let i = c.loop-work.invariant in let rest = c.loop-work.work-iterator.rest in
-    let all : c.args.works.items ≡ c.loop-work.yielded = rw (
-      i.0,
-      nil_from_length rest.items (sym rest.ok.0 ∙ (c.in-None.ensures {u = tt}).steps.0),
-      append-nil,
-    ) in
+    let none = nil_from_length rest.items (sym rest.ok.0 ∙ (c.in-None.ensures {u = tt}).steps.0) in
+    let all : c.args.works.items ≡ c.loop-work.yielded = rw (i.0, none, append-nil) in
     (rw all i.1, λ k w e. i.2 k w (rw all at e))

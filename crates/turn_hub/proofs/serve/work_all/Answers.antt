@@ -1,5 +1,4 @@
-use Rattle.std.proofs.Common.{◌≡◌, ◌++◌, [], ◌∷◌, sym, ◌∙◌, append-nil, append_assoc}
-use Rattle.std.proofs.lemmas.List.{nil_from_length}
+use Rattle.std.proofs.Common.{◌++◌, [], ◌∷◌, sym, ◌∙◌, append-nil, append_assoc}
 use Rattle.turn_hub.proofs.WorkLemmas.{leads_none, leads_on, takes_less, takes_on}
 use Rattle.turn_hub.proofs.serve.work_all.Goals as goal
 
@@ -39,10 +38,3 @@ loop-item-preserved g c =
             c.loop-item.cell.work before.0 item c.work_one.new.cell.work did.0 before.2 did.2,
       ),
     )
-
-pub returns-clause-did : goal.returns-clause-did
-returns-clause-did g c =
-    let i = c.loop-item.invariant in let rest = c.loop-item.item-iterator.rest in
-    let none = nil_from_length rest.items (sym rest.ok.0 ∙ (c.in-None.ensures {u = tt}).steps.0) in
-    let all : c.args.cell.now.items.items ≡ c.loop-item.yielded = rw (i.0, none, append-nil) in
-    (i.3.0, i.3.1, rw all i.3.2)

@@ -1,21 +1,15 @@
-use Rattle.std.proofs.Common.{◌<◌, suc, refl, ap, ◌∙◌, arith}
+use Rattle.std.proofs.Common.{suc, ap, ◌∙◌, arith}
 use Rattle.turn_hub.proofs.Hands.{hands_join}
 use Rattle.turn_hub.proofs.hub.Hub.join_hands.Goals as goal
-
-pub loop-hand-init : goal.loop-hand-init
-loop-hand-init g c =
-    (c.requires.main, refl, rw c.into_iter-hand-iterator.ensures.into_iter_gives.0 c.requires.hands)
 
 pub join_seat-requires : goal.join_seat-requires
 join_seat-requires g c =
     let m = c.loop-hand.invariant.0 in let main = c.loop-hand.main.seat in let hand = c.in-Some.hand.seat in
-    let h = (rw (c.in-Some.ensures {u = tt}).steps.0 at c.loop-hand.invariant.2) 0 c.in-Some.hand (omega arith) in
-    let sized = c.args.self.now.sized in
-    let near : c.in-Some.hand.cell < c.args.self.now.table.shared.table_id.slots = h.4 in (
+    let h = (rw (c.in-Some.ensures {u = tt}).steps.0 at c.loop-hand.invariant.2) 0 c.in-Some.hand (omega arith) in (
       m.0,
       h.0,
       h.1,
-      (let w : 0 < c.args.self.now.table.shared.table_id.words = omega arith in w),
+      omega (arith, h.4, c.args.self.now.sized),
       hands_join g.W.Work.stands g.W.Work.may main.id main.me.0 hand.id hand.me.0 m.1 h.2,
     )
 

@@ -10,9 +10,6 @@ load-found-requires g c = let m = c.requires.hand in (
   hand_loads g.W.Work.stands g.W.Work.may _ _ c.args.hand.now.cell c.args.hand.now.seat.me m.3 m.2 m.4,
 )
 
-pub take_cell-cell-requires-clause-hub : goal.take_cell-cell-requires-clause-hub
-take_cell-cell-requires-clause-hub g c = c.load-found.ensures.0 ∙ c.requires.hand.0
-
 pub take_cell-cell-requires-clause-has : goal.take_cell-cell-requires-clause-has
 take_cell-cell-requires-clause-has g c = let p = c.load-found.ensures.2.0 c.if-found-ne-HAND_TURN.false in
     (p.0, rw p.1)

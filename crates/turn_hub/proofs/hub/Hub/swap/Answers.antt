@@ -1,7 +1,6 @@
 use Rattle.std.proofs.Common.{◌≡◌, ◌<◌, refl, ap, ◌∙◌, arith}
 use Rattle.turn_hub.proofs.Swaps.{turn_is, turn_same, looks_once, swaps}
-use Rattle.turn_hub.proofs.Keeps.{main_loads, main_stores}
-use Rattle.turn_hub.proofs.Slots.{swapped_out}
+use Rattle.turn_hub.proofs.{Keeps.main_loads, Keeps.main_stores, Slots.swapped_out}
 use Rattle.turn_hub.proofs.hub.Hub.swap.Goals as goal
 
 pub load-found-requires : goal.load-found-requires
@@ -10,9 +9,6 @@ load-found-requires g c = let m = c.requires.main in (
   rw c.args.self.now.sized m.1,
   main_loads g.W.Work.stands g.W.Work.may _ _ c.args.number c.args.main.now.seat.me m.0.1 m.0.3 m.0.4 m.1,
 )
-
-pub take_cell-cell-requires-clause-hub : goal.take_cell-cell-requires-clause-hub
-take_cell-cell-requires-clause-hub g c = c.load-found.ensures.0 ∙ c.requires.main.0.0
 
 pub take_cell-cell-requires-clause-has : goal.take_cell-cell-requires-clause-has
 take_cell-cell-requires-clause-has g c = let p = c.load-found.ensures.2.0.0 c.if-found-ne-MAIN_TURN.false in
