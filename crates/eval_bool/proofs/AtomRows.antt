@@ -1,27 +1,19 @@
 -- The rows that are read off events, one event after another, and the events that they stand for.
-use Rattle.std.proofs.Common.{◌≡◌, ◌∙◌, ap, sym, refl, ℕ, true, false, nat_eq, ◌&&◌, List, []}
-use Rattle.std.proofs.Common.{◌∷◌, length, map}
+use Rattle.std.proofs.Common.{◌≡◌, ◌∙◌, ap, sym, refl, ℕ, true, false, nat_eq, ◌&&◌, List, [], ◌∷◌, length, map}
 use Rattle.std.proofs.lemmas.Bool.{and_from, and_parts, eq-eqb}
-use Rattle.std.proofs.lemmas.List.{length-map}
-use Rattle.std.proofs.lemmas.Map.Views.{tells_apart}
-use Rattle.std.specs.List.{filter, flat_map}
-use Rattle.std.specs.Ordering.{eq_by_cmp}
-use Rattle.std.specs.Cmp.{both_ways}
-use Rattle.mfotl_model.proofs.AscendingLemmas.{any_ascending}
+use Rattle.std.proofs.{lemmas.List.length-map, lemmas.Map.Views.tells_apart}
+use Rattle.std.specs.{List.filter, List.flat_map, Ordering.eq_by_cmp, Cmp.both_ways}
+use Rattle.mfotl_model.proofs.{AscendingLemmas.any_ascending, MatchingLemmas.reads_own, MatchingLemmas.same_event_of}
+use Rattle.mfotl_model.proofs.{RowLemmas.event_exact, RowLemmas.row_exact, ColumnLemmas.same_columns}
+use Rattle.mfotl_model.proofs.{ColumnLemmas.distinct_apart}
 use Rattle.mfotl_model.proofs.LogicLemmas.{absorbed, among_distinct, any_alike, any_map, any_filter}
-use Rattle.mfotl_model.proofs.MatchingLemmas.{reads_own, same_event_of}
-use Rattle.mfotl_model.proofs.RowLemmas.{event_exact, row_exact}
-use Rattle.mfotl_model.proofs.ColumnLemmas.{same_columns, distinct_apart}
-use Rattle.mfotl_model.specs.Ascending.{ascending}
+use Rattle.mfotl_model.specs.{Ascending.ascending, Values.row_cmp}
 use Rattle.mfotl_model.specs.Events.{event_cmp, event_total, has_pred}
 use Rattle.mfotl_model.specs.FreeVariables.{among, variable_in, variables_in}
 use Rattle.mfotl_model.specs.Matching.{Query, is_match, matching_rows, reads, row_read}
 use Rattle.mfotl_model.specs.Satisfaction.{Valuation, event_of, has_event}
 use Rattle.mfotl_model.specs.Tables.{all_apart, all_sized, has_row}
-use Rattle.mfotl_model.specs.Values.{row_cmp}
-use Rattle.mfotl_model.specs.declared.event.Event.{Event}
-use Rattle.mfotl_model.specs.declared.term.Atom.{Atom as OneAtom}
-use Rattle.mfotl_model.specs.declared.term.Term.{Term}
+use Rattle.mfotl_model.specs.declared.{event.Event.Event, term.Atom.Atom as OneAtom, term.Term.Term}
 use Rattle.eval_bool.specs.AtomSteps.{atom_rows}
 use Rattle.relations.proofs.JoinLemmas.{row_itself, same_each}
 

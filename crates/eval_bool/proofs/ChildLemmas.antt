@@ -1,14 +1,10 @@
 -- Children whose tables alone change: which columns they bind, and that what holds of a conjunction stays.
 use Rattle.std.proofs.Common.{◌≡◌, ℕ, zero, suc, ◌+◌, ◌<◌, ◌≤◌, ◌^◌, Bool, true, cond, ◌&&◌, List, [], ◌∷◌, ◌++◌}
 use Rattle.std.proofs.Common.{length, map, get_or, slice_set, drop, refl, sym, subst, ap, ◌∙◌, arith}
-use Rattle.std.proofs.lemmas.Bool.{and_parts}
-use Rattle.std.proofs.lemmas.List.{length-append}
-use Rattle.std.specs.List.{list_all}
-use Rattle.mfotl_model.specs.FreeVariables.{among}
+use Rattle.std.proofs.{lemmas.Bool.and_parts, lemmas.List.length-append, lemmas.Grind.common_steps}
+use Rattle.std.specs.{List.list_all, Prelude.nat_lt}
 use Rattle.mfotl_model.specs.Tables.{TableOf, all_among}
-use Rattle.std.specs.Prelude.{nat_lt}
-use Rattle.eval_bool.specs.Heads.{advanced_to}
-use Rattle.eval_bool.specs.IsJoin.{FewFrom, IsJoin}
+use Rattle.eval_bool.specs.{Heads.advanced_to, IsJoin.FewFrom, IsJoin.IsJoin}
 use Rattle.eval_bool.specs.JoinView.{ChildOf, TestOf, all_children, bound_columns, child_advanced, child_columns}
 use Rattle.eval_bool.specs.JoinView.{child_pushed, child_tables, compared_variables, is_guarded}
 
@@ -44,13 +40,7 @@ guarded_alike xs ys tests same =
 
 pub join_alike : (columns : List ℕ) (tests : List TestOf) (p q : ℕ) (xs ys : List ChildOf) → IsJoin columns tests p xs
     → Alike xs ys → FewFrom q ys → IsJoin columns tests q ys
-join_alike columns tests p q xs ys is same few =
-    record {
-      apart = is.apart;
-      same = λ y. is.same y ∙ ap (among y) (bound_alike xs ys same);
-      guarded = sym (guarded_alike xs ys tests same) ∙ is.guarded;
-      few = few;
-    }
+join_alike columns tests p q xs ys is same few = grind (arith, bound_alike, guarded_alike)
 
 -- ---- one position pulled
 
@@ -60,29 +50,21 @@ alike_to (suc n) [] = tt
 alike_to (suc n) (x ∷ xs) = (refl, refl, alike_to n xs)
 
 shorter : (tables : List TableOf) → length (drop 1 tables) ≤ length tables
-shorter [] = omega arith
-shorter (t ∷ tables) = omega arith
+shorter tables = grind arith
 
 few_to : (p n : ℕ) (xs : List ChildOf) → FewFrom p xs → FewFrom p (advanced_to n xs)
 few_to p zero xs few = few
 few_to p (suc n) [] few = tt
-few_to p (suc n) (x ∷ xs) few = (
-  let a = few.0 in
-      let b = shorter x.tables in
-      omega arith,
-  few_to p n xs few.1,
-)
+few_to p (suc n) (x ∷ xs) few = grind (arith, shorter, few_to p n xs few.1)
 
 -- after some of the first tables were taken
 pub join_to : (columns : List ℕ) (tests : List TestOf) (p n : ℕ) (xs : List ChildOf) → IsJoin columns tests p xs
     → IsJoin columns tests p (advanced_to n xs)
-join_to columns tests p n xs is =
-    join_alike columns tests p p xs (advanced_to n xs) is (alike_to n xs) (few_to p n xs is.few)
+join_to columns tests p n xs is = search (join_alike, alike_to, few_to)
 
 pub join_stays : (columns : List ℕ) (tests : List TestOf) (p : ℕ) (xs ys : List ChildOf)
     → IsJoin columns tests p xs → ((n : ℕ) × (ys ≡ advanced_to n xs)) → IsJoin columns tests p ys
-join_stays columns tests p xs ys is to =
-    subst (IsJoin columns tests p) (sym to.1) (join_to columns tests p to.0 xs is)
+join_stays columns tests p xs ys is to = grind (arith, join_to columns tests p to.0 xs is)
 
 alike_advanced : (xs : List ChildOf) → Alike xs (map child_advanced xs)
 alike_advanced [] = tt
@@ -90,8 +72,7 @@ alike_advanced (x ∷ xs) = (refl, refl, alike_advanced xs)
 
 one_less : (p : ℕ) (tables : List TableOf) → nat_lt 0 (length tables) ≡ true → p + length tables ≤ 2 ^ 63
     → p + 1 + length (drop 1 tables) ≤ 2 ^ 63
-one_less p [] some few = cc
-one_less p (t ∷ tables) some few = omega arith
+one_less p tables some few = grind arith
 
 few_advanced : (p : ℕ) (xs : List ChildOf) → list_all (λ c. nat_lt 0 (length c.tables)) xs ≡ true → FewFrom p xs
     → FewFrom (p + 1) (map child_advanced xs)
@@ -114,13 +95,7 @@ join_advances columns tests p xs ys is due e =
 pub few_pulled : (p : ℕ) (xs : List ChildOf) → (xs ≡ [] → p < 2 ^ 63)
     → list_all (λ c. nat_lt 0 (length c.tables)) xs ≡ true → FewFrom p xs → p < 2 ^ 63
 few_pulled p [] childless due few = childless refl
-few_pulled p (x ∷ xs) childless due few =
-    let parts = and_parts (nat_lt 0 (length x.tables)) (list_all (λ c. nat_lt 0 (length c.tables)) xs) due in
-    below x.tables parts.0 few.0
-  where
-    below : (tables : List TableOf) → nat_lt 0 (length tables) ≡ true → p + length tables ≤ 2 ^ 63 → p < 2 ^ 63
-    below [] some few = cc
-    below (t ∷ tables) some few = omega arith
+few_pulled p (x ∷ xs) childless due few = grind arith
 
 -- ---- one table pushed
 
@@ -132,11 +107,7 @@ alike_pushed (x ∷ xs) (suc n) t = (refl, refl, alike_pushed xs n t)
 few_pushed : (p n : ℕ) (xs : List ChildOf) (t : TableOf) → FewFrom p xs → p + length (child_tables xs n) < 2 ^ 63
     → FewFrom p (child_pushed xs n t)
 few_pushed p n [] t few room = tt
-few_pushed p zero (x ∷ xs) t few room = (
-  let size : length (x.tables ++ t ∷ []) ≡ length x.tables + 1 = length-append x.tables (t ∷ []) in
-      omega arith,
-  few.1,
-)
+few_pushed p zero (x ∷ xs) t few room = grind (arith, length-append)
 few_pushed p (suc n) (x ∷ xs) t few room = (few.0, few_pushed p n xs t few.1 room)
 
 pub join_pushed : (columns : List ℕ) (tests : List TestOf) (p n : ℕ) (xs ys : List ChildOf) (t : TableOf)
@@ -167,6 +138,4 @@ pushed_at (x ∷ xs) (suc n) d new t within e = ap (λ zs. x ∷ zs) (pushed_at 
 
 pub same_at : (xs : List ChildOf) (n : ℕ) (d new : ChildOf) → n < length xs → new ≡ get_or xs n d
     → slice_set xs n new ≡ xs
-same_at [] n d new within e = absurd (omega arith)
-same_at (x ∷ xs) zero d new within e = ap (λ z. z ∷ xs) e
-same_at (x ∷ xs) (suc n) d new within e = ap (λ zs. x ∷ zs) (same_at xs n d new (omega arith) e)
+same_at xs n d new within e = grind (arith, common_steps, zero)

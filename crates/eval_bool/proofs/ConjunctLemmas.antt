@@ -1,23 +1,18 @@
 -- The columns of conjuncts, and that what holds of a conjunction holds before the first position.
-use Rattle.std.proofs.Common.{◌≡◌, ℕ, ◌+◌, ◌<◌, true, false, List, [], ◌∷◌, length, get_or, map, drop, drop-cons}
-use Rattle.std.proofs.Common.{add-one, suc, refl, sym, subst, ap, ◌∙◌, inl, inr, arith}
-use Rattle.std.specs.Prelude.{nat_eq}
+use Rattle.std.proofs.Common.{◌≡◌, ℕ, ◌+◌, ◌<◌, true, false, List, [], ◌∷◌, length, get_or, map, drop, drop-cons, refl}
+use Rattle.std.proofs.Common.{sym, ◌∙◌, inl, inr, arith}
+use Rattle.std.specs.{Prelude.nat_eq, List.list_all, Cmp.both_ways}
 use Rattle.std.proofs.lemmas.Bool.{and_parts, or_cases, or_left, or_right}
 use Rattle.std.proofs.lemmas.List.Folds.{list_any-append}
-use Rattle.std.specs.List.{list_all}
-use Rattle.std.specs.Cmp.{both_ways}
-use Rattle.mfotl_model.proofs.LogicLemmas.{all_alike, among_joined}
-use Rattle.mfotl_model.proofs.VariableLemmas.{joined_assoc}
-use Rattle.mfotl_model.proofs.ColumnLemmas.{joined_apart}
-use Rattle.mfotl_model.specs.FreeVariables.{among, joined}
-use Rattle.mfotl_model.specs.Tables.{all_among, all_apart}
+use Rattle.mfotl_model.proofs.{LogicLemmas.all_alike, LogicLemmas.among_joined, VariableLemmas.joined_assoc}
+use Rattle.mfotl_model.proofs.{ColumnLemmas.joined_apart}
+use Rattle.mfotl_model.specs.{FreeVariables.among, FreeVariables.joined, Tables.all_among, Tables.all_apart}
 use Rattle.relations.proofs.JoinLemmas.{all_members, member_of_all}
 use Rattle.eval_bool.proofs.AtomRows.{variables_apart}
-use Rattle.eval_bool.specs.IsJoin.{FewFrom, IsJoin}
+use Rattle.eval_bool.specs.{IsJoin.FewFrom, IsJoin.IsJoin, JoinView.ConjunctOf.Child, JoinView.ConjunctOf.Test}
 use Rattle.eval_bool.specs.JoinView.{ChildOf, ConjunctOf, TestOf, all_children, bound_columns, children_of}
 use Rattle.eval_bool.specs.JoinView.{compared_variables, conjunct_columns, conjunct_of, is_guarded, own_columns}
 use Rattle.eval_bool.specs.JoinView.{tests_of}
-use Rattle.eval_bool.specs.JoinView.ConjunctOf.{Child, Test}
 use Rattle.eval_bool.specs.declared.conjunct.Conjunct.{Conjunct}
 
 conjunct_apart : (cs : List ConjunctOf) → all_children all_apart (children_of cs) ≡ true
@@ -26,18 +21,12 @@ conjunct_apart [] apart = refl
 conjunct_apart (Child columns negated ∷ cs) apart =
     let parts = and_parts (all_apart columns) (all_children all_apart (children_of cs)) apart in
     joined_apart columns (conjunct_columns cs) parts.0 (conjunct_apart cs parts.1)
-conjunct_apart (Test c wanted ∷ cs) apart =
-    joined_apart (compared_variables c) (conjunct_columns cs) (variables_apart (c.left ∷ c.right ∷ []))
-    (conjunct_apart cs apart)
+conjunct_apart (Test c wanted ∷ cs) apart = simp (joined_apart, variables_apart, conjunct_apart cs apart)
 
 module _ (y : ℕ) where
   either : (xs ys bound : List ℕ) → all_among xs bound ≡ true → (among y ys ≡ true → among y bound ≡ true)
       → among y (joined xs ys) ≡ true → among y bound ≡ true
-  either xs ys bound first second h =
-      elim (or_cases (among y xs) (among y ys) (sym (among_joined y xs ys) ∙ h)) [
-        | inl here ↦ member_of_all (λ z. among z bound) xs y first here
-        | inr there ↦ second there
-      ]
+  either xs ys bound first second h = grind (arith, or_cases, among_joined, member_of_all)
 
   inside : (bound : List ℕ) (cs : List ConjunctOf)
       → all_children (λ columns. all_among columns bound) (children_of cs) ≡ true
@@ -56,9 +45,7 @@ module _ (y : ℕ) where
   whole : (cs : List ConjunctOf) → among y (bound_columns (children_of cs)) ≡ true
       → among y (conjunct_columns cs) ≡ true
   whole [] h = h
-  whole (Child columns true ∷ cs) h =
-      among_joined y columns (conjunct_columns cs)
-      ∙ or_right (among y columns) (among y (conjunct_columns cs)) (whole cs h)
+  whole (Child columns true ∷ cs) h = simp (among_joined, or_right, whole cs h)
   whole (Child columns false ∷ cs) h =
       among_joined y columns (conjunct_columns cs)
       ∙ elim (or_cases (among y columns) (among y (bound_columns (children_of cs)))
@@ -66,9 +53,7 @@ module _ (y : ℕ) where
         | inl here ↦ or_left (among y columns) (among y (conjunct_columns cs)) here
         | inr there ↦ or_right (among y columns) (among y (conjunct_columns cs)) (whole cs there)
       ]
-  whole (Test c wanted ∷ cs) h =
-      among_joined y (compared_variables c) (conjunct_columns cs)
-      ∙ or_right (among y (compared_variables c)) (among y (conjunct_columns cs)) (whole cs h)
+  whole (Test c wanted ∷ cs) h = simp (among_joined, or_right, whole cs h)
 
 few_begun : (cs : List ConjunctOf) → FewFrom 0 (children_of cs)
 few_begun [] = tt
@@ -94,24 +79,14 @@ pub begun_as : (cs : List ConjunctOf) (columns : List ℕ) (tests : List TestOf)
     → all_children all_apart (children_of cs) ≡ true
     → is_guarded (children_of cs) (tests_of cs) ≡ true → columns ≡ conjunct_columns cs → tests ≡ tests_of cs
     → children ≡ children_of cs → IsJoin columns tests 0 children
-begun_as cs columns tests children apart guarded e f g =
-    subst (λ x. IsJoin x tests 0 children) (sym e)
-    (subst (λ x. IsJoin (conjunct_columns cs) x 0 children) (sym f)
-    (subst (λ x. IsJoin (conjunct_columns cs) (tests_of cs) 0 x) (sym g) (begun cs apart guarded)))
+begun_as cs columns tests children apart guarded e f g = grind (arith, begun cs apart guarded)
 
 -- after one more conjunct
 pub columns_more : (columns after all : List ℕ) (conjuncts : List Conjunct) (i : ℕ) (c : Conjunct)
     → i < length conjuncts → c ≡ get_or conjuncts i c → after ≡ joined columns (own_columns (conjunct_of c))
     → joined columns (conjunct_columns (map conjunct_of (drop i conjuncts))) ≡ all
     → joined after (conjunct_columns (map conjunct_of (drop (i + 1) conjuncts))) ≡ all
-columns_more columns after all conjuncts i c within is adds before =
-    let rest = conjunct_columns (map conjunct_of (drop (i + 1) conjuncts)) in
-    ap (λ cs. joined cs rest) adds
-    ∙ joined_assoc columns (own_columns (conjunct_of c)) rest
-    ∙ ap (λ cs. joined columns (conjunct_columns (map conjunct_of cs)))
-    (sym (drop-cons conjuncts i c within ∙ ap (λ x. x ∷ drop (suc i) conjuncts) (sym is)
-    ∙ ap (λ k. c ∷ drop k conjuncts) (sym (add-one i))))
-    ∙ before
+columns_more columns after all conjuncts i c within is adds before = grind (arith, joined_assoc, drop-cons)
 
 -- ---- lists with the same columns
 

@@ -1,22 +1,16 @@
 -- The first tables of the children, taken one after another.
-use Rattle.std.proofs.Common.{◌≡◌, ℕ, zero, suc, ◌+◌, ◌<◌, ◌≤◌, Bool, true, false, not, cond, ◌&&◌, ◌||◌, List, []}
-use Rattle.std.proofs.Common.{◌∷◌, ◌++◌, length, map, get_or, slice_set, drop, take, drop-cons, add-one}
-use Rattle.std.proofs.Common.{append_assoc, refl, sym, subst, ap, ap₂, ◌∙◌, arith}
-use Rattle.std.proofs.lemmas.Bool.{and_parts, and_from}
-use Rattle.std.specs.List.{list_all}
-use Rattle.std.specs.Prelude.{nat_lt}
-use Rattle.std.proofs.Math.Bool.{and_assoc}
-use Rattle.mfotl_model.specs.FreeVariables.{among}
-use Rattle.mfotl_model.specs.Satisfaction.{Valuation}
-use Rattle.mfotl_model.specs.Tables.{TableOf, has}
-use Rattle.std.proofs.lemmas.List.Folds.{list_any-append}
-use Rattle.std.specs.Prelude.{nat_eq}
+use Rattle.std.proofs.Common.{◌≡◌, ℕ, zero, suc, ◌+◌, ◌<◌, ◌≤◌, Bool, true, false, not, cond, ◌&&◌, ◌||◌, List, [], ◌∷◌}
+use Rattle.std.proofs.Common.{◌++◌, length, map, get_or, slice_set, drop, take, drop-cons, append_assoc, refl, sym}
+use Rattle.std.proofs.Common.{subst, ap, ap₂, ◌∙◌, arith}
+use Rattle.std.proofs.{lemmas.Bool.and_parts, lemmas.Bool.and_from, Math.Bool.and_assoc}
+use Rattle.std.proofs.{lemmas.List.Folds.list_any-append}
+use Rattle.std.specs.{List.list_all, Prelude.nat_lt, Prelude.nat_eq}
+use Rattle.mfotl_model.specs.{FreeVariables.among, Satisfaction.Valuation}
+use Rattle.mfotl_model.specs.Tables.{TableOf, has, all_among}
 use Rattle.relations.specs.Pushed.{AreOver}
 use Rattle.mfotl_model.proofs.LogicLemmas.{all_alike, and_moved}
-use Rattle.mfotl_model.specs.Tables.{all_among}
 use Rattle.eval_bool.proofs.ConjunctLemmas.{same_among}
-use Rattle.eval_bool.specs.IsJoin.{IsJoin}
-use Rattle.eval_bool.specs.Firsts.{first_has}
+use Rattle.eval_bool.specs.{IsJoin.IsJoin, Firsts.first_has}
 use Rattle.eval_bool.specs.Heads.{AreHeads, FirstsOver, advanced_to, all_have, heads_of, all_inside, in_columns}
 use Rattle.eval_bool.specs.Heads.{none_has}
 use Rattle.eval_bool.specs.JoinView.{ChildOf, JoinOf, all_children, bound_columns, child_advanced, child_holds}
@@ -37,35 +31,22 @@ set_there (x ∷ xs) (suc i) d new within e = ap (λ zs. child_advanced x ∷ zs
 -- one child more has lost its first table
 pub one_more : (xs now : List ChildOf) (i : ℕ) (old new : ChildOf) → i < length xs → now ≡ advanced_to i xs
     → old ≡ get_or now i old → new ≡ child_advanced old → slice_set now i new ≡ advanced_to (i + 1) xs
-one_more xs now i old new within e is adv =
-    ap (λ zs. slice_set zs i new) e
-    ∙ set_there xs i old new within
-    (adv ∙ ap child_advanced (is ∙ ap (λ zs. get_or zs i old) e ∙ at_same xs i old))
-    ∙ ap (λ k. advanced_to k xs) (sym (add-one i))
+one_more xs now i old new within e is adv = grind (arith, slice_set, set_there, at_same)
 
 -- the rest of the children begins with the one at place i
 pub drop_at : (xs now : List ChildOf) (i : ℕ) (old : ChildOf) → i < length xs → now ≡ advanced_to i xs
     → old ≡ get_or now i old → drop i xs ≡ old ∷ drop (i + 1) xs
-drop_at xs now i old within e is =
-    drop-cons xs i old within
-    ∙ ap (λ c. c ∷ drop (suc i) xs) (sym (is ∙ ap (λ zs. get_or zs i old) e ∙ at_same xs i old))
-    ∙ ap (λ k. old ∷ drop k xs) (sym (add-one i))
+drop_at xs now i old within e is = grind (arith, drop-cons, at_same)
 
 heads_cons : (b : Bool) (c : ChildOf) (rest : List ChildOf)
     → heads_of b (c ∷ rest) ≡ heads_of b (c ∷ []) ++ heads_of b rest
-heads_cons b c rest =
-    sym (append_assoc (cond b (cond c.negated (take 1 c.tables) []) (cond c.negated [] (take 1 c.tables))) []
-    (heads_of b rest))
+heads_cons b c rest = simp (append_assoc)
 
 -- the tables taken, and those of the rest
 pub taken_more : (b : Bool) (xs rest : List ChildOf) (i : ℕ) (old : ChildOf) (heads more : List TableOf)
     → drop i xs ≡ old ∷ rest → more ≡ heads ++ heads_of b (old ∷ []) → heads ++ heads_of b (drop i xs) ≡ heads_of b xs
     → more ++ heads_of b rest ≡ heads_of b xs
-taken_more b xs rest i old heads more at e before =
-    ap (λ zs. zs ++ heads_of b rest) e
-    ∙ append_assoc heads (heads_of b (old ∷ [])) (heads_of b rest)
-    ∙ ap (λ zs. heads ++ zs) (sym (heads_cons b old rest) ∙ ap (heads_of b) (sym at))
-    ∙ before
+taken_more b xs rest i old heads more at e before = grind (arith, append_assoc, heads_cons)
 
 pub over_more : (xs rest : List ChildOf) (i : ℕ) (old : ChildOf) → drop i xs ≡ old ∷ rest → FirstsOver (old ∷ [])
     → (FirstsOver (drop i xs) → FirstsOver xs) → FirstsOver rest → FirstsOver xs

@@ -1,10 +1,8 @@
 -- The laws of conjunctions and of OR.
 use Rattle.std.proofs.Common.{◌≡◌, ℕ, ◌+◌, true, ◌&&◌, nat_lt, List, [], ◌∷◌, length, drop, refl, ap, arith}
-use Rattle.std.proofs.lemmas.Bool.{and_parts}
 use Rattle.mfotl_model.specs.Tables.{TableOf}
 use Rattle.relations.specs.Operations.{chosen}
-use Rattle.eval_bool.specs.JoinView.ConjunctOf.{Child, Test}
-use Rattle.eval_bool.specs.Laws.{NumberedOn, TestsHold}
+use Rattle.eval_bool.specs.{JoinView.ConjunctOf.Child, JoinView.ConjunctOf.Test, Laws.NumberedOn, Laws.TestsHold}
 
 pub tests_hold : TestsHold
 tests_hold [] v = refl
@@ -13,10 +11,7 @@ tests_hold (Test c wanted ∷ conjuncts) v = ap (λ b. chosen c wanted v && b) (
 
 one_less : (p : ℕ) (tables : List TableOf) → nat_lt 0 (length tables) ≡ true
     → p + 1 + length (drop 1 tables) ≡ p + length tables
-one_less p [] some = cc
-one_less p (t ∷ ts) some = omega arith
+one_less p tables some = grind arith
 
 pub numbered_on : NumberedOn
-numbered_on s due =
-    let both = and_parts (nat_lt 0 (length s.lefts)) (nat_lt 0 (length s.rights)) due in
-    (one_less s.pulled s.lefts both.0, one_less s.pulled s.rights both.1)
+numbered_on s due = grind arith

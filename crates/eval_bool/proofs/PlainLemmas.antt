@@ -1,30 +1,18 @@
 -- Atoms whose arguments are distinct variables: as many variables as arguments. They stand for each event of their
 -- predicate with as many values, and the row that is read off is the event's own.
-use Rattle.std.proofs.Common.{◌≡◌, ◌≢◌, ◌∙◌, ap, ap₂, sym, refl, arith, ℕ, suc, ◌≤◌, Bool, true, false, not, cond}
-use Rattle.std.proofs.Common.{nat_eq, List, [], ◌∷◌, length, map, Some, pos}
-use Rattle.std.specs.Prelude.{unwrap_or}
-use Rattle.std.proofs.lemmas.Bool.{and_parts, ne_eqb}
-use Rattle.std.proofs.lemmas.List.Filters.{length-filter_both}
-use Rattle.std.proofs.lemmas.Map.Views.{tells_apart}
-use Rattle.std.specs.List.{filter}
-use Rattle.std.specs.Ordering.{eq_by_cmp}
-use Rattle.mfotl_model.proofs.AtomLemmas.{gives_none_back, match_by_terms}
-use Rattle.mfotl_model.proofs.LogicLemmas.{same_number}
-use Rattle.mfotl_model.proofs.MatchingLemmas.{first_more}
-use Rattle.mfotl_model.proofs.RowLemmas.{event_exact}
-use Rattle.mfotl_model.proofs.ColumnLemmas.{same_columns}
-use Rattle.mfotl_model.specs.AtomSteps.{give_back}
-use Rattle.mfotl_model.specs.FreeVariables.{among, variables_in}
+use Rattle.std.proofs.Common.{◌≡◌, ◌≢◌, ◌∙◌, ap, ap₂, sym, refl, arith, ℕ, ◌≤◌, Bool, true, false, not, cond, nat_eq}
+use Rattle.std.proofs.Common.{List, [], ◌∷◌, length, map, Some, pos}
+use Rattle.std.specs.{Prelude.unwrap_or, List.filter}
+use Rattle.std.proofs.{lemmas.Bool.and_parts, lemmas.Bool.ne_eqb, lemmas.List.Filters.length-filter_both}
+use Rattle.std.proofs.{lemmas.Map.Views.tells_apart}
+use Rattle.mfotl_model.proofs.{AtomLemmas.gives_none_back, AtomLemmas.match_by_terms, LogicLemmas.same_number}
+use Rattle.mfotl_model.proofs.{MatchingLemmas.first_more, RowLemmas.event_exact, ColumnLemmas.same_columns}
+use Rattle.mfotl_model.specs.{AtomSteps.give_back, FreeVariables.among, FreeVariables.variables_in}
 use Rattle.mfotl_model.specs.Matching.{first_value, is_match, read_off, reads, row_read}
 use Rattle.mfotl_model.specs.Satisfaction.{Valuation, event_of, term_value}
-use Rattle.mfotl_model.specs.Tables.{all_apart}
-use Rattle.mfotl_model.specs.Values.{row_cmp}
-use Rattle.mfotl_model.specs.declared.event.Event.{Event}
-use Rattle.mfotl_model.specs.declared.term.Atom.{Atom as OneAtom}
-use Rattle.mfotl_model.specs.declared.term.Term.{Term}
-use Rattle.mfotl_model.specs.declared.term.Term.TheVariants.{Var, Const}
-use Rattle.mfotl_model.specs.declared.value.Value.{Value}
-use Rattle.mfotl_model.specs.declared.value.Value.TheVariants.{Int}
+use Rattle.mfotl_model.specs.declared.{event.Event.Event, term.Atom.Atom as OneAtom, term.Term.Term}
+use Rattle.mfotl_model.specs.declared.{term.Term.TheVariants.Var, term.Term.TheVariants.Const, value.Value.Value}
+use Rattle.mfotl_model.specs.declared.{value.Value.TheVariants.Int}
 use Rattle.eval_bool.proofs.AtomRows.{row_taken, variables_apart}
 use Rattle.eval_bool.specs.AtomSteps.{atom_rows}
 use Rattle.relations.proofs.JoinLemmas.{row_itself}
@@ -39,14 +27,7 @@ at_most p ys = omega (arith, length-filter_both p (λ y. not (p y)) (λ y. refl)
 -- a filter that leaves out none keeps the list
 all_kept : (p : ℕ → Bool) (ys : List ℕ) → length (filter p ys) ≡ length ys → filter p ys ≡ ys
 all_kept p [] same = refl
-all_kept p (y ∷ ys) same = by (p y) (at_most p ys) (all_kept p ys) same
-  where
-    by : (b : Bool) → length (filter p ys) ≤ length ys
-        → (length (filter p ys) ≡ length ys → filter p ys ≡ ys)
-        → length (cond b (y ∷ filter p ys) (filter p ys)) ≡ suc (length ys)
-        → cond b (y ∷ filter p ys) (filter p ys) ≡ y ∷ ys
-    by true most kept e = ap (λ rest. y ∷ rest) (kept (omega arith))
-    by false most kept e = absurd (omega arith)
+all_kept p (y ∷ ys) same = grind (arith, at_most, all_kept p ys)
 
 few_variables : (terms : List Term) → length (variables_in terms) ≤ length terms
 few_variables [] = omega arith
@@ -62,20 +43,7 @@ record Behind (x : ℕ) (terms : List Term) : Type 0 where
 behind : (x : ℕ) (terms : List Term) → length (variables_in (Var x ∷ terms)) ≡ length (Var x ∷ terms)
     → Behind x terms
 behind x terms plain =
-    let ys = variables_in terms in
-    let most = at_most (other_than x) ys in
-    let few = few_variables terms in
-    let kept : filter (other_than x) ys ≡ ys = all_kept (other_than x) ys (omega arith) in
-    let out : not (among x ys) ≡ true =
-    ap (λ zs. not (among x zs)) (sym kept)
-    ∙ (and_parts (not (among x (filter (other_than x) ys))) (all_apart (filter (other_than x) ys))
-    (variables_apart (Var x ∷ terms))).0 in
-    record {
-      plain = omega arith;
-      kept = kept;
-      apart = λ y m. ne_eqb x y (λ e.
-          absurd (let f : false ≡ true = sym (ap not m) ∙ ap (λ z. not (among z ys)) (sym e) ∙ out in cc));
-    }
+    grind (arith, at_most, few_variables terms, all_kept, and_parts, variables_apart (Var x ∷ terms), ne_eqb)
 
 -- distinct variables have the values of their valuation
 values_of : (v : Valuation) (terms : List Term) → length (variables_in terms) ≡ length terms
@@ -111,17 +79,12 @@ pub plain_match : (atom : OneAtom) (event : Event) → length (variables_in atom
     → atom.pred ≡ event.pred → length atom.args ≡ length event.args
     → is_match atom event ≡ true
 unfolding give_back
-plain_match atom event plain pred same =
-    match_by_terms atom event pred
-    ∙ ap (λ row. eq_by_cmp row_cmp row event.args) (values_of (reads atom event) atom.args plain
-    ∙ own_values atom.args event.args plain same)
-    ∙ row_itself event.args
+plain_match atom event plain pred same = simp (match_by_terms, values_of, own_values, row_itself)
 
 pub other_length : (atom : OneAtom) (event : Event) → atom.pred ≡ event.pred
     → length atom.args ≢ length event.args
     → is_match atom event ≡ false
-other_length atom event pred apart =
-    match_by_terms atom event pred ∙ gives_none_back atom.args event.args apart
+other_length atom event pred apart = cc (match_by_terms atom event pred, gives_none_back atom.args event.args apart)
 
 -- the row that is read off is the event's own
 plain_row : (atom : OneAtom) (event : Event) → length (variables_in atom.args) ≡ length atom.args
@@ -138,6 +101,4 @@ pub own_row : (atom : OneAtom) (event : Event) (more : List Event)
     → is_match atom event ≡ true
     → atom_rows atom (variables_in atom.args) (event ∷ more)
     ≡ event.args ∷ atom_rows atom (variables_in atom.args) more
-own_row atom event more plain holds =
-    row_taken atom (variables_in atom.args) event more holds
-    ∙ ap (λ row. row ∷ atom_rows atom (variables_in atom.args) more) (plain_row atom event plain holds)
+own_row atom event more plain holds = simp (row_taken, plain_row)

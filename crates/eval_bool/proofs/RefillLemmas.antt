@@ -1,11 +1,10 @@
 -- Children whose tables are put in the place of others.
-use Rattle.std.proofs.Common.{◌≡◌, ℕ, List, [], ◌∷◌, map, refl, sym, subst, ap, ◌∙◌}
+use Rattle.std.proofs.Common.{◌≡◌, ℕ, List, [], ◌∷◌, map, refl, sym, subst, ap, ◌∙◌, arith}
 use Rattle.std.specs.List.{AllByRecursion}
 use Rattle.mfotl_model.specs.Tables.{TableOf}
 use Rattle.relations.specs.Pushed.{AreOver}
-use Rattle.eval_bool.specs.BoolData.{JoinRule, TablesOver, kept_tables, with_tables}
-use Rattle.eval_bool.specs.IsJoin.{FewFrom}
-use Rattle.eval_bool.specs.JoinView.{ChildOf}
+use Rattle.eval_bool.specs.BoolData.{JoinRule, TablesOver, with_tables}
+use Rattle.eval_bool.specs.{IsJoin.FewFrom, JoinView.ChildOf}
 use Rattle.eval_bool.specs.declared.recalled.JoinData.{JoinData}
 use Rattle.eval_bool.proofs.ChildLemmas.{Alike, alike_itself}
 
@@ -44,8 +43,7 @@ over_alike [] [] tables same over = over
 over_alike [] (y ∷ ys) tables same over = absurd same
 over_alike (x ∷ xs) [] tables same over = absurd same
 over_alike (x ∷ xs) (y ∷ ys) [] same over = absurd over
-over_alike (x ∷ xs) (y ∷ ys) (ts ∷ tables) same over =
-    (subst (λ columns. AreOver columns ts) same.0 over.0, over_alike xs ys tables same.2 over.1)
+over_alike (x ∷ xs) (y ∷ ys) (ts ∷ tables) same over = grind (arith, over_alike xs ys tables same.2 over.1)
 
 -- and are the same with them
 pub with_alike : (xs ys : List ChildOf) (tables : List (List TableOf)) → Alike xs ys → TablesOver xs tables
@@ -59,8 +57,4 @@ with_alike (x ∷ xs) (y ∷ ys) (ts ∷ tables) same over = λ i.
 
 -- so the rule is the same for both
 pub rule_alike : (xs ys : List ChildOf) (kept : JoinData) → Alike xs ys → JoinRule xs kept → JoinRule ys kept
-rule_alike xs ys kept same rule =
-    record {
-      over = over_alike xs ys (kept_tables kept) same rule.over;
-      few = subst (FewFrom kept.pulled) (with_alike xs ys (kept_tables kept) same rule.over) rule.few;
-    }
+rule_alike xs ys kept same rule = grind (arith, over_alike, with_alike)

@@ -1,8 +1,6 @@
 -- Tables whose columns are put into another order, and tables that are joined in it.
-use Rattle.std.proofs.Common.{◌≡◌, ◌↔◌, ℕ, true, List, refl, sym, ap, ◌∙◌}
-use Rattle.std.specs.Cmp.{both_ways}
-use Rattle.mfotl_model.specs.FreeVariables.{among}
-use Rattle.mfotl_model.specs.Satisfaction.{Valuation}
+use Rattle.std.proofs.Common.{◌≡◌, ◌↔◌, ℕ, true, List, ap, arith}
+use Rattle.mfotl_model.specs.{FreeVariables.among, Satisfaction.Valuation}
 use Rattle.mfotl_model.specs.Tables.{TableOf, all_among, has, has_row}
 use Rattle.mfotl_model.proofs.ColumnLemmas.{same_columns}
 use Rattle.relations.proofs.JoinLemmas.{member_of_all}
@@ -16,10 +14,4 @@ has_same t v w same = ap (has_row t.rows) (same_columns v w t.columns same)
 pub has_reordered : (t r : TableOf) (v : Valuation) (columns : List ℕ) → all_among t.columns columns ≡ true
     → (has r v ≡ true ↔ ((w : Valuation) × (((y : ℕ) → among y columns ≡ true → w y ≡ v y) × (has t w ≡ true))))
     → has r v ≡ has t v
-has_reordered t r v columns whole projected =
-    both_ways (has r v) (has t v)
-    (λ h.
-    let found = projected.0 h in
-    has_same t v found.0 (λ y m. sym (found.1.0 y (member_of_all (λ z. among z columns) t.columns y whole m)))
-    ∙ found.1.1)
-    (λ h. projected.1 (v, ((λ y m. refl), h)))
+has_reordered t r v columns whole projected = grind (arith, has_same, member_of_all)

@@ -1,7 +1,6 @@
 use Rattle.std.proofs.Common.{◌≡◌, ◌||◌, ◌&&◌, ℕ}
 use Rattle.mfotl_model.specs.Satisfaction.{Valuation}
-use Rattle.eval_bool.specs.Heads.{all_have, in_columns}
-use Rattle.eval_bool.specs.JoinedSoFar.{all_joined, is_joined}
+use Rattle.eval_bool.specs.{Heads.all_have, Heads.in_columns, JoinedSoFar.all_joined, JoinedSoFar.is_joined}
 use Rattle.eval_bool.proofs.combined.all_joined.Given as goal
 
 abbrev pub invariant-loop-table : goal.invariant-loop-table

@@ -1,7 +1,6 @@
 use Rattle.std.proofs.Common.{◌≡◌, ◌∙◌, ℕ, sym, ap}
 use Rattle.mfotl_model.proofs.LogicLemmas.{all_alike}
-use Rattle.mfotl_model.specs.FreeVariables.{among}
-use Rattle.mfotl_model.specs.Tables.{all_among}
+use Rattle.mfotl_model.specs.{FreeVariables.among, Tables.all_among}
 use Rattle.eval_bool.proofs.ConjunctLemmas.{own_among, same_among}
 use Rattle.eval_bool.specs.JoinView.{compared_variables}
 use Rattle.eval_bool.proofs.combined.combined.Goals as goal

@@ -1,7 +1,6 @@
 use Rattle.std.proofs.Common.{◌≡◌, ◌&&◌, true, drop}
 use Rattle.std.specs.List.{list_all}
-use Rattle.mfotl_model.specs.Satisfaction.{Valuation}
-use Rattle.mfotl_model.specs.Tables.{all_among, has}
+use Rattle.mfotl_model.specs.{Satisfaction.Valuation, Tables.all_among, Tables.has}
 use Rattle.eval_bool.specs.JoinView.{compared_variables, test_holds}
 use Rattle.eval_bool.proofs.combined.tested.Given as goal
 

@@ -1,6 +1,5 @@
 use Rattle.std.proofs.Common.{◌≡◌, ◌&&◌, true}
-use Rattle.mfotl_model.specs.Satisfaction.{Valuation}
-use Rattle.mfotl_model.specs.Tables.{has}
+use Rattle.mfotl_model.specs.{Satisfaction.Valuation, Tables.has}
 use Rattle.eval_bool.specs.Heads.{all_inside, none_has}
 use Rattle.eval_bool.proofs.combined.without_any.Given as goal
 

@@ -1,7 +1,6 @@
 use Rattle.std.proofs.Common.{◌≡◌, ◌+◌, ◌∷◌, ◌++◌, [], ◌∙◌, ap, drop, get_or, false, subst, sym, true, arith}
 use Rattle.eval_bool.proofs.HeadLemmas.{all_taken, drop_at, one_more, over_more, taken_more}
-use Rattle.eval_bool.specs.Heads.{FirstsOver, heads_of}
-use Rattle.eval_bool.specs.JoinView.{ChildOf, child_advanced}
+use Rattle.eval_bool.specs.{Heads.FirstsOver, Heads.heads_of, JoinView.ChildOf, JoinView.child_advanced}
 use Rattle.eval_bool.proofs.heads.take_heads.Goals as goal
 
 pub returns-in_err-move_head-clause-some : goal.returns-in_err-move_head-clause-some

@@ -1,5 +1,4 @@
-use Rattle.std.proofs.Common.{arith}
-use Rattle.std.proofs.lemmas.Grind.{common_steps}
+use Rattle.std.proofs.{Common.arith, lemmas.Grind.common_steps}
 use Rattle.eval_bool.proofs.AtomRows.{event_left, no_rows, row_taken}
 use Rattle.eval_bool.proofs.matching.atom_rows.Goals as goal
 

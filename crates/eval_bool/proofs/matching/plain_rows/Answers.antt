@@ -1,7 +1,5 @@
-use Rattle.std.proofs.Common.{arith}
-use Rattle.std.proofs.lemmas.Grind.{common_steps}
-use Rattle.eval_bool.proofs.AtomRows.{event_left, no_rows}
-use Rattle.eval_bool.proofs.PlainLemmas.{own_row}
+use Rattle.std.proofs.{Common.arith, lemmas.Grind.common_steps}
+use Rattle.eval_bool.proofs.{AtomRows.event_left, AtomRows.no_rows, PlainLemmas.own_row}
 use Rattle.eval_bool.proofs.matching.plain_rows.Goals as goal
 
 pub loop-event-preserved : goal.loop-event-preserved

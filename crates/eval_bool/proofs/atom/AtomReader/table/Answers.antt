@@ -1,9 +1,8 @@
 use Rattle.std.proofs.Common.{◌∙◌, length, map, ap, ap₂}
 use Rattle.std.specs.List.{filter}
-use Rattle.mfotl_model.specs.Events.{has_pred}
-use Rattle.mfotl_model.specs.Satisfaction.{event_of, has_event}
+use Rattle.mfotl_model.specs.{Events.has_pred, Satisfaction.event_of, Satisfaction.has_event}
+use Rattle.mfotl_model.specs.{FreeVariables.variables_in}
 use Rattle.mfotl_model.specs.Tables.{all_apart, all_sized, has_row}
-use Rattle.mfotl_model.specs.FreeVariables.{variables_in}
 use Rattle.mfotl_model.specs.declared.term.Atom.{Atom as OneAtom}
 use Rattle.eval_bool.proofs.AtomRows.{has_matching, has_own, sized_rows, variables_apart}
 use Rattle.eval_bool.proofs.atom.AtomReader.table.Goals as goal

@@ -1,10 +1,9 @@
-use Rattle.std.proofs.Common.{◌∙◌, ap, map, arith}
+use Rattle.std.proofs.Common.{◌∙◌, ap, map, arith, false, subst, true}
 use Rattle.std.proofs.lemmas.List.{with_items_is}
 use Rattle.eval_bool.proofs.ChildLemmas.{few_pulled, join_advances, join_stays}
 use Rattle.eval_bool.proofs.HeadLemmas.{heads_are}
 use Rattle.eval_bool.specs.Heads.{FirstsOver, advanced_to, heads_of}
 use Rattle.eval_bool.specs.JoinView.{child_advanced}
-use Rattle.std.proofs.Common.{false, subst, true}
 use Rattle.eval_bool.proofs.join.JoinState.advance.Goals as goal
 
 pub invariant_of-self : goal.invariant_of-self

@@ -1,7 +1,5 @@
 use Rattle.std.proofs.Common.{ap, map, ◌∙◌}
-use Rattle.eval_bool.proofs.ChildLemmas.{join_alike}
-use Rattle.eval_bool.proofs.ConjunctLemmas.{begun_as}
-use Rattle.eval_bool.proofs.RefillLemmas.{alike_with}
+use Rattle.eval_bool.proofs.{ChildLemmas.join_alike, ConjunctLemmas.begun_as, RefillLemmas.alike_with}
 use Rattle.eval_bool.specs.BoolData.{kept_tables, with_tables}
 use Rattle.eval_bool.specs.JoinView.{children_of, conjunct_columns, conjunct_of}
 use Rattle.eval_bool.proofs.join.JoinState.resume.Goals as goal

@@ -1,9 +1,6 @@
 use Rattle.std.proofs.Common.{subst, sym}
-use Rattle.eval_bool.proofs.ChildLemmas.{join_alike}
-use Rattle.eval_bool.proofs.RefillLemmas.{alike_with}
-use Rattle.eval_bool.specs.BoolData.{kept_tables, with_tables}
-use Rattle.eval_bool.specs.IsJoin.{FewFrom}
-use Rattle.eval_bool.specs.JoinView.{JoinOf}
+use Rattle.eval_bool.proofs.{ChildLemmas.join_alike, RefillLemmas.alike_with}
+use Rattle.eval_bool.specs.{BoolData.kept_tables, BoolData.with_tables, IsJoin.FewFrom, JoinView.JoinOf}
 use Rattle.eval_bool.proofs.join.JoinState.resumed.Goals as goal
 
 pub invariant_of-result : goal.invariant_of-result
