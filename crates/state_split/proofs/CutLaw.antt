@@ -1,27 +1,20 @@
 -- A state cut to a part of its region stands for that part, and has nothing outside it.
-use Rattle.std.proofs.Common.{◌≡◌, ℕ, ◌-◌, ◌+◌, min, List, [], ◌∷◌, refl, ap, ◌∙◌}
+use Rattle.std.proofs.Common.{◌≡◌, ℕ, ◌+◌, min, List, [], ◌∷◌, refl, ◌∙◌, arith}
 use Rattle.std.proofs.lemmas.Bool.{and_parts}
 use Rattle.mfotl_model.proofs.RegionLemmas.{both_pass}
-use Rattle.mfotl_model.specs.Exact.{View}
-use Rattle.mfotl_model.specs.FreeVariables.{fv}
+use Rattle.mfotl_model.specs.{Exact.View, FreeVariables.fv, Strategies.Strategy, Strategies.workers_of}
 use Rattle.mfotl_model.specs.Regions.{Passes, Region, in_both, near_of}
-use Rattle.mfotl_model.specs.Strategies.{Strategy, workers_of}
 use Rattle.mfotl_model.specs.declared.event.TimePoint.{TimePoint}
 use Rattle.monitorable.specs.CoreForms.{CoreForm, meaning}
 use Rattle.relations.specs.Pushed.{StandFrom}
-use Rattle.monitor_state.specs.Nodes.{nodes_of}
+use Rattle.monitor_state.specs.{Nodes.nodes_of, StateInside.StandsInside, StateRules.StateRule, StateStands.StateStands}
 use Rattle.monitor_state.specs.Pieces.{AreCuts, PieceStands, view_of}
 use Rattle.monitor_state.specs.StateCuts.{NodeCut, NodesCut, StateCut, WindowCut}
-use Rattle.monitor_state.specs.StateInside.{StandsInside}
 use Rattle.monitor_state.specs.StateLaws.{CutIsPiece, CutStands, seen_in}
-use Rattle.monitor_state.specs.StateRules.{StateRule}
-use Rattle.monitor_state.specs.StateStands.{StateStands}
 use Rattle.monitor_state.specs.StateTimes.{earliest, node_asks, times_of, window_asks}
-use Rattle.monitor_state.specs.declared.state.NodeData.{NodeData}
+use Rattle.monitor_state.specs.declared.{state.NodeData.NodeData, state.Piece.Piece, state.State.State}
+use Rattle.monitor_state.specs.declared.{state.WindowData.WindowData}
 use Rattle.monitor_state.specs.declared.state.NodeData.TheVariants as kept
-use Rattle.monitor_state.specs.declared.state.Piece.{Piece}
-use Rattle.monitor_state.specs.declared.state.State.{State}
-use Rattle.monitor_state.specs.declared.state.WindowData.{WindowData}
 use Rattle.monitor_state.specs.declared.state.WindowData.TheVariants as window
 use Rattle.state_split.proofs.NodeCuts.{nodes_cut}
 use Rattle.monitor_state.proofs.PartLaw.{part_stands}
@@ -30,26 +23,16 @@ use Rattle.state_split.specs.Splits.{IsNumbered, SplitsStand, StrategiesCut}
 -- ---- nodes ask for the same timestamps
 
 window_same : (near : Region) (w c : WindowData) → WindowCut near w c → window_asks c ≡ window_asks w
-window_same near (window.Since s) (window.Since c) cut = ap (λ n. n - 1) cut.pulled
-window_same near (window.Until s) (window.Until c) cut = cut.pulled
-window_same near w c cut = absurd cut
+window_same near w c cut = grind arith
 
 asks_same : (near : Region) (given : ℕ) (n c : NodeData) → NodeCut near n c → node_asks given c ≡ node_asks given n
-asks_same near given kept.Bare kept.Bare cut = refl
-asks_same near given (kept.Join s) (kept.Join c) cut = refl
-asks_same near given (kept.Or s) (kept.Or c) cut = refl
-asks_same near given (kept.Previous s) (kept.Previous c) cut = ap (λ n. n - 1) cut.pulled
-asks_same near given (kept.Next s) (kept.Next c) cut = cut.pulled
-asks_same near given (kept.Window w) (kept.Window c) cut = window_same near w c cut
-asks_same near given (kept.Filter ts w) (kept.Filter cs c) cut = window_same near w c cut.1
-asks_same near given n c cut = absurd cut
+asks_same near given n c cut = grind arith
 
 earliest_same : (near : Region) (given : ℕ) (ns cs : List NodeData) → NodesCut near ns cs
     → earliest given cs ≡ earliest given ns
 earliest_same near given [] [] cut = refl
 earliest_same near given (n ∷ ns) (c ∷ cs) cut =
-    ap (λ m. earliest (min given m) cs) (asks_same near given n c cut.0)
-    ∙ earliest_same near (min given (node_asks given n)) ns cs cut.1
+    cc (asks_same near given n c cut.0, earliest_same near (min given (node_asks given n)) ns cs cut.1)
 earliest_same near given ns cs cut = absurd cut
 
 -- ---- states
@@ -84,8 +67,7 @@ cut_to_both core near other log old new first second rule stands cut =
 
 pub cut_is_piece : CutIsPiece
 unfolding PieceStands
-cut_is_piece core s k s2 k2 log state piece first second rule stands cut =
-    cut_to_both core (near_of s k) (near_of s2 k2) log state piece.state first second rule stands cut
+cut_is_piece core s k s2 k2 log state piece first second rule stands cut = search (cut_to_both)
 
 -- ---- pieces
 
@@ -95,16 +77,8 @@ cuts_from : (core : CoreForm) (s : Strategy) (k : ℕ) (s2 : Strategy) (log : Li
     to pieces → AreCuts core s k s2 log g to pieces
 unfolding PieceStands
 cuts_from core s k s2 log g to [] numbers stand = tt
-cuts_from core s k s2 log g to (p ∷ ps) numbers stand = (
-  record {
-    generation = numbers.0.generation;
-    from = numbers.0.from;
-    to = numbers.0.to;
-    count = numbers.0.count;
-    stands = stand.0;
-  },
-  cuts_from core s k s2 log g (to + 1) ps numbers.1 stand.1,
-)
+cuts_from core s k s2 log g to (p ∷ ps) numbers stand =
+    search (cuts_from core s k s2 log g (to + 1) ps numbers.1 stand.1)
 
 pub strategies_cut : StrategiesCut
 strategies_cut core s k s2 log g pieces numbers stand = cuts_from core s k s2 log g 0 pieces numbers stand
@@ -116,13 +90,8 @@ pub stand_each : (core : CoreForm) (near : Region) (next : ℕ → Region) (log 
     → StandFrom (λ to piece. StateCut (in_both near (next to)) state piece.state) to pieces
     → StandFrom (λ to piece. StandsInside (view_of core (in_both near (next to)) log) core piece.state) to pieces
 stand_each core near next log state to [] first second rule stands cuts = tt
-stand_each core near next log state to (p ∷ ps) first second rule stands cuts = (
-  cut_to_both core near (next to) log state p.state first (second to) rule stands cuts.0,
-  stand_each core near next log state (to + 1) ps first second rule stands cuts.1,
-)
+stand_each core near next log state to (p ∷ ps) first second rule stands cuts =
+    search (cut_to_both, stand_each core near next log state (to + 1) ps first second rule stands cuts.1)
 
 pub splits_stand : SplitsStand
-splits_stand monitor near next log pieces first second is stands =
-    let seen : View = view_of monitor.core near log in
-    let rule = is.kept.rule seen stands in
-    stand_each monitor.core near next log is.state 0 pieces first second rule (is.kept.stands seen stands) (is.cut rule)
+splits_stand monitor near next log pieces first second is stands = grind (arith, stand_each)

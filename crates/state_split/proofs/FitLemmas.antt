@@ -1,31 +1,23 @@
 -- Where a state keeps its rule, its rows have a value for each of their columns.
-use Rattle.std.proofs.Common.{◌≡◌, ℕ, ◌<◌, Bool, true, false, nat_eq, List, [], ◌∷◌, length, map}
-use Rattle.std.proofs.Common.{refl, ap, arith}
+use Rattle.std.proofs.Common.{◌≡◌, ℕ, ◌<◌, Bool, true, false, nat_eq, List, [], ◌∷◌, length, map, refl, ap, arith}
 use Rattle.std.proofs.lemmas.Bool.{and_parts}
 use Rattle.std.specs.List.{AllByRecursion}
 use Rattle.mfotl_model.proofs.LogicLemmas.{same_number}
-use Rattle.mfotl_model.specs.FreeVariables.{fv}
-use Rattle.mfotl_model.specs.Tables.{all_sized}
+use Rattle.mfotl_model.specs.{FreeVariables.fv, Tables.all_sized}
 use Rattle.mfotl_model.specs.declared.value.Value.{Value}
 use Rattle.eval_since.specs.Recalled.{times_kept}
 use Rattle.eval_since.specs.declared.recalled.KeptRow.{KeptRow}
-use Rattle.eval_until.specs.Keeping.{Sized}
-use Rattle.eval_until.specs.Recalled.{entries_kept, entry_at, starts_kept}
-use Rattle.eval_until.specs.declared.entries.Entry.{Entry}
-use Rattle.eval_until.specs.declared.recalled.KeptMarks.{KeptMarks}
+use Rattle.eval_until.specs.{Keeping.Sized, Recalled.entries_kept, Recalled.starts_kept}
+use Rattle.eval_until.specs.declared.{entries.Entry.Entry, recalled.KeptMarks.KeptMarks}
 use Rattle.monitorable.specs.CoreForms.{CoreForm, meaning, And, Since, Until}
 use Rattle.relations.proofs.KeptLemmas.{each_kept, found_kept}
 use Rattle.relations.specs.KeptRows.{RowsAscend}
-use Rattle.monitor_state.specs.Nodes.{left_operand}
+use Rattle.monitor_state.specs.{Nodes.left_operand, StateStands.marks_kept, StateTimes.KeptTimes, StateTimes.times_from}
 use Rattle.monitor_state.specs.StateRules.{NodeKeeps, NodesKeep, WindowKeeps}
-use Rattle.monitor_state.specs.StateStands.{marks_kept}
-use Rattle.monitor_state.specs.StateTimes.{KeptTimes, times_from}
-use Rattle.monitor_state.specs.declared.state.NodeData.{NodeData}
+use Rattle.monitor_state.specs.declared.{state.NodeData.NodeData, state.WindowData.WindowData}
 use Rattle.monitor_state.specs.declared.state.NodeData.TheVariants as kept
-use Rattle.monitor_state.specs.declared.state.WindowData.{WindowData}
 use Rattle.monitor_state.specs.declared.state.WindowData.TheVariants as window
-use Rattle.state_split.proofs.RowCuts.{all_unmapped, changed}
-use Rattle.state_split.proofs.UntilCuts.{entries_of_marks}
+use Rattle.state_split.proofs.{RowCuts.all_unmapped, RowCuts.changed, UntilCuts.entries_of_marks}
 use Rattle.state_split.specs.Fits.{NodeFits, NodesFit, RowsFit, WindowFits}
 
 times_fit : (columns : List ℕ) (rows : List KeptRow) → all_sized (length columns) (map (λ k. k.row) rows) ≡ true
@@ -39,8 +31,7 @@ times_fit columns (k ∷ ks) all =
 starts_fit : (columns : List ℕ) (rows : List (List Value × ℕ)) → AllByRecursion (λ r. length r.0 ≡ length columns) rows
     → RowsFit columns rows
 starts_fit columns [] all = tt
-starts_fit columns (r ∷ rs) all =
-    (rw all.0 (same_number (length columns)), starts_fit columns rs all.1)
+starts_fit columns (r ∷ rs) all = grind (arith, same_number, starts_fit columns rs all.1)
 
 -- rows with entries that are sized by what is looked up
 entries_fit : (columns : List ℕ) (rows : List (List Value × List Entry)) → RowsAscend rows → Sized (length columns) rows
@@ -57,14 +48,11 @@ entries_fit columns rows up sized some =
 
 marks_fit : (columns : List ℕ) (p : ℕ) (next : List ℕ) (rows : List KeptMarks)
     → RowsFit columns (entries_kept p next rows) → RowsFit columns (marks_kept rows)
-marks_fit columns p next rows fit =
-    all_unmapped (λ (e : List Value × List Entry). nat_eq (length e.0) (length columns) ≡ true)
-    (changed (map (entry_at p next))) (marks_kept rows) (rw (entries_of_marks p next rows) at fit)
+marks_fit columns p next rows fit = grind (arith, all_unmapped, changed, entries_of_marks)
 
 module _ (k : KeptTimes) where
   window_fits : (f : CoreForm) (w : WindowData) → WindowKeeps k f w → WindowFits w
-  window_fits (Since i f g) (window.Since s) keeps =
-      rw keeps.columns (times_fit (fv (meaning g)) s.kept.rows.items keeps.rule.sized)
+  window_fits (Since i f g) (window.Since s) keeps = grind (arith, times_fit)
   window_fits (Until i f g) (window.Until s) keeps =
       let next = times_from k s.kept.pulled in (
         rw keeps.left (starts_fit (fv (meaning (left_operand f))) (starts_kept s.kept.starts.items) keeps.rule.wide),

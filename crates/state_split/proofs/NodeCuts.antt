@@ -1,28 +1,22 @@
 -- Nodes cut to a region: they keep their rule, stand for the region, and have nothing outside it.
-use Rattle.std.proofs.Common.{◌≡◌, ℕ, ◌+◌, ◌-◌, List, [], ◌∷◌, length, map, refl, ap, ◌∙◌}
+use Rattle.std.proofs.Common.{◌≡◌, ℕ, ◌+◌, ◌-◌, List, [], ◌∷◌, length, map, refl, ap, ◌∙◌, arith}
 use Rattle.std.specs.List.{AllByRecursion}
-use Rattle.mfotl_model.specs.Exact.{View}
-use Rattle.mfotl_model.specs.Regions.{Passes}
-use Rattle.eval_bool.specs.BoolData.{kept_tables}
-use Rattle.eval_bool.specs.JoinView.{children_of}
+use Rattle.mfotl_model.specs.{Exact.View, Regions.Passes}
+use Rattle.eval_bool.specs.{BoolData.kept_tables, JoinView.children_of}
 use Rattle.eval_bool.specs.declared.recalled.JoinData.{JoinData}
 use Rattle.monitorable.specs.Conjuncts.{conjuncts_of}
 use Rattle.monitorable.specs.CoreForms.{CoreForm, Not, And, Or, Previous, Next, Since, Until}
-use Rattle.monitor_state.specs.Nodes.{left_operand, operands}
-use Rattle.monitor_state.specs.Stands.{conjunct_as}
+use Rattle.monitor_state.specs.{Nodes.left_operand, Nodes.operands, Stands.conjunct_as, StateTimes.KeptTimes}
 use Rattle.monitor_state.specs.StateCuts.{JoinCut, NodeCut, NodesCut, WindowCut}
 use Rattle.monitor_state.specs.StateInside.{NodeInside, TablesInside, WindowInside}
 use Rattle.monitor_state.specs.StateRules.{JoinKeeps, NodeKeeps, NodesKeep, WindowKeeps}
 use Rattle.monitor_state.specs.StateStands.{JoinDataStands, NodeDataStands, NodesDataStand, WindowDataStands}
-use Rattle.monitor_state.specs.StateTimes.{KeptTimes}
-use Rattle.monitor_state.specs.declared.state.NodeData.{NodeData}
+use Rattle.monitor_state.specs.declared.{state.NodeData.NodeData, state.WindowData.WindowData}
 use Rattle.monitor_state.specs.declared.state.NodeData.TheVariants as kept
-use Rattle.monitor_state.specs.declared.state.WindowData.{WindowData}
 use Rattle.monitor_state.specs.declared.state.WindowData.TheVariants as window
-use Rattle.state_split.proofs.SinceCuts.{since_cut}
+use Rattle.state_split.proofs.{SinceCuts.since_cut, UntilCuts.until_cut}
 use Rattle.state_split.proofs.TableCuts.{length_cut, lists_inside, lists_rule, lists_stand, over_cut, pushed_cut}
 use Rattle.state_split.proofs.TableCuts.{tables_exact, tables_inside}
-use Rattle.state_split.proofs.UntilCuts.{until_cut}
 
 module _ (view : View) (free : List ℕ) (passes : Passes free view.near) (k : KeptTimes) where
   -- what is to be shown of a window's cut, and of a node's
@@ -121,7 +115,5 @@ module _ (view : View) (free : List ℕ) (passes : Passes free view.near) (k : K
       → NodesKeep k fs cs × NodesDataStand view fs cs × AllByRecursion (NodeInside view.near) cs
   nodes_cut [] [] [] cut keeps stands = (tt, tt, tt)
   nodes_cut (f ∷ fs) (n ∷ ns) (c ∷ cs) cut keeps stands =
-      let first = node_cut f n c cut.0 keeps.0 stands.0 in
-      let rest = nodes_cut fs ns cs cut.1 keeps.1 stands.1 in
-      ((first.0, rest.0), (first.1, rest.1), (first.2, rest.2))
+      grind (arith, node_cut f n c cut.0 keeps.0 stands.0, nodes_cut fs ns cs cut.1 keeps.1 stands.1)
   nodes_cut fs ns cs cut keeps stands = absurd assumption

@@ -1,21 +1,13 @@
 -- Rows without those outside a region: what is kept for a row, and what holds of each.
-use Rattle.std.proofs.Common.{◌≡◌, ℕ, Bool, true, false, ◌&&◌, cond, List, [], ◌∷◌, map, Option, None, refl}
-use Rattle.std.proofs.Common.{sym, ap, ◌∙◌, arith}
-use Rattle.std.proofs.lemmas.Grind.{common_steps}
-use Rattle.std.proofs.lemmas.List.Kept.{IsStrictlySortedBy-filter}
-use Rattle.std.proofs.lemmas.Map.Entries.{lookup-filter-keys}
-use Rattle.std.proofs.lemmas.Map.Views.{any-filter_same, tells_apart}
-use Rattle.std.specs.BTreeMap.{is_at}
+use Rattle.std.proofs.Common.{◌≡◌, ℕ, Bool, true, ◌&&◌, cond, List, [], ◌∷◌, map, Option, None, refl, sym, ap, arith}
+use Rattle.std.proofs.{lemmas.Grind.common_steps, lemmas.List.Kept.IsStrictlySortedBy-filter}
+use Rattle.std.proofs.{lemmas.Map.Entries.lookup-filter-keys, lemmas.Map.Views.any-filter_same}
+use Rattle.std.proofs.{lemmas.Map.Views.tells_apart}
+use Rattle.std.specs.{BTreeMap.is_at, Map.keys_of}
 use Rattle.std.specs.List.{AllByRecursion, filter, list_all}
-use Rattle.std.specs.Map.{keys_of}
-use Rattle.std.specs.Ordering.{eq_by_cmp}
-use Rattle.std.specs.Cmp.{both_ways}
-use Rattle.mfotl_model.proofs.RowLemmas.{row_exact}
-use Rattle.mfotl_model.proofs.ColumnLemmas.{read_own}
-use Rattle.mfotl_model.specs.Regions.{Passes, Region}
-use Rattle.mfotl_model.specs.Satisfaction.{Valuation}
-use Rattle.mfotl_model.specs.Tables.{TableOf, has, valuation}
-use Rattle.mfotl_model.specs.Values.{row_cmp}
+use Rattle.mfotl_model.proofs.{RowLemmas.row_exact, ColumnLemmas.read_own}
+use Rattle.mfotl_model.specs.{Regions.Passes, Regions.Region, Satisfaction.Valuation, Tables.TableOf, Tables.has}
+use Rattle.mfotl_model.specs.{Values.row_cmp}
 use Rattle.mfotl_model.specs.declared.value.Value.{Value}
 use Rattle.relations.proofs.MapLemmas.{same_row}
 use Rattle.relations.specs.KeptRows.{RowsAscend, kept_for}
@@ -84,22 +76,14 @@ module _ {X : Type 0} (near : Region) (columns : List ℕ) (rows : List (List Va
   -- what holds of nothing and of what there was holds of what there is
   pub found_cut : (P : Option X → Type 0) (u : List Value) → P None → P (kept_for rows u)
       → P (kept_for (cut_rows near columns rows) u)
-  found_cut P u none some = rw (kept_cut u) (by (lies near columns u))
-    where
-      by : (b : Bool) → P (cond b (kept_for rows u) None)
-      by true = some
-      by false = none
+  found_cut P u none some = grind (arith, kept_cut)
 
 -- ---- rows of valuations
 
 module _ (free : List ℕ) (near : Region) (passes : Passes free near) where
   -- a valuation's row lies in the region where it does
   pub row_lies : (columns : List ℕ) (v : Valuation) → lies near columns (map v columns) ≡ near columns v
-  row_lies columns v =
-      let read : Valuation = valuation columns (map v columns) in
-      both_ways (near columns read) (near columns v)
-      (passes columns columns read v (λ y m f. (m, read_own v columns y m)))
-      (passes columns columns v read (λ y m f. (m, sym (read_own v columns y m))))
+  row_lies columns v = grind (arith, read_own)
 
   rows_cut : {X : Type 0} (columns : List ℕ) (rows : List (List Value × X)) (v : Valuation)
       → kept_for (cut_rows near columns rows) (map v columns)
@@ -117,11 +101,7 @@ module _ (free : List ℕ) (near : Region) (passes : Passes free near) where
 
   pub has_cut : (table : TableOf) (v : Valuation) → has (cut_table near table) v ≡ (near table.columns v && has table v)
   unfolding has
-  has_cut table v =
-      any-filter_same (eq_by_cmp row_cmp (map v table.columns)) (lies near table.columns) (near table.columns v)
-      (λ z is. ap (lies near table.columns) (sym (tells_apart row_exact (map v table.columns) z is))
-      ∙ row_lies table.columns v)
-      table.rows
+  has_cut table v = grind (arith, any-filter_same, tells_apart, row_exact, row_lies table.columns v)
 
   pub table_inside : (table : TableOf) → TableInside near (cut_table near table)
   table_inside table v n = rw (has_cut table v, n) refl

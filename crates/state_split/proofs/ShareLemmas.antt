@@ -1,33 +1,22 @@
 -- Elements dealt among workers: one by one, and a list of them.
-use Rattle.std.proofs.Common.{◌≡◌, ◌∙◌, ap, sym, refl, arith, ℕ, zero, suc, ◌+◌, ◌<◌, Bool, true}
-use Rattle.std.proofs.Common.{cond, List, [], ◌∷◌, ◌++◌}
-use Rattle.std.proofs.Common.{length, set, get_or, take, drop, map, replicate}
-use Rattle.std.proofs.Common.{length-append}
-use Rattle.std.proofs.lemmas.Grind.{common_steps}
+use Rattle.std.proofs.Common.{◌≡◌, ◌∙◌, ap, sym, refl, arith, ℕ, zero, suc, ◌+◌, ◌<◌, Bool, true, cond, List, [], ◌∷◌}
+use Rattle.std.proofs.Common.{◌++◌, length, set, get_or, take, drop, map, replicate, length-append}
+use Rattle.std.proofs.{lemmas.Grind.common_steps, lemmas.Iterator.Adapters.YieldsList-from_vec}
+use Rattle.std.proofs.{lemmas.Iterator.Consumers.YieldsList-at, lemmas.List.FromFn.length-range_with_len}
+use Rattle.std.proofs.{lemmas.Slice.Zip.length-zip}
 use Rattle.std.proofs.lemmas.Iterator.{IsCollectResult, YieldsList-from_map, items_from_collect, maps}
-use Rattle.std.proofs.lemmas.Iterator.Adapters.{YieldsList-from_vec}
-use Rattle.std.proofs.lemmas.Iterator.Consumers.{YieldsList-at}
 use Rattle.std.proofs.lemmas.List.{get_or-map, length-map, length-replicate, map-append, map-set}
-use Rattle.std.proofs.lemmas.List.FromFn.{length-range_with_len}
-use Rattle.std.proofs.lemmas.Slice.Zip.{length-zip}
-use Rattle.std.specs.Fn.{Called}
-use Rattle.std.specs.Iterator.Adapters.{map_callee, map_source}
+use Rattle.std.specs.{Fn.Called, Iterator.Adapters.map_callee, Iterator.Adapters.map_source, Prelude.min, Result.IfOk}
+use Rattle.std.specs.{Vec.vec_items, Vec.vec_len}
 use Rattle.std.specs.List.{AllByRecursion, filter, range_with_len, zip}
-use Rattle.std.specs.Prelude.{min}
-use Rattle.std.specs.Result.{IfOk}
-use Rattle.std.specs.Vec.{vec_items, vec_len}
 use Rattle.std.specs.Vec.Iter.{into_iter_items, into_iter_len, into_iter_steps}
-use Rattle.std.specs.declared.iter.Map.{Map}
-use Rattle.std.specs.declared.result.Result.{Result}
-use Rattle.std.specs.declared.result.Result.TheVariants.{Err, Ok}
-use Rattle.std.specs.declared.vec.IntoIter.{IntoIter}
-use Rattle.std.specs.declared.vec.Vec.{Vec}
+use Rattle.std.specs.declared.{iter.Map.Map, result.Result.Result, result.Result.TheVariants.Err}
+use Rattle.std.specs.declared.{result.Result.TheVariants.Ok, vec.IntoIter.IntoIter, vec.Vec.Vec}
 use denote.Param.Members.{Mut}
 use Rattle.relations.proofs.PushedLemmas.{stand_push}
 use Rattle.relations.specs.Pushed.{StandFrom}
 use Rattle.slice_strategy.proofs.SharingLemmas.{given_next, given_size, up_to}
-use Rattle.slice_strategy.specs.Sharing.{given_to}
-use Rattle.slice_strategy.specs.Slicers.{NoneFrom}
+use Rattle.slice_strategy.specs.{Sharing.given_to, Slicers.NoneFrom}
 use Rattle.state_split.specs.Shares.{OneEach, each_longer, with_last}
 
 -- ---- what holds of one for each worker
@@ -76,12 +65,7 @@ each_collected {Y = Y} {Z = Z} {E = E} n L P f v g r each ran source items size 
 -- one more
 pub each_next : {X : Type 0} (n : ℕ) (P : ℕ → X → Type 0) (xs ys : List X) (x : X) → ys ≡ xs ++ x ∷ []
     → OneEach n P xs → P n x → OneEach (n + 1) P ys
-each_next n P xs ys x is each one =
-    let place : n ≡ 0 + length xs = omega (arith, each.sized) in
-    rw is (record {
-      sized = length-append xs (x ∷ []) ∙ ap (λ m. m + 1) each.sized;
-      each = stand_push P 0 xs x each.each (rw place at one);
-    })
+each_next n P xs ys x is each one = grind (arith, length-append, stand_push)
 
 -- so many times the same
 pub each_copied : {X Y : Type 0} (h : X → Y) (y : Y) (n count : ℕ) (xs : List X) → n ≡ count
@@ -144,9 +128,7 @@ module _ {V X : Type 0} (h : V → List X) where
       → take at (map h shares) ++ each_longer (drop at (map h shares)) before ≡ all
       → take (suc at) (map h (set shares at new)) ++ each_longer (drop (suc at) (map h (set shares at new))) rest ≡ all
   longer_step [] at v new x before rest all low here made is so_far = absurd (omega (arith, low))
-  longer_step (share ∷ shares) zero v new x before rest all low here made is so_far =
-      ap (λ y. y ∷ each_longer (map h shares) rest) (made ∙ ap (λ w. h w ++ x ∷ []) here)
-      ∙ ap (each_longer (h share ∷ map h shares)) (sym is) ∙ so_far
+  longer_step (share ∷ shares) zero v new x before rest all low here made is so_far = cc
   longer_step (share ∷ shares) (suc at) v new x before rest all low here made is so_far =
       ap (λ more. h share ∷ more)
       (longer_step shares at v new x before rest _ (omega (arith, low)) here made is refl) ∙ so_far
@@ -157,8 +139,7 @@ module _ {V X : Type 0} (h : V → List X) where
       → map h shares ≡ given_to (with_last x) (up_to test k) 0 (map h old)
       → map h (set shares k new) ≡ given_to (with_last x) (up_to test next) 0 (map h old)
   hand_step x test k next shares old v new low up is none here longer so_far =
-      let size : length (map h old) ≡ length shares =
-      sym (given_size (with_last x) (up_to test k) 0 (map h old)) ∙ sym (ap length so_far) ∙ length-map shares h in
+      let size : length (map h old) ≡ length shares = grind (arith, given_size, up_to, length-map) in
       let found : h v ≡ get_or (map h shares) k (h v) = ap h here ∙ sym (get_or-map h shares k v (h v) low) in
       map-set h shares k new
       ∙ ap (set (map h shares) k) (longer ∙ ap (λ xs. xs ++ x ∷ []) found)
@@ -208,12 +189,5 @@ pub each_numbered : {X Y Z E : Type 0} (n count : ℕ) (L : ℕ → X → Type 0
     (xs : List X) (r : Result (Vec Y Z) E) → n ≡ count
     → IfOk r (λ w. vec_items w ≡ map f (zip (range_with_len 0 n) xs))
     → ((k : ℕ) (x : X) → L k x → P k (f (k, x))) → OneEach count L xs → IfOk r (λ w. OneEach count P (vec_items w))
-each_numbered n count L P f xs (Err e) same is step each = tt
-each_numbered n count L P f xs (Ok w) same is step each =
-    let size : length xs ≡ n = each.sized ∙ sym same in
-    let numbers = length-range_with_len 0 n in
-    rw is (record {
-      sized = length-map (zip (range_with_len 0 n) xs) f ∙ zip_size (range_with_len 0 n) xs (numbers ∙ sym size)
-          ∙ numbers ∙ same;
-      each = stand_numbered L P f 0 n xs size step each.each;
-    })
+each_numbered n count L P f xs r same is step each =
+    grind (arith, length-range_with_len, length-map, zip_size, stand_numbered)

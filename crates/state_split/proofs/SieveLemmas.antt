@@ -1,22 +1,13 @@
 -- What is kept of rows that have a value for each column lies in the region.
-use Rattle.std.proofs.Common.{◌≡◌, ℕ, true, nat_eq, List, [], ◌∷◌, length}
-use Rattle.std.proofs.Common.{refl, ap, ap₂, ◌∙◌}
-use Rattle.std.proofs.lemmas.Bool.{and_parts}
-use Rattle.std.specs.BTreeSet.{insert_key}
-use Rattle.std.specs.List.{AllByRecursion, filter}
-use Rattle.std.specs.List.Sorted.{IsStrictlySortedBy}
-use Rattle.std.proofs.lemmas.List.Kept.{IsStrictlySortedBy-filter}
-use Rattle.std.specs.Ordering.{match_ordering}
-use Rattle.mfotl_model.specs.Ascending.{ascending}
-use Rattle.mfotl_model.specs.Regions.{Region}
-use Rattle.mfotl_model.specs.Tables.{TableOf, all_sized}
-use Rattle.mfotl_model.specs.Values.{row_cmp}
+use Rattle.std.proofs.Common.{◌≡◌, ℕ, true, nat_eq, List, [], ◌∷◌, length, refl, ap₂, ◌∙◌, arith}
+use Rattle.std.proofs.{lemmas.Bool.and_parts, lemmas.List.Kept.IsStrictlySortedBy-filter}
+use Rattle.std.specs.{List.AllByRecursion, List.filter, List.Sorted.IsStrictlySortedBy}
+use Rattle.mfotl_model.specs.{Ascending.ascending, Regions.Region, Tables.TableOf, Tables.all_sized, Values.row_cmp}
 use Rattle.mfotl_model.specs.declared.value.Value.{Value}
 use Rattle.relations.specs.Tables.{IsTable}
 use Rattle.monitor_state.specs.StateCuts.{cut_rows, cut_table, lies}
 use Rattle.state_split.proofs.RowCuts.{tests_filtered}
-use Rattle.state_split.specs.Fits.{RowsFit}
-use Rattle.state_split.specs.Sieves.{is_kept, rows_inside}
+use Rattle.state_split.specs.{Fits.RowsFit, Sieves.is_kept, Sieves.rows_inside}
 
 -- of rows that have a value for each column those are kept that lie in the region
 kept_lie : {X : Type 0} (near : Region) (columns : List ℕ) (row : X → List Value) (xs : List X)
@@ -42,15 +33,11 @@ ascending_same : (xs : List (List Value)) → IsStrictlySortedBy row_cmp xs → 
 unfolding IsStrictlySortedBy
 ascending_same [] up = refl
 ascending_same (x ∷ []) up = refl
-ascending_same (x ∷ y ∷ ys) up =
-    ap (λ rest. insert_key row_cmp rest x) (ascending_same (y ∷ ys) up.1)
-    ∙ ap (λ order. match_ordering order (x ∷ y ∷ ys) (y ∷ ys) (y ∷ insert_key row_cmp ys x)) up.0.0
+ascending_same (x ∷ y ∷ ys) up = cc (ascending_same (y ∷ ys) up.1)
 
 pub table_of_rows : (columns : List ℕ) (rows : List (List Value)) → IsStrictlySortedBy row_cmp rows → (new : TableOf)
     → new.columns ≡ columns → new.rows ≡ ascending row_cmp rows → new ≡ record { columns = columns; rows = rows }
-table_of_rows columns rows sorted new over made =
-    ap₂ (λ (cs : List ℕ) (rs : List (List Value)). record { columns = cs; rows = rs }) over
-    (made ∙ ascending_same rows sorted)
+table_of_rows columns rows sorted new over made = grind (arith, ap₂, ascending_same)
 
 -- the rows that were kept of a table's
 module _ (near : Region) (t : TableOf) (is : IsTable t.columns t.rows) (columns : List ℕ) (rows : List (List Value))
@@ -59,8 +46,7 @@ module _ (near : Region) (t : TableOf) (is : IsTable t.columns t.rows) (columns 
   kept_table =
       record {
         apart = rw over is.apart;
-        sized = rw (over, kept)
-            (tests_filtered (λ row. nat_eq (length row) (length t.columns)) (is_kept near t.columns) t.rows is.sized);
+        sized = grind (arith, tests_filtered);
         sorted = rw kept (IsStrictlySortedBy-filter row_cmp (is_kept near t.columns) t.rows is.sorted);
       }
 

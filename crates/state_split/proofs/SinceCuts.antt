@@ -1,27 +1,16 @@
 -- The data of a SINCE cut to a region: it keeps its rule, stands for the region, and has nothing outside it.
-use Rattle.std.proofs.Common.{◌≡◌, ℕ, ◌-◌, ◌≤◌, ◌<◌, Bool, true, nat_eq, List, [], ◌∷◌, length, map, refl}
-use Rattle.std.proofs.Common.{ap, ◌∙◌}
-use Rattle.std.specs.List.{AllByRecursion}
-use Rattle.std.specs.Map.{keys_of}
-use Rattle.mfotl_model.specs.Exact.{Covers, View}
-use Rattle.mfotl_model.specs.FreeVariables.{fv}
-use Rattle.mfotl_model.specs.Regions.{Passes}
-use Rattle.mfotl_model.specs.Satisfaction.{Valuation, time_at}
-use Rattle.mfotl_model.specs.Tables.{all_sized}
-use Rattle.mfotl_model.specs.declared.interval.Interval.{Interval}
-use Rattle.mfotl_model.specs.declared.value.Value.{Value}
-use Rattle.eval_since.specs.Recalled.{times_for, times_kept}
-use Rattle.eval_since.specs.SinceBefore.{since_before}
-use Rattle.eval_since.specs.SinceData.{KeepsTimes}
-use Rattle.eval_since.specs.Times.{reaches}
+use Rattle.std.proofs.Common.{◌≡◌, ℕ, ◌-◌, ◌≤◌, ◌<◌, Bool, true, nat_eq, List, [], ◌∷◌, length, map, refl, ap, ◌∙◌}
+use Rattle.std.specs.{List.AllByRecursion, Map.keys_of}
+use Rattle.mfotl_model.specs.{Exact.Covers, Exact.View, FreeVariables.fv, Regions.Passes, Satisfaction.Valuation}
+use Rattle.mfotl_model.specs.{Satisfaction.time_at, Tables.all_sized}
+use Rattle.mfotl_model.specs.declared.{interval.Interval.Interval, value.Value.Value}
+use Rattle.eval_since.specs.{Recalled.times_for, Recalled.times_kept, SinceBefore.since_before, SinceData.KeepsTimes}
+use Rattle.eval_since.specs.{Times.reaches}
 use Rattle.eval_since.specs.declared.recalled.KeptRow.{KeptRow}
 use Rattle.monitorable.specs.CoreForms.{CoreForm, meaning}
 use Rattle.monitor_state.specs.StateCuts.{SinceCut, cut_rows, lies}
-use Rattle.monitor_state.specs.StateInside.{WindowInside}
-use Rattle.monitor_state.specs.StateRules.{SinceKeeps}
-use Rattle.monitor_state.specs.StateStands.{SinceDataStands}
-use Rattle.monitor_state.specs.StateTimes.{KeptTimes, time_before}
-use Rattle.monitor_state.specs.Views.{Dates, Tells}
+use Rattle.monitor_state.specs.{StateInside.WindowInside, StateRules.SinceKeeps, StateStands.SinceDataStands}
+use Rattle.monitor_state.specs.{StateTimes.KeptTimes, StateTimes.time_before, Views.Dates, Views.Tells}
 use Rattle.monitor_state.specs.declared.state.SinceKept.{SinceKept}
 use Rattle.monitor_state.specs.declared.state.WindowData.TheVariants as window
 use Rattle.state_split.proofs.RowCuts.{all_filtered, all_mapped, all_unmapped, ascend_filtered, keys_filtered}

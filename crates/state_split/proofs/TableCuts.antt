@@ -3,17 +3,12 @@ use Rattle.std.proofs.Common.{◌≡◌, ℕ, ◌+◌, ◌&&◌, List, [], ◌�
 use Rattle.std.proofs.lemmas.List.{length-map}
 use Rattle.std.specs.List.{AllByRecursion}
 use Rattle.mfotl_model.specs.Exact.{AllExact, Exact, View}
-use Rattle.mfotl_model.specs.Formulas.{Form}
-use Rattle.mfotl_model.specs.Regions.{Passes, Region}
-use Rattle.mfotl_model.specs.Tables.{TableOf, has}
-use Rattle.eval_bool.specs.BoolData.{TablesOver, with_tables}
-use Rattle.eval_bool.specs.IsJoin.{FewFrom}
-use Rattle.eval_bool.specs.JoinView.{ChildOf}
-use Rattle.monitorable.specs.CoreForms.{CoreForm, meaning}
+use Rattle.mfotl_model.specs.{Formulas.Form, Regions.Passes, Regions.Region, Tables.TableOf, Tables.has}
+use Rattle.eval_bool.specs.{BoolData.TablesOver, BoolData.with_tables, IsJoin.FewFrom, JoinView.ChildOf}
+use Rattle.monitorable.specs.CoreForms.{CoreForm}
 use Rattle.relations.specs.Pushed.{AreOver}
-use Rattle.monitor_state.specs.StateCuts.{cut_table, cut_tables}
-use Rattle.monitor_state.specs.StateInside.{TablesInside}
-use Rattle.monitor_state.specs.StateStands.{TablesStand}
+use Rattle.monitor_state.specs.{StateCuts.cut_table, StateCuts.cut_tables, StateInside.TablesInside}
+use Rattle.monitor_state.specs.{StateStands.TablesStand}
 use Rattle.state_split.proofs.RowCuts.{has_cut, table_inside}
 
 module _ (near : Region) where
@@ -38,8 +33,7 @@ module _ (near : Region) where
       × FewFrom p (with_tables children (map (cut_tables near) tss))
   lists_rule p [] [] over few = (tt, tt)
   lists_rule p (c ∷ children) (ts ∷ tss) over few =
-      let rest = lists_rule p children tss over.1 few.1 in
-      ((over_all c.columns ts over.0, rest.0), (rw (length-map ts (cut_table near)) few.0, rest.1))
+      search (over_all, length-map, lists_rule p children tss over.1 few.1)
   lists_rule p children tss over few = absurd assumption
 
 module _ (view : View) (free : List ℕ) (passes : Passes free view.near) where
@@ -73,11 +67,7 @@ module _ (view : View) (free : List ℕ) (passes : Passes free view.near) where
   pub lists_stand : (p : ℕ) (fs : List CoreForm) (tss : List (List TableOf)) → TablesStand view p fs tss
       → TablesStand view p fs (map (cut_tables view.near) tss)
   lists_stand p [] [] all = tt
-  lists_stand p (f ∷ fs) (ts ∷ tss) all = (
-    ap (λ n. p + n) (length-map ts (cut_table view.near)) ∙ all.0,
-    all_cut (meaning f) p ts all.1,
-    lists_stand p fs tss all.2,
-  )
+  lists_stand p (f ∷ fs) (ts ∷ tss) all = search (length-map, all_cut, lists_stand p fs tss all.2)
   lists_stand p fs tss all = absurd all
 
   pub lists_inside : (tss : List (List TableOf))

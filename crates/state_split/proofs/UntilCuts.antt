@@ -1,43 +1,31 @@
 -- The data of an UNTIL cut to a region: it keeps its rule, stands for the region, and has nothing outside it.
-use Rattle.std.proofs.Common.{◌≡◌, ℕ, ◌≤◌, ◌<◌, Bool, true, nat_le, nat_lt, ◌&&◌, List, [], ◌∷◌, length}
-use Rattle.std.proofs.Common.{map, Option, None, refl, sym, ap, ◌∙◌}
-use Rattle.std.specs.List.{list_all, list_any}
-use Rattle.std.specs.Option.{IfSome, unwrap_or}
-use Rattle.mfotl_model.specs.Exact.{Covers, View}
-use Rattle.mfotl_model.specs.FreeVariables.{fv}
-use Rattle.mfotl_model.specs.Regions.{Passes}
-use Rattle.mfotl_model.specs.Satisfaction.{Valuation}
-use Rattle.mfotl_model.specs.declared.interval.Interval.{Interval}
-use Rattle.mfotl_model.specs.declared.value.Value.{Value}
+use Rattle.std.proofs.Common.{◌≡◌, ℕ, ◌≤◌, ◌<◌, Bool, true, nat_le, nat_lt, ◌&&◌, List, [], ◌∷◌, length, map, Option}
+use Rattle.std.proofs.Common.{None, refl, sym, ap, ◌∙◌, arith}
+use Rattle.std.specs.{List.list_all, List.list_any, Option.IfSome, Option.unwrap_or}
+use Rattle.mfotl_model.specs.{Exact.Covers, Exact.View, FreeVariables.fv, Regions.Passes, Satisfaction.Valuation}
+use Rattle.mfotl_model.specs.declared.{interval.Interval.Interval, value.Value.Value}
 use Rattle.eval_until.specs.Recalled.{entries_kept, entry_at, starts_kept}
-use Rattle.eval_until.specs.Rules.{PlacesAscend}
-use Rattle.eval_until.specs.Starts.{start_of}
-use Rattle.eval_until.specs.UntilBefore.{start, until_before}
-use Rattle.eval_until.specs.UntilData.{UntilRule, until_of}
-use Rattle.eval_until.specs.declared.entries.Entry.{Entry}
-use Rattle.eval_until.specs.declared.recalled.KeptMarks.{KeptMarks}
-use Rattle.eval_until.specs.declared.recalled.Mark.{Mark}
+use Rattle.eval_until.specs.{Rules.PlacesAscend, Starts.start_of, UntilBefore.start, UntilBefore.until_before}
+use Rattle.eval_until.specs.{UntilData.UntilRule, UntilData.until_of}
+use Rattle.eval_until.specs.declared.{entries.Entry.Entry, recalled.KeptMarks.KeptMarks, recalled.Mark.Mark}
 use Rattle.monitorable.specs.CoreForms.{CoreForm, meaning}
 use Rattle.relations.specs.KeptRows.{kept_for}
-use Rattle.monitor_state.specs.Nodes.{is_negated, left_operand}
+use Rattle.monitor_state.specs.{Nodes.is_negated, Nodes.left_operand, StateInside.WindowInside, StateRules.UntilKeeps}
+use Rattle.monitor_state.specs.{StateRules.until_setting, StateTimes.KeptTimes, StateTimes.times_from, Views.Dates}
+use Rattle.monitor_state.specs.{Views.Tells}
 use Rattle.monitor_state.specs.StateCuts.{UntilCut, cut_rows, lies}
-use Rattle.monitor_state.specs.StateInside.{WindowInside}
-use Rattle.monitor_state.specs.StateRules.{UntilKeeps, until_setting}
 use Rattle.monitor_state.specs.StateStands.{UntilDataStands, mark_meets, marks_for, marks_kept}
-use Rattle.monitor_state.specs.StateTimes.{KeptTimes, times_from}
-use Rattle.monitor_state.specs.Views.{Dates, Tells}
 use Rattle.monitor_state.specs.declared.state.UntilKept.{UntilKept}
 use Rattle.monitor_state.specs.declared.state.WindowData.TheVariants as window
-use Rattle.state_split.proofs.RowCuts.{all_filtered, ascend_filtered, changed, filter_mapped, found_cut}
-use Rattle.state_split.proofs.RowCuts.{none_outside, rows_near}
+use Rattle.state_split.proofs.RowCuts.{all_filtered, ascend_filtered, changed, filter_mapped, found_cut, none_outside}
+use Rattle.state_split.proofs.RowCuts.{rows_near}
 use Rattle.state_split.proofs.TableCuts.{over_cut, pushed_cut, tables_exact, tables_inside}
 
 -- the entries of rows are made of their marks
 pub entries_of_marks : (p : ℕ) (next : List ℕ) (rows : List KeptMarks)
     → entries_kept p next rows ≡ map (changed (map (entry_at p next))) (marks_kept rows)
 entries_of_marks p next [] = refl
-entries_of_marks p next (k ∷ ks) =
-    ap (λ rest. (k.row, map (entry_at p next) k.marks.items) ∷ rest) (entries_of_marks p next ks)
+entries_of_marks p next (k ∷ ks) = cc (entries_of_marks p next ks)
 
 module _ (view : View) (free : List ℕ) (passes : Passes free view.near) (k : KeptTimes) (i : Interval)
     (f g : CoreForm) (old new : UntilKept) (cut : UntilCut view.near old new) (keeps : UntilKeeps k i f g old)
@@ -111,12 +99,10 @@ module _ (view : View) (free : List ℕ) (passes : Passes free view.near) (k : K
         lefts = over_cut view.near _ _ _ cut.lefts keeps.rule.lefts;
         rights = over_cut view.near _ _ _ cut.rights keeps.rule.rights;
         starts = rw starts (ascend_filtered (lies view.near left) old_starts keeps.rule.starts);
-        wide = rw starts (all_filtered (λ (r : List Value × ℕ). length r.0 ≡ length left)
-            (λ e. lies view.near left e.0) old_starts keeps.rule.wide);
+        wide = search (starts, all_filtered);
         rows = rw (cut.pulled, entries) (ascend_filtered (lies view.near right) old_entries keeps.rule.rows);
         sized = rw cut.pulled (λ u other. entry_found (λ o. unwrap_or o [] ≡ []) u refl (keeps.rule.sized u other));
-        some = rw (cut.pulled, entries) (all_filtered (λ (r : List Value × List Entry). 0 < length r.1)
-            (λ e. lies view.near right e.0) old_entries keeps.rule.some);
+        some = grind (arith, entries, all_filtered);
         waiting = rw (cut.pulled, cut.taken) (λ u. entry_found (λ o. list_all (λ (e : Entry). nat_le was e.place
             && nat_lt e.place old.kept.taken && nat_le e.start e.place) (unwrap_or o []) ≡ true) u refl
             (keeps.rule.waiting u));

@@ -1,8 +1,7 @@
 use Rattle.std.proofs.Common.{◌++◌, List}
 use Rattle.monitor_state.specs.StateCuts.{NodesCut}
 use Rattle.monitor_state.specs.declared.state.NodeData.{NodeData}
-use Rattle.state_split.specs.Fits.{NodesFit}
-use Rattle.state_split.specs.Shares.{OneEach}
+use Rattle.state_split.specs.{Fits.NodesFit, Shares.OneEach}
 use Rattle.state_split.proofs.nodes.cut_nodes.Given as goal
 
 -- with cuts of those that are left behind it, each share is what it shall be

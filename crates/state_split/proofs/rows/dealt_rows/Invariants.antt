@@ -1,7 +1,6 @@
 use Rattle.std.proofs.Common.{◌≡◌, ℕ, Bool, ◌++◌, map}
 use Rattle.std.specs.List.{filter}
-use Rattle.state_split.specs.Shares.{OneEach}
-use Rattle.state_split.specs.Sieves.{is_kept}
+use Rattle.state_split.specs.{Shares.OneEach, Sieves.is_kept}
 use Rattle.state_split.proofs.rows.dealt_rows.Given as goal
 
 -- with those that are left behind it, each share is what it shall be

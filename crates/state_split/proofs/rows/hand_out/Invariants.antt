@@ -1,8 +1,7 @@
 use Rattle.std.proofs.Common.{◌≡◌, ℕ, ◌<◌, ◌-◌, Bool, true, length, map}
 use Rattle.slice_strategy.proofs.SharingLemmas.{up_to}
 use Rattle.slice_strategy.specs.Sharing.{given_to}
-use Rattle.state_split.specs.Shares.{with_last}
-use Rattle.state_split.specs.Sieves.{is_kept}
+use Rattle.state_split.specs.{Shares.with_last, Sieves.is_kept}
 use Rattle.state_split.proofs.rows.hand_out.Given as goal
 
 -- the shares of the workers before the last one that was found have the row

@@ -1,7 +1,5 @@
-use Rattle.std.proofs.Common.{◌∙◌}
-use Rattle.std.proofs.lemmas.Iterator.{YieldsList-from_zip, items_from_collect}
-use Rattle.std.proofs.lemmas.Iterator.Adapters.{YieldsList-from_vec}
-use Rattle.std.proofs.lemmas.Iterator.Consumers.{YieldsList-at}
+use Rattle.std.proofs.{Common.◌∙◌, lemmas.Iterator.YieldsList-from_zip, lemmas.Iterator.items_from_collect}
+use Rattle.std.proofs.{lemmas.Iterator.Adapters.YieldsList-from_vec, lemmas.Iterator.Consumers.YieldsList-at}
 use Rattle.state_split.proofs.shares.paired.Goals as goal
 
 pub returns : goal.returns

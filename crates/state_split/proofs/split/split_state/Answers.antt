@@ -1,9 +1,5 @@
-use Rattle.monitor_state.specs.MonitorView.{monitor_of}
-use Rattle.monitor_state.specs.Nodes.{nodes_of}
-use Rattle.monitor_state.specs.StateTimes.{times_of}
-use Rattle.state_split.proofs.CutLaw.{splits_stand}
-use Rattle.state_split.proofs.FitLemmas.{nodes_fit}
-use Rattle.state_split.proofs.ShareLemmas.{stand_weaker}
+use Rattle.monitor_state.specs.{MonitorView.monitor_of, Nodes.nodes_of, StateTimes.times_of}
+use Rattle.state_split.proofs.{CutLaw.splits_stand, FitLemmas.nodes_fit, ShareLemmas.stand_weaker}
 use Rattle.state_split.proofs.split.split_state.Goals as goal
 
 pub returns-clause-numbers : goal.returns-clause-numbers

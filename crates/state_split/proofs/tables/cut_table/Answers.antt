@@ -1,6 +1,6 @@
 use Rattle.std.proofs.Common.{◌∙◌, map-id, refl, sym}
-use Rattle.state_split.proofs.ShareLemmas.{each_mapped, stand_all}
-use Rattle.state_split.proofs.SieveLemmas.{kept_is_cut, kept_table}
+use Rattle.state_split.proofs.{ShareLemmas.each_mapped, ShareLemmas.stand_all, SieveLemmas.kept_is_cut}
+use Rattle.state_split.proofs.{SieveLemmas.kept_table}
 use Rattle.state_split.proofs.tables.cut_table.Goals as goal
 
 pub tables_over-requires : goal.tables_over-requires
