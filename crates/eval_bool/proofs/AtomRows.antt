@@ -19,8 +19,7 @@ use Rattle.relations.proofs.JoinLemmas.{row_itself, same_each}
 
 -- an event that the atom doesn't stand for gives no row
 pub event_left : (atom : OneAtom) (columns : List ℕ) (event : Event) (more : List Event) → is_match atom event ≡ false
-    → atom_rows atom columns (event ∷ more)
-    ≡ atom_rows atom columns more
+    → atom_rows atom columns (event ∷ more) ≡ atom_rows atom columns more
 unfolding atom_rows matching_rows
 event_left atom columns event more fails = rw fails refl
 
@@ -53,8 +52,7 @@ all_read q (e ∷ events) =
 pub sized_rows : (atom : OneAtom) (columns : List ℕ) (events : List Event)
     → all_sized (length columns) (atom_rows atom columns events) ≡ true
 unfolding atom_rows matching_rows
-sized_rows atom columns events =
-    all_read (record { atom = atom; columns = columns }) (filter (is_match atom) events)
+sized_rows atom columns events = all_read (record { atom = atom; columns = columns }) (filter (is_match atom) events)
 
 module _ (v : Valuation) (atom : OneAtom) where
   -- an event's own row is v's exactly where it is the event that the atom stands for at v

@@ -82,8 +82,7 @@ few_advanced p (x ∷ xs) due few =
     (one_less p x.tables parts.0 few.0, few_advanced p xs parts.1 few.1)
 
 -- after all of them were taken
-pub join_advances : (columns : List ℕ) (tests : List TestOf) (p : ℕ) (xs ys : List ChildOf)
-    → IsJoin columns tests p xs
+pub join_advances : (columns : List ℕ) (tests : List TestOf) (p : ℕ) (xs ys : List ChildOf) → IsJoin columns tests p xs
     → list_all (λ c. nat_lt 0 (length c.tables)) xs ≡ true → ys ≡ map child_advanced xs
     → IsJoin columns tests (p + 1) ys
 join_advances columns tests p xs ys is due e =

@@ -61,8 +61,7 @@ few_begun (Child columns negated ∷ cs) = (omega arith, few_begun cs)
 few_begun (Test c wanted ∷ cs) = few_begun cs
 
 begun : (cs : List ConjunctOf) → all_children all_apart (children_of cs) ≡ true
-    → is_guarded (children_of cs) (tests_of cs) ≡ true
-    → IsJoin (conjunct_columns cs) (tests_of cs) 0 (children_of cs)
+    → is_guarded (children_of cs) (tests_of cs) ≡ true → IsJoin (conjunct_columns cs) (tests_of cs) 0 (children_of cs)
 begun cs apart guarded =
     let bound = bound_columns (children_of cs) in
     let parts = and_parts (all_children (λ columns. all_among columns bound) (children_of cs))

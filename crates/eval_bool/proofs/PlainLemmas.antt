@@ -40,8 +40,7 @@ record Behind (x : ℕ) (terms : List Term) : Type 0 where
   kept : filter (other_than x) (variables_in terms) ≡ variables_in terms
   apart : (y : ℕ) → among y (variables_in terms) ≡ true → nat_eq x y ≡ false
 
-behind : (x : ℕ) (terms : List Term) → length (variables_in (Var x ∷ terms)) ≡ length (Var x ∷ terms)
-    → Behind x terms
+behind : (x : ℕ) (terms : List Term) → length (variables_in (Var x ∷ terms)) ≡ length (Var x ∷ terms) → Behind x terms
 behind x terms plain =
     grind (arith, at_most, few_variables terms, all_kept, and_parts, variables_apart (Var x ∷ terms), ne_eqb)
 
@@ -56,8 +55,7 @@ values_of v (Const c ∷ terms) plain = absurd (omega (arith, few_variables term
 
 -- they read off each value in its place
 own_values : (terms : List Term) (values : List Value) → length (variables_in terms) ≡ length terms
-    → length terms ≡ length values
-    → map (read_off terms values) (variables_in terms) ≡ values
+    → length terms ≡ length values → map (read_off terms values) (variables_in terms) ≡ values
 own_values [] [] plain same = refl
 own_values [] (a ∷ values) plain same = absurd (omega arith)
 own_values (t ∷ terms) [] plain same = absurd (omega arith)
@@ -76,13 +74,11 @@ own_values (Const c ∷ terms) (a ∷ values) plain same = absurd (omega (arith,
 
 -- they stand for as many values, whatever these are
 pub plain_match : (atom : OneAtom) (event : Event) → length (variables_in atom.args) ≡ length atom.args
-    → atom.pred ≡ event.pred → length atom.args ≡ length event.args
-    → is_match atom event ≡ true
+    → atom.pred ≡ event.pred → length atom.args ≡ length event.args → is_match atom event ≡ true
 unfolding give_back
 plain_match atom event plain pred same = simp (match_by_terms, values_of, own_values, row_itself)
 
-pub other_length : (atom : OneAtom) (event : Event) → atom.pred ≡ event.pred
-    → length atom.args ≢ length event.args
+pub other_length : (atom : OneAtom) (event : Event) → atom.pred ≡ event.pred → length atom.args ≢ length event.args
     → is_match atom event ≡ false
 other_length atom event pred apart = cc (match_by_terms atom event pred, gives_none_back atom.args event.args apart)
 
@@ -96,9 +92,7 @@ plain_row atom event plain holds =
     ∙ ap (λ e. e.args) (tells_apart event_exact (event_of (reads atom event) atom) event holds)
 
 -- an event that the atom stands for gives its own row
-pub own_row : (atom : OneAtom) (event : Event) (more : List Event)
-    → length (variables_in atom.args) ≡ length atom.args
-    → is_match atom event ≡ true
-    → atom_rows atom (variables_in atom.args) (event ∷ more)
+pub own_row : (atom : OneAtom) (event : Event) (more : List Event) → length (variables_in atom.args) ≡ length atom.args
+    → is_match atom event ≡ true → atom_rows atom (variables_in atom.args) (event ∷ more)
     ≡ event.args ∷ atom_rows atom (variables_in atom.args) more
 own_row atom event more plain holds = simp (row_taken, plain_row)

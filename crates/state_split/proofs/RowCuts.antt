@@ -50,8 +50,7 @@ keys_filtered p (e ∷ es) = grind (arith, common_steps, keys_filtered p es)
 
 pub ascend_filtered : {X : Type 0} (p : List Value → Bool) (es : List (List Value × X)) → RowsAscend es
     → RowsAscend (filter (λ e. p e.0) es)
-ascend_filtered p es up =
-    rw (keys_filtered p es) (IsStrictlySortedBy-filter row_cmp p (keys_of es) up)
+ascend_filtered p es up = rw (keys_filtered p es) (IsStrictlySortedBy-filter row_cmp p (keys_of es) up)
 
 -- a pair with another value for its row
 abbrev pub changed : {X Y : Type 0} → (X → Y) → List Value × X → List Value × Y

@@ -186,8 +186,7 @@ stand_numbered L P f y (suc n) (x ∷ xs) size step all =
 stand_numbered L P f y n xs size step all = absurd (omega (arith, size))
 
 pub each_numbered : {X Y Z E : Type 0} (n count : ℕ) (L : ℕ → X → Type 0) (P : ℕ → Y → Type 0) (f : ℕ × X → Y)
-    (xs : List X) (r : Result (Vec Y Z) E) → n ≡ count
-    → IfOk r (λ w. vec_items w ≡ map f (zip (range_with_len 0 n) xs))
+    (xs : List X) (r : Result (Vec Y Z) E) → n ≡ count → IfOk r (λ w. vec_items w ≡ map f (zip (range_with_len 0 n) xs))
     → ((k : ℕ) (x : X) → L k x → P k (f (k, x))) → OneEach count L xs → IfOk r (λ w. OneEach count P (vec_items w))
 each_numbered n count L P f xs r same is step each =
     grind (arith, length-range_with_len, length-map, zip_size, stand_numbered)

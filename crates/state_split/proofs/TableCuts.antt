@@ -47,8 +47,7 @@ module _ (view : View) (free : List ℕ) (passes : Passes free view.near) where
             ∙ e.rows dom v covers n;
       }
 
-  all_cut : (f : Form) (i : ℕ) (ts : List TableOf) → AllExact view f i ts
-      → AllExact view f i (cut_tables view.near ts)
+  all_cut : (f : Form) (i : ℕ) (ts : List TableOf) → AllExact view f i ts → AllExact view f i (cut_tables view.near ts)
   all_cut f i [] all = tt
   all_cut f i (t ∷ ts) all = (exact_cut f i t all.0, all_cut f (i + 1) ts all.1)
 

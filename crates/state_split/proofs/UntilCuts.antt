@@ -83,8 +83,7 @@ module _ (view : View) (free : List ℕ) (passes : Passes free view.near) (k : K
 
   window_right : (dom : List Value) (v : Valuation) → Covers view dom → view.near right v ≡ true → (t : List ℕ)
       (a b : List Bool) → Dates view t → length view.log ≤ length t → Tells view dom v f a → Tells view dom v g b
-      → (j : ℕ) → now ≤ j
-      → list_any (mark_meets i t j) (marks_for new.kept.rows.items (map v right))
+      → (j : ℕ) → now ≤ j → list_any (mark_meets i t j) (marks_for new.kept.rows.items (map v right))
       ≡ until_before i t a b new.kept.taken j
   window_right dom v covers n t a b dates long ta tb j low =
       rw (cut.taken, marks, rows_near free view.near passes right old_marks v n)

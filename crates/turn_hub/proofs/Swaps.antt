@@ -21,8 +21,7 @@ turn_same xs n g e turn = grind (arith, nat_tests)
 
 module _ {W S I O : Type 0} (stands : S → List I → List O → W → Type 0) where
   -- a look that found another's word changes the look alone
-  pub looks_once : (n k x y : ℕ) (m m' : Seated W S I O) → x ≡ y → x ≢ 0
-      → main_looks stands (step n k 0 0 none) m x m'
+  pub looks_once : (n k x y : ℕ) (m m' : Seated W S I O) → x ≡ y → x ≢ 0 → main_looks stands (step n k 0 0 none) m x m'
       → LooksOnce m.0 k y m'.0 × (m'.0.lines ≡ m.0.lines) × IsLeft m.0.lines k
   looks_once n k x y m m' is other l = rw (l.0.1 other) ((refl, refl, is, refl), refl, l.1 other)
 
@@ -34,8 +33,7 @@ module _ {W S I O : Type 0} (stands : S → List I → List O → W → Type 0) 
       → ReadyAt stands m0.0.lines k cf → (count : ℕ) (outs : List O) (items : List I) → count ≡ y.count
       → outs ≡ y.outs.items → c'.items.items ≡ items → (a == 0) ≡ (length items == 0)
       → LooksOnce m0.0 k 0 me'.0 × ((l : Line S I O) × (get_elem? m0.0.lines k ≡ some l) × (count ≡ l.last)
-      × told l.seed l.handed (l.back ++ outs)
-      × (me'.0.lines ≡ set m0.0.lines k (swapped_line l outs items)))
+      × told l.seed l.handed (l.back ++ outs) × (me'.0.lines ≡ set m0.0.lines k (swapped_line l outs items)))
   swaps told tells n k a x m0 me me' y cf c' e zero same h ready count outs items count-is outs-are items-are turn =
       let l = ready.0 in let outs-of : outs ≡ cf.outs.items = rw (← same) outs-are in
       let l-is : h.0 ≡ l = some-injective h.0 l (sym h.3 ∙ rw e ready.1) in

@@ -8,8 +8,7 @@ use Rattle.eval_bool.proofs.AtomRows.{has_matching, has_own, sized_rows, variabl
 use Rattle.eval_bool.proofs.atom.AtomReader.table.Goals as goal
 
 pub from_rows-requires-clause-apart : goal.from_rows-requires-clause-apart
-from_rows-requires-clause-apart c =
-    ap all_apart c.in_ok-columns.ensures ∙ variables_apart c.args.self.now.args
+from_rows-requires-clause-apart c = ap all_apart c.in_ok-columns.ensures ∙ variables_apart c.args.self.now.args
 
 pub from_rows-requires-clause-sized : goal.from_rows-requires-clause-sized
 from_rows-requires-clause-sized c =
