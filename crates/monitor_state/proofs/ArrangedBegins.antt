@@ -1,25 +1,18 @@
 -- What the fragment gives a core it gives the arranged one.
-use Rattle.std.proofs.Common.{◌≡◌, ℕ, Bool, true, false, None, ◌||◌, List, ◌∷◌, [], refl, sym, ap, ap₂, ◌∙◌}
+use Rattle.std.proofs.Common.{◌≡◌, ℕ, Bool, true, false, None, ◌||◌, List, refl, sym, ap, ap₂, ◌∙◌, arith}
 use Rattle.std.proofs.Math.Bool.{or_assoc, or_comm}
-use Rattle.mfotl_model.specs.ActiveDomain.{constants}
-use Rattle.mfotl_model.specs.Domains.{in_domain}
-use Rattle.mfotl_model.specs.Exact.{View}
-use Rattle.mfotl_model.specs.FreeVariables.{among}
-use Rattle.mfotl_model.specs.declared.event.Event.{Event}
-use Rattle.mfotl_model.specs.declared.value.Value.{Value}
+use Rattle.mfotl_model.specs.{ActiveDomain.constants, Domains.in_domain, Exact.View, FreeVariables.among}
+use Rattle.mfotl_model.specs.declared.{event.Event.Event, value.Value.Value}
 use Rattle.monitorable.proofs.FragmentLemmas.{asked_kept, no_first, no_variable, none_first, none_outside}
 use Rattle.monitorable.specs.CoreForms.{CoreForm, meaning, And, Exists, Next, Not, Or, Previous, Since, Until}
-use Rattle.monitorable.specs.Fragment.{Names, asked, at_variable, bound_by, covers, evens, fault_in, first}
-use Rattle.monitorable.specs.Fragment.{first_outside, guards, is_conjunction, judges_not, looks_within, named_variable}
-use Rattle.monitorable.specs.Fragment.{needed_by, under_not, with_name}
-use Rattle.monitorable.specs.Soundness.{HasVariablesOf, IsWellFormedIn}
-use Rattle.monitorable.specs.declared.fault.FragmentFault.TheVariants.{LooseLeft, Unguarded, Uneven, UnusedBound}
+use Rattle.monitorable.specs.Fragment.{Names, asked, bound_by, covers, evens, fault_in, first, guards, is_conjunction}
+use Rattle.monitorable.specs.Fragment.{judges_not, looks_within, needed_by, under_not, with_name}
+use Rattle.monitorable.specs.Soundness.{IsWellFormedIn}
 use Rattle.monitorable.specs.declared.role.Role.{Role}
 use Rattle.monitorable.specs.declared.role.Role.TheVariants as role
 use Rattle.monitor_state.proofs.ArrangedLemmas.{fv_arranged, has_conjuncts, of_either}
-use Rattle.monitor_state.proofs.NarrowedBegins.{among_both, within_both}
-use Rattle.monitor_state.proofs.WholeLemmas.{guarded}
-use Rattle.monitor_state.specs.Nodes.{arranged, before_windows, goes_before, windowed, with_conjunct, with_conjuncts}
+use Rattle.monitor_state.proofs.{NarrowedBegins.among_both, NarrowedBegins.within_both, WholeLemmas.guarded}
+use Rattle.monitor_state.specs.Nodes.{arranged, before_windows, windowed, with_conjuncts}
 use Rattle.monitor_state.specs.Steps.{SameNear}
 
 -- ---- what a conjunction has where both its sides have it
@@ -27,19 +20,13 @@ use Rattle.monitor_state.specs.Steps.{SameNear}
 module _ (P : CoreForm → Type 0) (pair : (f g : CoreForm) → P f → P g → P (And f g))
     (parts : (f g : CoreForm) → P (And f g) → P f × P g) where
   stays_before : (f h : CoreForm) → P f → P h → P (before_windows f h)
-  stays_before (And f g) h p q =
-      of_either P (windowed g) (And (before_windows f h) g) (And (And f g) h)
-      (pair (before_windows f h) g (stays_before f h (parts f g p).0 q) (parts f g p).1) (pair (And f g) h p q)
+  stays_before (And f g) h p q = grind (arith, of_either, stays_before f h (parts f g p).0 q)
   stays_before f h p q = of_either P (windowed f) (And h f) (And f h) (pair h f q p) (pair f h p q)
-
-  stays_conjunct : (f h : CoreForm) → P f → P h → P (with_conjunct f h)
-  stays_conjunct f h p q =
-      of_either P (goes_before f h) (before_windows f h) (And f h) (stays_before f h p q) (pair f h p q)
 
   pub stays_conjuncts : (f g : CoreForm) → P f → P g → P (with_conjuncts f g)
   stays_conjuncts f (And g h) p q =
       stays_conjuncts (with_conjuncts f g) h (stays_conjuncts f g p (parts g h q).0) (parts g h q).1
-  stays_conjuncts f g p q = stays_conjunct f g p q
+  stays_conjuncts f g p q = grind (arith, of_either, stays_before)
 
 -- ---- it binds and needs the same variables
 
@@ -69,13 +56,7 @@ needed_arranged (Not f) y = ap (among y) (fv_arranged f)
 needed_arranged f y = refl
 
 guards_arranged : (names : Names) (f : CoreForm) → guards names f ≡ None → guards names (arranged f) ≡ None
-guards_arranged names f guard =
-    guarded (arranged f) names
-    (λ y m.
-    bound_arranged f y
-    ∙ none_outside (bound_by f) (needed_by f) y
-    (no_variable (λ z. Unguarded (named_variable names z)) (first_outside (bound_by f) (needed_by f)) guard)
-    (sym (needed_arranged f y) ∙ m))
+guards_arranged names f guard = grind (arith, guarded, bound_arranged, none_outside, no_variable, needed_arranged)
 
 -- ---- it has no fault
 
@@ -84,24 +65,15 @@ abbrev is_and : CoreForm → Bool
 is_and (And f g) = true
 is_and f = false
 
-and_before : (f h : CoreForm) → is_and (before_windows f h) ≡ true
-and_before (And f g) h =
-    of_either (λ k. is_and k ≡ true) (windowed g) (And (before_windows f h) g) (And (And f g) h) refl refl
-and_before f h = of_either (λ k. is_and k ≡ true) (windowed f) (And h f) (And f h) refl refl
-
 and_conjuncts : (f g : CoreForm) → is_and (with_conjuncts f g) ≡ true
 and_conjuncts f (And g h) = and_conjuncts (with_conjuncts f g) h
-and_conjuncts f g =
-    of_either (λ k. is_and k ≡ true) (goes_before f g) (before_windows f g) (And f g) (and_before f g) refl
+and_conjuncts f g = grind arith
 
 -- a conjunction has no fault where none of its sides has one, and its variables are guarded where they are judged
 judged : (names : Names) (r : Role) (k : CoreForm) → is_and k ≡ true → fault_in names role.Part k ≡ None
     → asked (is_conjunction r) (guards names k) ≡ None → fault_in names r k ≡ None
 unfolding fault_in
-judged names r (And f g) is e guard =
-    let left = no_first _ _ e in
-    none_first _ _ left.0 (none_first _ _ (no_first _ _ left.1).0 guard)
-judged names r k is e guard = absurd (let clash : false ≡ true = is in cc)
+judged names r k is e guard = grind arith
 
 both_parts : (names : Names) (f g : CoreForm) → fault_in names role.Part f ≡ None → fault_in names role.Part g ≡ None
     → fault_in names role.Part (And f g) ≡ None
@@ -114,15 +86,10 @@ unfolding fault_in
 each_part names f g e = let left = no_first _ _ e in (left.0, (no_first _ _ left.1).0)
 
 evens_arranged : (f g : CoreForm) → evens (arranged f) (arranged g) ≡ evens f g
-evens_arranged f g =
-    ap₂ (λ xs ys. first (at_variable (λ y. Uneven) (first_outside xs ys))
-    (at_variable (λ y. Uneven) (first_outside ys xs)))
-    (fv_arranged f) (fv_arranged g)
+evens_arranged f g = simp fv_arranged
 
 covers_arranged : (names : Names) (f g : CoreForm) → covers names (arranged f) (arranged g) ≡ covers names f g
-covers_arranged names f g =
-    ap₂ (λ xs ys. at_variable (λ y. LooseLeft (named_variable names y)) (first_outside ys xs)) (fv_arranged f)
-    (fv_arranged g)
+covers_arranged names f g = simp fv_arranged
 
 pub fault_arranged : (names : Names) (r : Role) (f : CoreForm) → fault_in names r f ≡ None
     → fault_in names r (arranged f) ≡ None
@@ -147,9 +114,7 @@ fault_arranged names r (Or f g) e =
     (none_first _ _ (fault_arranged names role.Whole g right.0) (evens_arranged f g ∙ right.1))
 fault_arranged names r (Exists x f) e =
     let parts = no_first _ _ e in
-    none_first _ _ (fault_arranged (with_name names x) role.Whole f parts.0)
-    (ap (λ xs. at_variable (λ y. UnusedBound (record { number = y; name = x.name }))
-    (first_outside xs (x.number ∷ []))) (fv_arranged f) ∙ parts.1)
+    grind (arith, none_first, fv_arranged, fault_arranged (with_name names x) role.Whole f parts.0)
 fault_arranged names r (Previous i f) e = fault_arranged names role.Whole f e
 fault_arranged names r (Next i f) e = fault_arranged names role.Whole f e
 fault_arranged names r (Since i f g) e =
@@ -184,21 +149,13 @@ constants_arranged (Since i f g) b = simp (within_both, constants_arranged f b, 
 constants_arranged (Until i f g) b = simp (within_both, constants_arranged f b, constants_arranged g b)
 constants_arranged f b = refl
 
-variables_arranged : (f g : CoreForm) → HasVariablesOf g f → HasVariablesOf (arranged g) (arranged f)
-variables_arranged f g has y m =
-    ap (among y) (fv_arranged g) ∙ has y (sym (ap (among y) (fv_arranged f)) ∙ m)
-
 pub sound_arranged : (whole f : CoreForm) → IsWellFormedIn whole f → IsWellFormedIn whole (arranged f)
 sound_arranged whole (Not f) sound = sound_arranged whole f sound
 sound_arranged whole (And f g) sound =
     stays_conjuncts (IsWellFormedIn whole) (λ h k p q. (p, q)) (λ h k p. p) (arranged f) (arranged g)
     (sound_arranged whole f sound.0) (sound_arranged whole g sound.1)
-sound_arranged whole (Or f g) sound = (
-  variables_arranged f g sound.0,
-  variables_arranged g f sound.1,
-  sound_arranged whole f sound.2,
-  sound_arranged whole g sound.3,
-)
+sound_arranged whole (Or f g) sound =
+    grind (arith, fv_arranged, sound_arranged whole f sound.2, sound_arranged whole g sound.3)
 sound_arranged whole (Exists x f) sound = (
   sound.0,
   ap (among x.number) (fv_arranged f) ∙ sound.1,
@@ -209,9 +166,9 @@ sound_arranged whole (Exists x f) sound = (
 sound_arranged whole (Previous i f) sound = sound_arranged whole f sound
 sound_arranged whole (Next i f) sound = sound_arranged whole f sound
 sound_arranged whole (Since i f g) sound =
-    (variables_arranged f g sound.0, sound_arranged whole f sound.1, sound_arranged whole g sound.2)
+    (grind (arith, fv_arranged), sound_arranged whole f sound.1, sound_arranged whole g sound.2)
 sound_arranged whole (Until i f g) sound =
-    (variables_arranged f g sound.0, sound_arranged whole f sound.1, sound_arranged whole g sound.2)
+    (grind (arith, fv_arranged), sound_arranged whole f sound.1, sound_arranged whole g sound.2)
 sound_arranged whole f sound = sound
 
 pub same_arranged : (view : View) (f : CoreForm) (given db : List Event) → SameNear view f given db
@@ -220,8 +177,7 @@ same_arranged view (Not f) given db same = same_arranged view f given db same
 same_arranged view (And f g) given db same =
     stays_conjuncts (λ k. SameNear view k given db) (λ h k p q. (p, q)) (λ h k p. p) (arranged f) (arranged g)
     (same_arranged view f given db same.0) (same_arranged view g given db same.1)
-same_arranged view (Or f g) given db same =
-    (same_arranged view f given db same.0, same_arranged view g given db same.1)
+same_arranged view (Or f g) given db same = (same_arranged view f given db same.0, same_arranged view g given db same.1)
 same_arranged view (Exists x f) given db same = same_arranged view f given db same
 same_arranged view (Previous i f) given db same = same_arranged view f given db same
 same_arranged view (Next i f) given db same = same_arranged view f given db same

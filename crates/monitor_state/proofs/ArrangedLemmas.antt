@@ -1,27 +1,19 @@
 -- An arranged core means what the core means.
-use Rattle.std.proofs.Common.{◌≡◌, ℕ, Bool, true, false, not, ◌&&◌, ◌||◌, cond, nat_eq, List, length, refl, sym, ap}
-use Rattle.std.proofs.Common.{ap₂, ◌∙◌, inl, inr}
-use Rattle.std.proofs.Math.Bool.{and_assoc, and_comm}
+use Rattle.std.proofs.Common.{◌≡◌, ℕ, Bool, not, ◌&&◌, ◌||◌, cond, List, length, refl, sym, ap, ap₂, ◌∙◌, arith}
+use Rattle.std.proofs.{Math.Bool.and_assoc, Math.Bool.and_comm, lemmas.Slice.Eq.bytes_eq-Decides}
 use Rattle.std.proofs.lemmas.Bool.{and_parts, cases_Bool, cond-false, cond-true}
-use Rattle.std.proofs.lemmas.Slice.Eq.{bytes_eq-Decides}
-use Rattle.std.specs.Cmp.Lexicographic.{pointwise}
 use Rattle.std.specs.List.{list_any}
-use Rattle.mfotl_model.proofs.LogicLemmas.{funext}
-use Rattle.mfotl_model.proofs.VariableLemmas.{joined_assoc}
+use Rattle.mfotl_model.proofs.{LogicLemmas.funext, VariableLemmas.joined_assoc}
 use Rattle.mfotl_model.specs.FreeVariables.{fv, joined, without}
-use Rattle.mfotl_model.specs.Log.{times}
+use Rattle.mfotl_model.specs.{Log.times, Settled.next_settled, Settled.settled}
 use Rattle.mfotl_model.specs.Satisfaction.{Valuation, next, previous, sat, since, truths, until, with_value}
-use Rattle.mfotl_model.specs.Settled.{next_settled, previous_settled, settled, since_settled, until_settled}
-use Rattle.mfotl_model.specs.declared.event.TimePoint.{TimePoint}
-use Rattle.mfotl_model.specs.declared.value.Value.{Value}
+use Rattle.mfotl_model.specs.declared.{event.TimePoint.TimePoint, value.Value.Value}
 use Rattle.monitorable.specs.CoreForms.{CoreForm, meaning, And, Exists, Next, Not, Or, Previous, Since, Until}
-use Rattle.monitor_state.specs.Nodes.{arranged, before_windows, connects, goes_before, last_conjunct, windowed}
-use Rattle.monitor_state.specs.Nodes.{with_conjunct, with_conjuncts, without_windows}
+use Rattle.monitor_state.specs.Nodes.{arranged, before_windows, with_conjunct, with_conjuncts}
 
 -- what both branches have
 pub of_either : (P : CoreForm → Type 0) (b : Bool) (f g : CoreForm) → P f → P g → P (cond b f g)
-of_either P true f g p q = p
-of_either P false f g p q = q
+of_either P b f g p q = grind arith
 
 -- ---- a test that a conjunction meets by both sides, whatever their order
 
@@ -32,53 +24,21 @@ module _ (op : Bool → Bool → Bool) (assoc : (a b c : Bool) → op (op a b) c
   swapped a b c = assoc a c b ∙ ap (op a) (comm c b) ∙ sym (assoc a b c)
 
   has_before : (f h : CoreForm) → has (before_windows f h) ≡ op (has f) (has h)
-  has_before (And f g) h =
-      of_either (λ k. has k ≡ op (has (And f g)) (has h)) (windowed g) (And (before_windows f h) g) (And (And f g) h)
-      (both (before_windows f h) g ∙ ap (λ b. op b (has g)) (has_before f h)
-      ∙ swapped (has f) (has g) (has h)
-      ∙ ap (λ b. op b (has h)) (sym (both f g))) (both (And f g) h)
-  has_before f h =
-      of_either (λ k. has k ≡ op (has f) (has h)) (windowed f) (And h f) (And f h)
-      (both h f ∙ comm (has h) (has f)) (both f h)
-
-  has_conjunct : (f h : CoreForm) → has (with_conjunct f h) ≡ op (has f) (has h)
-  has_conjunct f h =
-      of_either (λ k. has k ≡ op (has f) (has h)) (goes_before f h) (before_windows f h) (And f h)
-      (has_before f h) (both f h)
+  has_before (And f g) h = grind (arith, of_either, swapped, has_before f h)
+  has_before f h = grind arith
 
   pub has_conjuncts : (f g : CoreForm) → has (with_conjuncts f g) ≡ op (has f) (has g)
-  has_conjuncts f (And g h) =
-      has_conjuncts (with_conjuncts f g) h ∙ ap (λ b. op b (has h)) (has_conjuncts f g)
-      ∙ assoc (has f) (has g) (has h)
-      ∙ ap (op (has f)) (sym (both g h))
-  has_conjuncts f g = has_conjunct f g
+  has_conjuncts f (And g h) = grind (arith, has_conjuncts (with_conjuncts f g) h, has_conjuncts f g)
+  has_conjuncts f g = grind (arith, of_either, has_before)
 
 -- ---- the columns keep their order
 
-same_order : (f h : CoreForm) → goes_before f h ≡ true
-    → fv (meaning (before_windows f h)) ≡ fv (meaning (And f h))
-same_order f h on =
-    let order = pointwise nat_eq (fv (meaning (before_windows f h))) (fv (meaning (And f h))) in
-    let none = and_parts (windowed (last_conjunct f))
-    (not (windowed h) && (connects (without_windows f) h && order)) on in
-    let near = and_parts (not (windowed h)) (connects (without_windows f) h && order) none.1 in
-    (bytes_eq-Decides (fv (meaning (before_windows f h))) (fv (meaning (And f h)))).0
-    (and_parts (connects (without_windows f) h) order near.1).1
-
 fv_conjunct : (f h : CoreForm) → fv (meaning (with_conjunct f h)) ≡ fv (meaning (And f h))
-fv_conjunct f h =
-    elim (cases_Bool (goes_before f h)) [
-      | inl on ↦
-          ap (λ k. fv (meaning k)) (cond-true (goes_before f h) (before_windows f h) (And f h) on)
-          ∙ same_order f h on
-      | inr off ↦ ap (λ k. fv (meaning k)) (cond-false (goes_before f h) (before_windows f h) (And f h) off)
-    ]
+fv_conjunct f h = grind (arith, cases_Bool, cond-true, and_parts, bytes_eq-Decides, cond-false)
 
 fv_conjuncts : (f g : CoreForm) → fv (meaning (with_conjuncts f g)) ≡ joined (fv (meaning f)) (fv (meaning g))
 unfolding fv
-fv_conjuncts f (And g h) =
-    fv_conjuncts (with_conjuncts f g) h ∙ ap (λ xs. joined xs (fv (meaning h))) (fv_conjuncts f g)
-    ∙ joined_assoc (fv (meaning f)) (fv (meaning g)) (fv (meaning h))
+fv_conjuncts f (And g h) = simp (joined_assoc, fv_conjuncts (with_conjuncts f g) h, fv_conjuncts f g)
 fv_conjuncts f g = fv_conjunct f g
 
 -- ---- the core
@@ -128,13 +88,8 @@ settled_arranged t (And f g) i =
     ∙ ap₂ (λ a b. a && b) (settled_arranged t f i) (settled_arranged t g i)
 settled_arranged t (Or f g) i = ap₂ (λ a b. a && b) (settled_arranged t f i) (settled_arranged t g i)
 settled_arranged t (Exists x f) i = settled_arranged t f i
-settled_arranged t (Previous interval f) i =
-    ap (λ r. previous_settled t r i) (funext _ _ (settled_arranged t f))
+settled_arranged t (Previous interval f) i = simp (settled_arranged t f)
 settled_arranged t (Next interval f) i = ap (λ r. next_settled t r i) (funext _ _ (settled_arranged t f))
-settled_arranged t (Since interval f g) i =
-    ap₂ (λ q r. since_settled (λ j. q j && r j) i) (funext _ _ (settled_arranged t f))
-    (funext _ _ (settled_arranged t g))
-settled_arranged t (Until interval f g) i =
-    ap₂ (λ q r. until_settled interval.hi t (λ j. q j && r j) i) (funext _ _ (settled_arranged t f))
-    (funext _ _ (settled_arranged t g))
+settled_arranged t (Since interval f g) i = simp (settled_arranged t f, settled_arranged t g)
+settled_arranged t (Until interval f g) i = simp (settled_arranged t f, settled_arranged t g)
 settled_arranged t f i = refl

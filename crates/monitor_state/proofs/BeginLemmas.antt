@@ -1,33 +1,25 @@
 -- The nodes with which a monitor begins stand for the empty log.
-use Rattle.std.proofs.Common.{subst, ◌≡◌, ◌+◌, ◌≤◌, Bool, true, false, ◌&&◌, cond, List, [], ◌∷◌, ◌++◌, length, map}
-use Rattle.std.proofs.Common.{drop, refl, sym, ap, ◌∙◌, ◌⊎◌, arith, append_assoc, inl, inr}
+use Rattle.std.proofs.Common.{subst, ◌≡◌, Bool, true, false, ◌&&◌, cond, List, [], ◌∷◌, ◌++◌, length, map, refl, sym}
+use Rattle.std.proofs.Common.{ap, ◌∙◌, ◌⊎◌, arith, append_assoc, inl, inr}
 use Rattle.relations.proofs.InsideLemmas.{joined_within}
-use Rattle.mfotl_model.specs.Exact.{View}
-use Rattle.mfotl_model.specs.FreeVariables.{fv}
-use Rattle.mfotl_model.specs.Log.{times}
-use Rattle.mfotl_model.specs.Satisfaction.{Valuation, sat}
-use Rattle.mfotl_model.specs.Tables.{TableOf, has}
+use Rattle.mfotl_model.specs.{Exact.View, FreeVariables.fv, Log.times, Satisfaction.Valuation, Satisfaction.sat}
+use Rattle.mfotl_model.specs.{Tables.TableOf, Tables.has}
 use Rattle.mfotl_model.specs.declared.interval.Interval.{Interval}
-use Rattle.eval_bool.specs.OrView.{OrOf}
-use Rattle.eval_since.specs.PreviousView.{PrevOf}
-use Rattle.eval_since.specs.SinceView.{SinceOf}
+use Rattle.eval_bool.specs.{OrView.OrOf, JoinView.JoinOf, JoinView.children_of}
+use Rattle.eval_since.specs.{PreviousView.PrevOf, SinceView.SinceOf}
 use Rattle.eval_until.specs.NextView.{NextOf}
 use Rattle.monitorable.specs.CoreForms.{CoreForm, meaning, True, False, Not, And, Or, Previous, Next, Since}
-use Rattle.monitorable.specs.Conjuncts.{PartForm, conjuncts_of}
-use Rattle.monitorable.specs.Conjuncts.PartForm.{Child as ChildPart, Test as TestPart}
+use Rattle.monitorable.specs.{Conjuncts.PartForm, Conjuncts.conjuncts_of, Conjuncts.PartForm.Child as ChildPart}
+use Rattle.monitorable.specs.{Conjuncts.PartForm.Test as TestPart}
 use Rattle.monitorable.specs.Fragment.{is_conjunction, judges_not, under_not}
-use Rattle.eval_bool.specs.JoinView.{ChildOf, JoinOf, children_of}
 use Rattle.monitorable.specs.declared.role.Role.{Role}
 use Rattle.monitorable.specs.declared.role.Role.TheVariants as role
-use Rattle.monitor_state.proofs.ExactLemmas.{reached_within}
-use Rattle.monitor_state.proofs.MonitorSteps.{nodes_append}
-use Rattle.monitor_state.proofs.SinceSteps.{free_operand}
+use Rattle.monitor_state.proofs.{ExactLemmas.reached_within, MonitorSteps.nodes_append, SinceSteps.free_operand}
 use Rattle.monitor_state.specs.Beginnings.{Adds, AddsIf, Begins, BeginsJoin, BeginsNode, IsJoined, NextBegun, OrBegun}
 use Rattle.monitor_state.specs.Beginnings.{PreviousBegun, SinceBegun}
 use Rattle.monitor_state.specs.Nodes.{children, filters, nodes_in, nodes_of, operands, true_in, without_last}
 use Rattle.monitor_state.specs.Stands.{ChildrenStand, IsConstant, IsNodeFor, IsConjunction, IsOr, JoinStands}
-use Rattle.monitor_state.specs.Stands.{NextStands, OrStands, PreviousStands, bare, conjunct_as, NodeStands, NodesStand}
-use Rattle.monitor_state.specs.Stands.{StateOf}
+use Rattle.monitor_state.specs.Stands.{NextStands, OrStands, PreviousStands, bare, conjunct_as, NodeStands, StateOf}
 use Rattle.monitor_state.specs.SinceNode.{IsSince, IsSinceState, SinceStands, SinceStandsAt}
 use Rattle.monitor_state.specs.Views.{reached}
 use Rattle.monitor_state.specs.declared.node.Node.{Node}
@@ -49,24 +41,17 @@ adds_one f n old new is for stands view empty = (n ∷ [], is, (for, stands view
 
 -- nothing of an empty log is settled
 pub none_reached : (view : View) → view.log ≡ [] → (f : CoreForm) → 0 ≡ reached view f
-none_reached view empty f =
-    let most : reached view f ≤ length view.log = reached_within view f in
-    let size : length view.log ≡ 0 = ap length empty in
-    omega arith
+none_reached view empty f = grind (arith, reached_within)
 
 pub true_adds : (table : TableOf) (old new : List Node) → table.columns ≡ [] → ((v : Valuation) → has table v ≡ true)
     → new ≡ old ++ node.Constant table ∷ [] → Adds (True ∷ []) old new
 unfolding fv sat
-true_adds table old new columns rows is =
-    adds_one True (node.Constant table) old new is
-    (record { columns = columns; rows = λ log dom v i. rows v; alone = refl }) (λ view empty. tt)
+true_adds table old new columns rows is = search (adds_one)
 
 pub false_adds : (table : TableOf) (old new : List Node) → table.columns ≡ [] → ((v : Valuation) → has table v ≡ false)
     → new ≡ old ++ node.Constant table ∷ [] → Adds (False ∷ []) old new
 unfolding fv sat
-false_adds table old new columns rows is =
-    adds_one False (node.Constant table) old new is
-    (record { columns = columns; rows = λ log dom v i. rows v; alone = refl }) (λ view empty. tt)
+false_adds table old new columns rows is = search (adds_one)
 
 pub true_elsewhere : (r : Role) (old new : List Node) → (r ≡ role.Whole) ⊎ ((r ≡ role.Part) ⊎ (r ≡ role.Negated))
     → Adds (True ∷ []) old new → Adds (true_in r ∷ []) old new
@@ -75,27 +60,24 @@ true_elsewhere r old new (inr (inl is)) adds = rw is adds
 true_elsewhere r old new (inr (inr is)) adds = rw is adds
 
 pub since_state_is : (i : Interval) (f g : CoreForm) (s : SinceOf) → SinceBegun i f g s → IsSinceState i f g s
-since_state_is i f g s begun =
-    rw begun.begun (record { interval = refl; negated = refl; left = sym (free_operand f); right = refl })
+since_state_is i f g s begun = grind (arith, free_operand)
 
 since_is : (i : Interval) (f g : CoreForm) (s : SinceOf) (order : TableOf) → SinceBegun i f g s
     → order.columns ≡ fv (meaning (Since i f g)) → IsSince i f g s order
 unfolding fv
-since_is i f g s order begun columns =
-    record { state = since_state_is i f g s begun; ordered = columns }
+since_is i f g s order begun columns = search (since_state_is)
 
 pub since_begins_at : (i : Interval) (f g : CoreForm) (s : SinceOf) → SinceBegun i f g s → (view : View) → view.log ≡ []
     → SinceStandsAt view 0 i f g s
 since_begins_at i f g s begun view empty =
-    let size : length view.log ≡ 0 = ap length empty in
     let left : 0 ≡ reached view f = none_reached view empty f in
     let right : 0 ≡ reached view g = none_reached view empty g in
     record {
       pulled = rw begun.begun;
-      timed = rw begun.begun (omega arith);
+      timed = rw begun.begun (omega (arith, ap length empty));
       known = rw (begun.begun, empty);
-      left_pushed = rw begun.begun (omega arith);
-      right_pushed = rw begun.begun (omega arith);
+      left_pushed = rw begun.begun (omega (arith, ap length empty));
+      right_pushed = rw begun.begun (omega (arith, ap length empty));
       lefts = rw begun.begun tt;
       rights = rw begun.begun tt;
       follows = λ dom v covers near t a b dates tells tells_right. begun.follows t a b v;
@@ -104,8 +86,7 @@ since_begins_at i f g s begun view empty =
 since_begins : (i : Interval) (f g : CoreForm) (s : SinceOf) → SinceBegun i f g s → (view : View) → view.log ≡ []
     → SinceStands view i f g s
 since_begins i f g s begun view empty =
-    subst (λ p. SinceStandsAt view p i f g s) (none_reached view empty (Since i f g))
-    (since_begins_at i f g s begun view empty)
+    grind (arith, none_reached view empty (Since i f g), since_begins_at i f g s begun view empty)
 
 pub since_added : (h : CoreForm) (i : Interval) (f g : CoreForm) (s : SinceOf) (order : TableOf) (old new : List Node)
     → SinceBegun i f g s → order.columns ≡ fv (meaning h) → new ≡ old ++ node.Since s order ∷ []
@@ -118,66 +99,41 @@ since_added h i f g s order old new begun columns is same =
 
 -- a state of these nodes stands for the empty log
 pub begins : (core : CoreForm) (state : StateOf) → state.taken ≡ 0 → state.given ≡ 0 → state.first ≡ 0
-    → state.times ≡ []
-    → Adds (nodes_of core) [] state.nodes → Begins core state
+    → state.times ≡ [] → Adds (nodes_of core) [] state.nodes → Begins core state
 begins core state taken given first times_are adds view empty =
     let added = adds view empty in
-    record {
-      taken = taken ∙ sym (ap length empty);
-      given = given ∙ none_reached view empty core;
-      first = omega arith;
-      times = times_are ∙ sym (ap (λ log. drop state.first (times log)) empty ∙ ap (λ n. drop n []) first);
-      nodes = subst (NodesStand view (nodes_of core)) (sym added.1) added.2;
-    }
+    grind (arith, none_reached)
 
 begun_children : (view : View) → view.log ≡ [] → (ps : List PartForm)
     → ChildrenStand view 0 (children ps) (children_of (map conjunct_as ps))
 begun_children view empty [] = tt
-begun_children view empty (ChildPart f n ∷ ps) =
-    (record { pushed = none_reached view empty f; exact = tt }, begun_children view empty ps)
+begun_children view empty (ChildPart f n ∷ ps) = search (none_reached, begun_children view empty ps)
 begun_children view empty (TestPart c w ∷ ps) = begun_children view empty ps
 
 bare_begun : (ps : List PartForm) → map bare (children_of (map conjunct_as ps)) ≡ children_of (map conjunct_as ps)
 bare_begun [] = refl
-bare_begun (ChildPart f n ∷ ps) =
-    ap (λ (ds : List ChildOf). record { columns = fv (meaning f); negated = n; tables = [] } ∷ ds) (bare_begun ps)
+bare_begun (ChildPart f n ∷ ps) = cc (bare_begun ps)
 bare_begun (TestPart c w ∷ ps) = bare_begun ps
 
 join_is : (f : CoreForm) (s : JoinOf) → operands f ≡ children (conjuncts_of f) → BeginsJoin f s → IsConjunction f s
-join_is f s same begins =
-    rw begins.begun
-    (record { columns = refl; tests = refl; parts = bare_begun (conjuncts_of f); some = begins.some; whole = same })
+join_is f s same begins = grind (arith, bare_begun)
 
 join_begins : (f : CoreForm) (s : JoinOf) → operands f ≡ children (conjuncts_of f) → BeginsJoin f s → (view : View)
     → view.log ≡ [] → JoinStands view f s
-join_begins f s same begins view empty =
-    rw begins.begun
-    (record {
-      pulled = none_reached view empty f;
-      children = rw same (begun_children view empty (conjuncts_of f));
-    })
+join_begins f s same begins view empty = grind (arith, none_reached, begun_children)
 
 -- the node of a conjunction that has a child
 pub join_node : (h : CoreForm) (s : JoinOf) → IsJoined h → operands h ≡ children (conjuncts_of h) → BeginsJoin h s
     → BeginsNode h (node.Join s)
-join_node h s (inl same) whole begins =
-    let own = rw same.2 at begins in
-    let all = rw same.2 at whole in
-    rw same.2 (join_is (And same.0 same.1) s all own, join_begins (And same.0 same.1) s all own)
-join_node h s (inr same) whole begins =
-    let own = rw same.1 at begins in
-    rw same.1 (join_is (Not same.0) s refl own, join_begins (Not same.0) s refl own)
+join_node h s k whole begins = grind (arith, begins, join_is, join_begins)
 
 -- the node of one that has none
 pub tests_node : (h : CoreForm) (table : TableOf) → IsJoined h → IsConstant h table → BeginsNode h (node.Constant table)
-tests_node h table (inl same) is = rw same.2 (rw same.2 at is, λ view empty. tt)
-tests_node h table (inr same) is = rw same.1 (rw same.1 at is, λ view empty. tt)
+tests_node h table k is = grind arith
 
 pub and_adds : (r : Role) (h f g : CoreForm) (own : Bool) (old mid new : List Node) → h ≡ And f g
-    → own ≡ is_conjunction r
-    → (is_conjunction r && filters f g) ≡ false
-    → Adds (nodes_in role.Part f ++ nodes_in role.Part g) old mid
-    → AddsIf own h mid new → Adds (nodes_in r h) old new
+    → own ≡ is_conjunction r → (is_conjunction r && filters f g) ≡ false
+    → Adds (nodes_in role.Part f ++ nodes_in role.Part g) old mid → AddsIf own h mid new → Adds (nodes_in r h) old new
 unfolding nodes_in
 and_adds r h f g own old mid new same is joins first last =
     rw (same, joins)
@@ -193,8 +149,7 @@ filter_adds r h f g old mid more new same only first second own =
     rw (same, only) (adds_then _ _ old more new (adds_then _ _ old mid more first second) own)
 
 pub not_adds : (r s : Role) (h f : CoreForm) (own : Bool) (old mid new : List Node) → h ≡ Not f → own ≡ judges_not r
-    → s ≡ under_not r
-    → Adds (nodes_in s f) old mid → AddsIf own h mid new → Adds (nodes_in r h) old new
+    → s ≡ under_not r → Adds (nodes_in s f) old mid → AddsIf own h mid new → Adds (nodes_in r h) old new
 unfolding nodes_in
 not_adds r s h f own old mid new same is under first last =
     rw same
@@ -207,40 +162,20 @@ judged_adds own h n old new is begins made = rw is (adds_one h n old new made be
 
 or_begins : (f g : CoreForm) (s : OrOf) → OrBegun f g s → (view : View) → view.log ≡ [] → OrStands view f g s
 or_begins f g s begun view empty =
-    let left : 0 ≡ reached view f = none_reached view empty f in
-    let right : 0 ≡ reached view g = none_reached view empty g in
-    record {
-      pulled = rw begun.begun (none_reached view empty (Or f g));
-      left_pushed = rw begun.begun (omega arith);
-      right_pushed = rw begun.begun (omega arith);
-      lefts = rw begun.begun tt;
-      rights = rw begun.begun tt;
-    }
+    grind (arith, none_reached view empty f, none_reached view empty g, none_reached view empty (Or f g))
 
 or_is : (f g : CoreForm) (s : OrOf) → OrBegun f g s → IsOr f g s
 unfolding fv
-or_is f g s begun =
-    rw begun.begun
-    (record { columns = sym (joined_within (fv (meaning f)) (fv (meaning g)) begun.within); right = refl })
+or_is f g s begun = grind (arith, joined_within)
 
 pub or_added : (f g : CoreForm) (s : OrOf) (old new : List Node) → OrBegun f g s → new ≡ old ++ node.Or s ∷ []
     → Adds (Or f g ∷ []) old new
-or_added f g s old new begun is =
-    adds_one (Or f g) (node.Or s) old new is (or_is f g s begun) (λ view empty. or_begins f g s begun view empty)
+or_added f g s old new begun is = search (adds_one, or_is, or_begins)
 
 previous_begins : (i : Interval) (f : CoreForm) (s : PrevOf) → PreviousBegun i f s → (view : View) → view.log ≡ []
     → PreviousStands view i f s
 previous_begins i f s begun view empty =
-    let size : length view.log ≡ 0 = ap length empty in
-    let none : 0 ≡ reached view f = none_reached view empty f in
-    record {
-      pulled = rw begun.begun (none_reached view empty (Previous i f));
-      timed = rw begun.begun (omega arith);
-      known = rw (begun.begun, empty);
-      pushed = rw begun.begun (omega arith);
-      tables = rw begun.begun tt;
-      follows = λ dom v covers near t a dates tells. begun.follows t a v;
-    }
+    grind (arith, none_reached view empty f, none_reached view empty (Previous i f))
 
 pub previous_added : (i : Interval) (f : CoreForm) (s : PrevOf) (old new : List Node) → PreviousBegun i f s
     → new ≡ old ++ node.Previous s ∷ [] → Adds (Previous i f ∷ []) old new
@@ -250,17 +185,7 @@ previous_added i f s old new begun is =
 
 next_begins : (i : Interval) (f : CoreForm) (s : NextOf) → NextBegun i f s → (view : View) → view.log ≡ []
     → NextStands view i f s
-next_begins i f s begun view empty =
-    let size : length view.log ≡ 0 = ap length empty in
-    record {
-      pulled = rw begun.begun (none_reached view empty (Next i f));
-      timed = rw begun.begun (omega arith);
-      kept = rw (begun.begun, empty);
-      pushed = rw begun.begun (none_reached view empty f);
-      bare = λ h. (rw begun.begun, rw begun.begun);
-      tables = rw begun.begun tt;
-      follows = λ dom v covers near t a dates long tells. begun.follows t a v;
-    }
+next_begins i f s begun view empty = grind (arith, none_reached view empty (Next i f), none_reached view empty f)
 
 pub next_added : (i : Interval) (f : CoreForm) (s : NextOf) (old new : List Node) → NextBegun i f s
     → new ≡ old ++ node.Next s ∷ [] → Adds (Next i f ∷ []) old new

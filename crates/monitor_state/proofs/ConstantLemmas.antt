@@ -1,63 +1,40 @@
 -- What has the same table at each position: equations with a constant, and tests of constants alone.
-use Rattle.std.proofs.Common.{◌≡◌, ℕ, true, false, ◌&&◌, List, [], ◌∷◌, map, None, refl, sym, ap, ap₂, ◌∙◌, inl, inr}
-use Rattle.std.proofs.lemmas.Bool.{and_parts, and_from, cases_Bool, cond-false, or_left, or_right}
+use Rattle.std.proofs.Common.{◌≡◌, ℕ, true, false, ◌&&◌, List, [], ◌∷◌, map, None, refl, sym, ap, ap₂, ◌∙◌, arith}
+use Rattle.std.proofs.lemmas.Bool.{and_from, cases_Bool, cond-false, or_left, or_right}
 use Rattle.std.specs.List.{list_all, list_any}
 use Rattle.std.specs.Ordering.{eq_by_cmp, is_eq, ordering_reverse}
 use Rattle.std.specs.declared.cmp.Ordering.{Ordering}
-use Rattle.std.specs.declared.cmp.Ordering.TheVariants as order
-use Rattle.mfotl_model.proofs.LogicLemmas.{same_number}
-use Rattle.mfotl_model.proofs.VariableLemmas.{joined_none}
+use Rattle.mfotl_model.proofs.{LogicLemmas.same_number, VariableLemmas.joined_none}
 use Rattle.mfotl_model.specs.FreeVariables.{among, fv, joined, variables_in}
 use Rattle.mfotl_model.specs.Satisfaction.{Valuation, compares, sat, term_value}
-use Rattle.mfotl_model.specs.Tables.{TableOf, has}
-use Rattle.mfotl_model.specs.Values.{value_cmp, value_total}
-use Rattle.mfotl_model.specs.declared.event.TimePoint.{TimePoint}
-use Rattle.mfotl_model.specs.declared.term.Comparison.{Comparison}
-use Rattle.mfotl_model.specs.declared.term.Sign.{Sign}
+use Rattle.mfotl_model.specs.{Tables.TableOf, Tables.has, Values.value_cmp, Values.value_total}
+use Rattle.mfotl_model.specs.declared.{event.TimePoint.TimePoint, term.Comparison.Comparison, term.Sign.Sign}
+use Rattle.mfotl_model.specs.declared.{term.Term.Term, term.Term.TheVariants.Var, term.Term.TheVariants.Const}
+use Rattle.mfotl_model.specs.declared.{value.Value.Value}
 use Rattle.mfotl_model.specs.declared.term.Sign.TheVariants as sign
-use Rattle.mfotl_model.specs.declared.term.Term.{Term}
-use Rattle.mfotl_model.specs.declared.term.Term.TheVariants.{Var, Const}
-use Rattle.mfotl_model.specs.declared.value.Value.{Value}
-use Rattle.mfotl_model.specs.declared.value.Value.TheVariants.{Int, Text}
 use Rattle.eval_bool.specs.JoinView.{bound_columns, children_of, compared_variables, conjunct_columns}
 use Rattle.eval_bool.specs.Laws.{passes}
-use Rattle.monitorable.proofs.ConjunctsLaw.{conjuncts_mean}
-use Rattle.monitorable.proofs.FragmentLemmas.{guarded}
+use Rattle.monitorable.proofs.{ConjunctsLaw.conjuncts_mean, FragmentLemmas.guarded}
 use Rattle.monitorable.specs.CoreForms.{CoreForm, meaning, Compare}
 use Rattle.monitorable.specs.Conjuncts.{PartForm, conjuncts_of, part_holds}
 use Rattle.monitorable.specs.Conjuncts.PartForm.{Child as ChildPart, Test as TestPart}
-use Rattle.monitorable.specs.Fragment.{Names, binds, bound_by, fault_in, guards, is_equal, pairs_constant}
+use Rattle.monitorable.specs.Fragment.{Names, binds, bound_by, fault_in, guards}
 use Rattle.monitorable.specs.declared.role.Role.{Role}
-use Rattle.monitorable.specs.declared.role.Role.TheVariants as role
 use Rattle.relations.specs.Operations.{chosen, covers_term}
-use Rattle.monitor_state.proofs.GuardLemmas.{bound_is}
-use Rattle.monitor_state.proofs.JoinSteps.{chosen_is, columns_are}
-use Rattle.monitor_state.specs.Beginnings.{Accepted, is_child}
+use Rattle.monitor_state.proofs.{GuardLemmas.bound_is, JoinSteps.chosen_is, JoinSteps.columns_are}
+use Rattle.monitor_state.specs.{Beginnings.Accepted, Beginnings.is_child, Nodes.children, Nodes.operands}
+use Rattle.monitor_state.specs.{Stands.IsConstant, Stands.conjunct_as}
 use Rattle.monitor_state.specs.Constants.{is_ground, is_ground_test, is_constant, is_fixed, stands_alone}
-use Rattle.monitor_state.specs.Nodes.{children, operands}
-use Rattle.monitor_state.specs.Stands.{IsConstant, conjunct_as}
 
 reversed_equal : (o : Ordering) → is_eq (ordering_reverse o) ≡ is_eq o
-reversed_equal order.Less = refl
-reversed_equal order.Equal = refl
-reversed_equal order.Greater = refl
+reversed_equal o = grind arith
 
 turned_equal : (a b : Value) → eq_by_cmp value_cmp a b ≡ eq_by_cmp value_cmp b a
 turned_equal a b = ap is_eq (value_total.antisymm a b) ∙ reversed_equal (value_cmp b a)
 
 -- values are equal by their order where they are by the sign
 equal_is : (a b : Value) → eq_by_cmp value_cmp a b ≡ compares sign.Equal a b
-equal_is (Int x) (Int y) = refl
-equal_is (Int x) (Text t) = refl
-equal_is (Text s) (Int y) = refl
-equal_is (Text s) (Text t) = refl
-
-equal_sign : (s : Sign) → is_equal s ≡ true → s ≡ sign.Equal
-equal_sign sign.Equal h = refl
-equal_sign sign.Less h = cc
-equal_sign sign.LessEqual h = cc
-equal_sign sign.Greater h = cc
-equal_sign sign.GreaterEqual h = cc
+equal_is a b = grind arith
 
 compared_fv : (c : Comparison) (l r : Term) → c.left ≡ l → c.right ≡ r
     → variables_in (l ∷ r ∷ []) ≡ fv (meaning (Compare c))
@@ -68,14 +45,11 @@ compared_sat : (c : Comparison) (s : Sign) (l r : Term) → c.sign ≡ s → c.l
     → (log : List TimePoint) (dom : List Value) (v : Valuation) (i : ℕ)
     → compares s (term_value v l) (term_value v r) ≡ sat log dom v i (meaning (Compare c))
 unfolding sat
-compared_sat c s l r signs left right log dom v i =
-    sym (ap (λ k. compares k (term_value v c.left) (term_value v c.right)) signs
-    ∙ ap₂ (λ a b. compares s (term_value v a) (term_value v b)) left right)
+compared_sat c s l r signs left right log dom v i = search (ap₂)
 
 -- the table of an equation, with the variable on its left or on its right
 pub equation_left : (c : Comparison) (x : ℕ) (a : Value) (table : TableOf) → binds c ≡ true → c.left ≡ Var x
-    → c.right ≡ Const a
-    → table.columns ≡ x ∷ [] → ((v : Valuation) → has table v ≡ eq_by_cmp value_cmp (v x) a)
+    → c.right ≡ Const a → table.columns ≡ x ∷ [] → ((v : Valuation) → has table v ≡ eq_by_cmp value_cmp (v x) a)
     → IsConstant (Compare c) table
 equation_left c x a table is left right columns rows =
     record {
@@ -83,14 +57,13 @@ equation_left c x a table is left right columns rows =
       rows = λ log dom v i.
           rows v ∙ equal_is (v x) a
           ∙ compared_sat c sign.Equal (Var x) (Const a)
-          (equal_sign c.sign (and_parts (is_equal c.sign) (pairs_constant c.left c.right) is).0) left right log dom
+          (grind arith) left right log dom
           v i;
       alone = refl;
     }
 
 pub equation_right : (c : Comparison) (x : ℕ) (a : Value) (table : TableOf) → binds c ≡ true → c.left ≡ Const a
-    → c.right ≡ Var x
-    → table.columns ≡ x ∷ [] → ((v : Valuation) → has table v ≡ eq_by_cmp value_cmp (v x) a)
+    → c.right ≡ Var x → table.columns ≡ x ∷ [] → ((v : Valuation) → has table v ≡ eq_by_cmp value_cmp (v x) a)
     → IsConstant (Compare c) table
 equation_right c x a table is left right columns rows =
     record {
@@ -98,35 +71,21 @@ equation_right c x a table is left right columns rows =
       rows = λ log dom v i.
           rows v ∙ turned_equal (v x) a ∙ equal_is a (v x)
           ∙ compared_sat c sign.Equal (Const a) (Var x)
-          (equal_sign c.sign (and_parts (is_equal c.sign) (pairs_constant c.left c.right) is).0) left right log dom
+          (grind arith) left right log dom
           v i;
       alone = refl;
     }
 
-not_none : {X : Type 0} (x : X) (xs : List X) → (x ∷ xs) ≡ [] → ⊥
-not_none x xs h = cc
-
 -- a comparison that no variable occurs in
 closed_terms : (l r : Term) → variables_in (l ∷ r ∷ []) ≡ [] → (is_constant l && is_constant r) ≡ true
-closed_terms (Const a) (Const b) h = refl
-closed_terms (Const a) (Var y) h = absurd (not_none y _ h)
-closed_terms (Var x) r h = absurd (not_none x _ h)
-
-no_terms : (l r : Term) → (is_constant l && is_constant r) ≡ true → [] ≡ variables_in (l ∷ r ∷ [])
-no_terms (Const a) (Const b) h = refl
-no_terms (Const a) (Var y) h = cc
-no_terms (Var x) r h = cc
-
-closed_term : (t : Term) → is_constant t ≡ true → (columns : List ℕ) → covers_term columns t ≡ true
-closed_term (Const a) h columns = refl
-closed_term (Var x) h columns = cc
+closed_terms l r h = grind arith
 
 -- such a comparison can be tested of any table
 pub closed_left : (c : Comparison) (columns : List ℕ) → is_ground c ≡ true → covers_term columns c.left ≡ true
-closed_left c columns h = closed_term c.left (and_parts (is_constant c.left) (is_constant c.right) h).0 columns
+closed_left c columns h = grind arith
 
 pub closed_right : (c : Comparison) (columns : List ℕ) → is_ground c ≡ true → covers_term columns c.right ≡ true
-closed_right c columns h = closed_term c.right (and_parts (is_constant c.left) (is_constant c.right) h).1 columns
+closed_right c columns h = grind arith
 
 -- the table of a comparison of constants
 pub closed_is : (c : Comparison) (all table : TableOf) → is_ground c ≡ true → all.columns ≡ []
@@ -134,21 +93,12 @@ pub closed_is : (c : Comparison) (all table : TableOf) → is_ground c ≡ true 
     → ((v : Valuation) → has all v ≡ true) → ((v : Valuation) → has table v ≡ (has all v && chosen c true v))
     → IsConstant (Compare c) table
 unfolding fv chosen
-closed_is c all table closed none columns full rows =
-    record {
-      columns = columns ∙ none ∙ no_terms c.left c.right closed;
-      rows = λ log dom v i.
-          rows v ∙ ap (λ b. b && chosen c true v) (full v)
-          ∙ chosen_is true (compares c.sign (term_value v c.left) (term_value v c.right))
-          ∙ compared_sat c c.sign c.left c.right refl refl refl log dom v i;
-      alone = refl;
-    }
+closed_is c all table closed none columns full rows = grind (arith, chosen_is, compared_sat)
 
 -- no variables, where each would be one of none
 none_free : (xs : List ℕ) → ((y : ℕ) → among y xs ≡ true → among y [] ≡ true) → xs ≡ []
 none_free [] each = refl
-none_free (x ∷ xs) each =
-    absurd (let e : false ≡ true = each x (or_left _ (among x xs) (same_number x)) in cc)
+none_free (x ∷ xs) each = grind (arith, or_left _ (among x xs) (same_number x), same_number x)
 
 guarded_closed : (names : Names) (c : Comparison) → guards names (Compare c) ≡ None → binds c ≡ false
     → is_ground c ≡ true
@@ -160,20 +110,13 @@ guarded_closed names c accepted loose =
     ∙ guarded names (Compare c) y accepted m))
 
 judged_fixed : (names : Names) (c : Comparison) → guards names (Compare c) ≡ None → is_fixed c ≡ true
-judged_fixed names c accepted =
-    elim (cases_Bool (binds c)) [
-      | inl binding ↦ or_left (binds c) (is_ground c) binding
-      | inr loose ↦ or_right (binds c) (is_ground c) (guarded_closed names c accepted loose)
-    ]
+judged_fixed names c accepted = grind (arith, cases_Bool, or_left, or_right, guarded_closed)
 
 -- a comparison that is a node by itself has a table
 pub alone_fixed : (r : Role) (c : Comparison) → Accepted r (Compare c) → stands_alone r (binds c) ≡ true
     → is_fixed c ≡ true
 unfolding fault_in
-alone_fixed role.Whole c a h = judged_fixed a.0 c a.1
-alone_fixed role.Left c a h = judged_fixed a.0 c a.1
-alone_fixed role.Part c a h = or_left (binds c) (is_ground c) h
-alone_fixed role.Negated c a h = cc
+alone_fixed r c a h = grind (arith, judged_fixed, or_left)
 
 no_child : (ps : List PartForm) → list_any is_child ps ≡ false → children ps ≡ []
 no_child [] h = refl
@@ -195,7 +138,7 @@ tests_free names f accepted none =
 
 joined_nothing : (xs ys : List ℕ) → joined xs ys ≡ [] → (xs ≡ []) × (ys ≡ [])
 joined_nothing [] ys h = (refl, sym (joined_none ys) ∙ h)
-joined_nothing (x ∷ xs) ys h = absurd (not_none x _ h)
+joined_nothing (x ∷ xs) ys h = absurd (cc)
 
 closed_tests : (ps : List PartForm) → list_any is_child ps ≡ false → conjunct_columns (map conjunct_as ps) ≡ []
     → list_all is_ground_test ps ≡ true
@@ -203,14 +146,12 @@ closed_tests [] none columns = refl
 closed_tests (ChildPart f n ∷ ps) none columns = absurd (let e : true ≡ false = none in cc)
 closed_tests (TestPart c w ∷ ps) none columns =
     let both = joined_nothing (compared_variables c) (conjunct_columns (map conjunct_as ps)) columns in
-    and_from (is_ground c) (list_all is_ground_test ps) (closed_terms c.left c.right both.0)
-    (closed_tests ps none both.1)
+    search (and_from, closed_terms, closed_tests ps none both.1)
 
 -- its tests are of constants
 pub tests_closed : (names : Names) (f : CoreForm) → guards names f ≡ None → list_any is_child (conjuncts_of f) ≡ false
     → list_all is_ground_test (conjuncts_of f) ≡ true
-tests_closed names f accepted none =
-    closed_tests (conjuncts_of f) none (columns_are f ∙ tests_free names f accepted none)
+tests_closed names f accepted none = search (closed_tests, columns_are, tests_free)
 
 tests_mean : (log : List TimePoint) (dom : List Value) (v : Valuation) (i : ℕ) (ps : List PartForm)
     → list_any is_child ps ≡ false
@@ -218,14 +159,11 @@ tests_mean : (log : List TimePoint) (dom : List Value) (v : Valuation) (i : ℕ)
 unfolding sat chosen
 tests_mean log dom v i [] none = refl
 tests_mean log dom v i (ChildPart f n ∷ ps) none = absurd (let e : true ≡ false = none in cc)
-tests_mean log dom v i (TestPart c w ∷ ps) none =
-    ap₂ (λ b r. b && r) (chosen_is w (compares c.sign (term_value v c.left) (term_value v c.right)))
-    (tests_mean log dom v i ps none)
+tests_mean log dom v i (TestPart c w ∷ ps) none = simp (chosen_is, tests_mean log dom v i ps none)
 
 -- the table of tests alone is the conjunction's at each position
 pub tests_are : (names : Names) (f : CoreForm) (table : TableOf) → operands f ≡ children (conjuncts_of f)
-    → guards names f ≡ None
-    → list_any is_child (conjuncts_of f) ≡ false → table.columns ≡ []
+    → guards names f ≡ None → list_any is_child (conjuncts_of f) ≡ false → table.columns ≡ []
     → ((v : Valuation) → has table v ≡ list_all (λ part. passes v (conjunct_as part)) (conjuncts_of f))
     → IsConstant f table
 tests_are names f table same accepted none columns rows =

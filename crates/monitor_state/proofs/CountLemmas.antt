@@ -1,19 +1,14 @@
 -- How many positions are settled.
 use Rattle.std.proofs.Common.{◌≡◌, ℕ, zero, suc, ◌+◌, ◌-◌, ◌<◌, ◌≤◌, Bool, true, false, ◌&&◌, ◌||◌, nat_lt, nat_eq}
-use Rattle.std.proofs.Common.{List, ◌++◌, length, refl, sym, ap, ◌∙◌, inl, inr, arith, ap₂}
-use Rattle.std.proofs.lemmas.Bool.{and_parts, and_from, cases_lt, eqb-true, ltb-true, lt-ltb, or_cases, or_left}
-use Rattle.std.proofs.lemmas.Bool.{or_right}
-use Rattle.std.specs.Cmp.{both_ways}
+use Rattle.std.proofs.Common.{List, ◌++◌, length, sym, ap, ◌∙◌, inl, inr, arith, ap₂}
+use Rattle.std.proofs.lemmas.Bool.{and_parts, and_from, cases_lt, eqb-true, ltb-true, lt-ltb, or_cases}
 use Rattle.mfotl_model.proofs.CountLemmas.{counted_settled, next_unsettled}
 use Rattle.mfotl_model.proofs.LogicLemmas.{all_in, all_from, funext}
-use Rattle.mfotl_model.specs.Counts.{settled_count}
-use Rattle.mfotl_model.specs.Formulas.{Form}
+use Rattle.mfotl_model.specs.{Counts.settled_count, Formulas.Form, Times.NeverFalls}
 use Rattle.mfotl_model.specs.Formulas.Form.{And, Next, Or, Previous, Since, Until}
 use Rattle.mfotl_model.specs.Settled.{settled, next_settled, previous_settled, since_settled, until_settled}
-use Rattle.mfotl_model.specs.Times.{NeverFalls}
 use Rattle.mfotl_model.specs.declared.interval.Interval.{Interval}
-use Rattle.monitorable.proofs.SettledLemmas.{settled_before, settled_in_log}
-use Rattle.monitorable.proofs.SettledStays.{settled_stays}
+use Rattle.monitorable.proofs.{SettledLemmas.settled_before, SettledLemmas.settled_in_log, SettledStays.settled_stays}
 
 settled_down : (t : List ℕ) → NeverFalls t → (f : Form) (k d : ℕ) → settled t f (k + d) ≡ true → settled t f k ≡ true
 settled_down t rising f k zero h = let at : k ≡ k + 0 = omega arith in ap (settled t f) at ∙ h
@@ -51,17 +46,7 @@ count_grows t more rising f =
 -- a number below which all is settled, and which isn't, is the count
 pub count_is : (t : List ℕ) → NeverFalls t → (f : Form) (n : ℕ) → ((j : ℕ) → j < n → settled t f j ≡ true)
     → (settled t f n ≡ true → ⊥) → n ≡ settled_count t f
-count_is t rising f n all none =
-    elim (cases_lt n (settled_count t f)) [
-      | inl less ↦ absurd (none (counted_settled t f n less))
-      | inr most ↦ elim (cases_lt (settled_count t f) n) [
-        | inl more ↦
-            let j : ℕ = settled_count t f in
-            let low : j < settled_count t f = count_below t rising f j (all j more) in
-            absurd (omega arith)
-        | inr least ↦ omega arith
-      ]
-    ]
+count_is t rising f n all none = grind (arith, cases_lt, counted_settled, count_below)
 
 -- a SINCE is settled as far as both its operands
 pub count_since : (t : List ℕ) → NeverFalls t → (interval : Interval) (f g : Form) (n : ℕ) → n ≤ settled_count t f
@@ -80,8 +65,7 @@ count_since t rising interval f g n left right done =
 
 -- an OR is settled where both its operands are
 pub count_or : (t : List ℕ) → NeverFalls t → (f g : Form) (n : ℕ) → n ≤ settled_count t f → n ≤ settled_count t g
-    → (n < settled_count t f → n < settled_count t g → ⊥)
-    → n ≡ settled_count t (Or f g)
+    → (n < settled_count t f → n < settled_count t g → ⊥) → n ≡ settled_count t (Or f g)
 unfolding settled
 count_or t rising f g n left right done =
     count_is t rising (Or f g) n
@@ -92,8 +76,7 @@ count_or t rising f g n left right done =
 
 -- so is an AND
 pub count_and : (t : List ℕ) → NeverFalls t → (f g : Form) (n : ℕ) → n ≤ settled_count t f → n ≤ settled_count t g
-    → (n < settled_count t f → n < settled_count t g → ⊥)
-    → n ≡ settled_count t (And f g)
+    → (n < settled_count t f → n < settled_count t g → ⊥) → n ≡ settled_count t (And f g)
 unfolding settled settled_count
 count_and t rising f g n left right done = count_or t rising f g n left right done
 
@@ -104,8 +87,7 @@ and_below t rising f g =
     elim (cases_lt (settled_count t g) (settled_count t (And f g))) [
       | inl more ↦
           let both = and_parts _ _ (counted_settled t (And f g) (settled_count t g) more) in
-          let low : settled_count t g < settled_count t g = count_below t rising g (settled_count t g) both.1 in
-          absurd (omega arith)
+          absurd (omega (arith, count_below t rising g (settled_count t g) both.1))
       | inr most ↦ most
     ]
 
@@ -126,8 +108,7 @@ since_counted t rising interval f g n = (
 
 -- the first position, or what holds of any later one
 pub ready_or_first : (n : ℕ) (b : Bool) → (0 < n → b ≡ true) → (nat_eq n 0 || b) ≡ true
-ready_or_first zero b later = or_left (nat_eq 0 0) b refl
-ready_or_first (suc n) b later = or_right (nat_eq (suc n) 0) b (later (omega arith))
+ready_or_first n b later = grind arith
 
 -- a PREVIOUS is settled one position further than its operand, within the log
 pub count_previous : (t : List ℕ) → NeverFalls t → (interval : Interval) (f : Form) (n : ℕ) → n ≤ length t
@@ -155,7 +136,6 @@ unfolding settled next_settled
 count_next t rising interval f n most done =
     count_is t rising (Next interval f) n
     (λ j low.
-    let high : n + 1 ≤ settled_count t f = most (omega arith) in
     let ready : settled t f (j + 1) ≡ true = counted_settled t f (j + 1) (omega arith) in
     let inside : j + 1 < length t = settled_in_log t f (j + 1) ready in
     and_from _ _ (lt-ltb (j + 1) (length t) inside) ready)
@@ -165,27 +145,20 @@ count_next t rising interval f n most done =
 
 -- what is settled is what is counted
 settled_below : (t : List ℕ) → NeverFalls t → (f : Form) (j : ℕ) → settled t f j ≡ nat_lt j (settled_count t f)
-settled_below t rising f j =
-    both_ways (settled t f j) (nat_lt j (settled_count t f))
-    (λ h. lt-ltb j (settled_count t f) (count_below t rising f j h))
-    (λ h. counted_settled t f j (ltb-true j (settled_count t f) h))
+settled_below t rising f j = grind (arith, lt-ltb, count_below, counted_settled, ltb-true)
 
 -- an UNTIL is settled by the counts of its operands
 pub until_counted : (t : List ℕ) → NeverFalls t → (interval : Interval) (f g : Form) (k : ℕ)
     → settled t (Until interval f g) k
     ≡ until_settled interval.hi t (λ j. nat_lt j (settled_count t f) && nat_lt j (settled_count t g)) k
 unfolding settled
-until_counted t rising interval f g k =
-    ap (λ ready. until_settled interval.hi t ready k)
-    (funext (λ j. settled t f j && settled t g j) (λ j. nat_lt j (settled_count t f) && nat_lt j (settled_count t g))
-    (λ j. ap₂ (λ a b. a && b) (settled_below t rising f j) (settled_below t rising g j)))
+until_counted t rising interval f g k = grind (arith, funext, ap₂, settled_below)
 
 -- a settled position lies in the log
 pub count_within : (t : List ℕ) (f : Form) → settled_count t f ≤ length t
 count_within t f =
     elim (cases_lt (length t) (settled_count t f)) [
       | inl more ↦
-          let inside : length t < length t = settled_in_log t f (length t) (counted_settled t f (length t) more) in
-          absurd (omega arith)
+          absurd (omega (arith, settled_in_log t f (length t) (counted_settled t f (length t) more)))
       | inr most ↦ most
     ]

@@ -1,24 +1,15 @@
 -- Exact tables in a log that grows.
 use Rattle.std.proofs.Common.{subst, ◌≡◌, ℕ, zero, suc, ◌+◌, ◌<◌, ◌≤◌, Bool, true, List, [], ◌∷◌, ◌++◌, length, drop}
-use Rattle.std.proofs.Common.{sym, ap, ◌∙◌, arith, length-append}
+use Rattle.std.proofs.Common.{sym, ◌∙◌, arith, length-append}
 use Rattle.std.proofs.lemmas.List.{get_or_append_left, length-map, map-append}
 use Rattle.std.proofs.Math.Seq.{get_or-append_seam}
-use Rattle.mfotl_model.proofs.CountLemmas.{counted_settled}
-use Rattle.mfotl_model.proofs.LogicLemmas.{truth_is}
-use Rattle.mfotl_model.proofs.TimeLemmas.{front_never_falls}
-use Rattle.mfotl_model.specs.Counts.{settled_count}
+use Rattle.mfotl_model.proofs.{CountLemmas.counted_settled, LogicLemmas.truth_is, TimeLemmas.front_never_falls}
 use Rattle.mfotl_model.specs.Exact.{View, Covers, Exact, AllExact}
-use Rattle.mfotl_model.specs.FreeVariables.{fv}
-use Rattle.mfotl_model.specs.Formulas.{Form}
-use Rattle.mfotl_model.specs.Log.{times}
+use Rattle.mfotl_model.specs.{FreeVariables.fv, Formulas.Form, Log.times, Settled.settled, Tables.TableOf, Tables.has}
+use Rattle.mfotl_model.specs.{Times.NeverFalls}
 use Rattle.mfotl_model.specs.Satisfaction.{Valuation, sat, time_at, truth_at, truths}
-use Rattle.mfotl_model.specs.Settled.{settled}
-use Rattle.mfotl_model.specs.Tables.{TableOf, has}
-use Rattle.mfotl_model.specs.Times.{NeverFalls}
-use Rattle.mfotl_model.specs.declared.event.TimePoint.{TimePoint}
-use Rattle.mfotl_model.specs.declared.value.Value.{Value}
-use Rattle.monitorable.proofs.DomainRows.{grows}
-use Rattle.monitorable.proofs.FinalityLaw.{finality}
+use Rattle.mfotl_model.specs.declared.{event.TimePoint.TimePoint, value.Value.Value}
+use Rattle.monitorable.proofs.{DomainRows.grows, FinalityLaw.finality}
 use Rattle.monitorable.specs.CoreForms.{CoreForm, meaning}
 use Rattle.relations.specs.Pushed.{AreOver, StandFrom}
 use Rattle.monitor_state.proofs.CountLemmas.{count_grows, count_within}
@@ -30,24 +21,19 @@ pub exact_drop : (view : View) (f : Form) (i n : ℕ) (tables : List TableOf) �
     → AllExact view f (i + n) (drop n tables)
 exact_drop view f i zero tables all = let at : i ≡ i + 0 = omega arith in subst (λ j. AllExact view f j tables) at all
 exact_drop view f i (suc n) [] all = tt
-exact_drop view f i (suc n) (table ∷ tables) all =
-    let at : i + 1 + n ≡ i + suc n = omega arith in
-    subst (λ j. AllExact view f j (drop n tables)) at (exact_drop view f (i + 1) n tables all.1)
+exact_drop view f i (suc n) (table ∷ tables) all = grind (arith, exact_drop view f (i + 1) n tables all.1)
 
 -- exact tables behind exact tables
 pub exact_append : (view : View) (f : Form) (i j : ℕ) (xs ys : List TableOf) → i + length xs ≡ j → AllExact view f i xs
     → AllExact view f j ys → AllExact view f i (xs ++ ys)
-exact_append view f i j [] ys at first second = let same : j ≡ i = omega arith in
-    subst (λ k. AllExact view f k ys) same second
+exact_append view f i j [] ys at first second = grind arith
 exact_append view f i j (x ∷ xs) ys at first second =
     (first.0, exact_append view f (i + 1) j xs ys (omega arith) first.1 second)
 
 -- tables that hold what the formula does, of each near valuation, are exact
 pub stand_exact : (view : View) (f : Form) (columns : List ℕ) (i : ℕ) (tables : List TableOf) → columns ≡ fv f
-    → AreOver columns tables
-    → ((dom : List Value) (v : Valuation) → Covers view dom → view.near (fv f) v ≡ true
-    → StandFrom (λ k table. has table v ≡ sat view.log dom v k f) i tables)
-    → AllExact view f i tables
+    → AreOver columns tables → ((dom : List Value) (v : Valuation) → Covers view dom → view.near (fv f) v ≡ true
+    → StandFrom (λ k table. has table v ≡ sat view.log dom v k f) i tables) → AllExact view f i tables
 stand_exact view f columns i [] is over stand = tt
 stand_exact view f columns i (table ∷ tables) is over stand = (
   record { columns = over.0 ∙ is; rows = λ dom v covers near. (stand dom v covers near).0 },
@@ -58,8 +44,7 @@ stand_exact view f columns i (table ∷ tables) is over stand = (
 pub exact_tell : (view : View) (f : CoreForm) (dom : List Value) (v : Valuation) (a : List Bool) (i : ℕ)
     (tables : List TableOf)
     → Covers view dom → view.near (fv (meaning f)) v ≡ true → Tells view dom v f a → i + length tables ≤ reached view f
-    → AllExact view (meaning f) i tables
-    → StandFrom (λ k table. has table v ≡ truth_at a k) i tables
+    → AllExact view (meaning f) i tables → StandFrom (λ k table. has table v ≡ truth_at a k) i tables
 exact_tell view f dom v a i [] covers near tells most all = tt
 exact_tell view f dom v a i (table ∷ tables) covers near tells most all = (
   all.0.rows dom v covers near ∙ sym (tells i (omega arith)),
@@ -80,16 +65,10 @@ shifted P Q p i (x ∷ xs) means stand =
 -- the truths of a log tell of it
 pub truths_tell : (view : View) (dom : List Value) (v : Valuation) (f : CoreForm)
     → Tells view dom v f (truths (length view.log) (λ j. sat view.log dom v j (meaning f)))
-truths_tell view dom v f j low =
-    let most : reached view f ≤ length (times view.log) = count_within (times view.log) (meaning f) in
-    let size : length (times view.log) ≡ length view.log = length-map view.log (λ p. p.ts) in
-    truth_is (λ j. sat view.log dom v j (meaning f)) (length view.log) j (omega arith)
+truths_tell view dom v f j low = grind (arith, count_within, length-map, truth_is)
 
 pub reached_within : (view : View) (f : CoreForm) → reached view f ≤ length view.log
-reached_within view f =
-    let most : reached view f ≤ length (times view.log) = count_within (times view.log) (meaning f) in
-    let size : length (times view.log) ≡ length view.log = length-map view.log (λ p. p.ts) in
-    omega arith
+reached_within view f = grind (arith, count_within, length-map)
 
 module _ (view : View) (point : TimePoint) (rising : NeverFalls (times (longer view point).log)) where
   -- the timestamps with one more
@@ -103,53 +82,25 @@ module _ (view : View) (point : TimePoint) (rising : NeverFalls (times (longer v
   rising_before = front_never_falls (times view.log) (point.ts ∷ []) rising_more
 
   pub log_more : length (longer view point).log ≡ length view.log + 1
-  log_more =
-      let size : length (view.log ++ point ∷ []) ≡ length view.log + length (point ∷ []) =
-      length-append view.log (point ∷ []) in
-      let one : length (point ∷ []) ≡ 1 = omega arith in
-      omega arith
+  log_more = cc (length-append view.log (point ∷ []))
 
   pub reached_grows : (f : CoreForm) → reached view f ≤ reached (longer view point) f
-  reached_grows f =
-      let grows_to : reached view f ≤ settled_count_more =
-      count_grows (times view.log) (point.ts ∷ []) rising_more (meaning f) in
-      let same : settled_count_more ≡ reached (longer view point) f =
-      ap (λ t. settled_count t (meaning f)) (sym times_more) in
-      omega arith
-    where
-      settled_count_more : ℕ
-      settled_count_more = settled_count (times view.log ++ point.ts ∷ []) (meaning f)
+  reached_grows f = search (count_grows, rising_more, times_more)
 
   pub covers_before : (dom : List Value) → Covers (longer view point) dom → Covers view dom
   covers_before dom c a h = c a (grows view.log (point ∷ []) view.whole a h)
 
   -- the new time-point's timestamp
   pub dates_new : (t : List ℕ) → Dates (longer view point) t → point.ts ≡ time_at t (length view.log)
-  dates_new t dates =
-      let size : length (longer view point).log ≡ length view.log + 1 = log_more in
-      let map_size : length (times view.log) ≡ length view.log = length-map view.log (λ p. p.ts) in
-      sym (dates (length view.log) (omega arith)
-      ∙ ap (λ u. time_at u (length view.log)) times_more
-      ∙ ap (λ n. time_at (times view.log ++ point.ts ∷ []) n) (sym map_size)
-      ∙ get_or-append_seam (times view.log) point.ts [] 0)
+  dates_new t dates = grind (arith, log_more, length-map, times_more, get_or-append_seam)
 
   -- lists that agree with the longer log agree with the shorter one
   pub dates_before : (t : List ℕ) → Dates (longer view point) t → Dates view t
-  dates_before t dates j low =
-      let size : length (longer view point).log ≡ length view.log + 1 = log_more in
-      let map_size : length (times view.log) ≡ length view.log = length-map view.log (λ p. p.ts) in
-      dates j (omega arith)
-      ∙ ap (λ u. time_at u j) times_more
-      ∙ get_or_append_left (times view.log) (point.ts ∷ []) 0 j (omega arith)
+  dates_before t dates j low = grind (arith, log_more, length-map, times_more, get_or_append_left)
 
   pub tells_before : (dom : List Value) (v : Valuation) (f : CoreForm) (a : List Bool)
-      → Tells (longer view point) dom v f a
-      → Tells view dom v f a
-  tells_before dom v f a tells j low =
-      let more : reached view f ≤ reached (longer view point) f = reached_grows f in
-      tells j (omega arith)
-      ∙ sym (finality view.log (point ∷ []) dom (meaning f) v j rising
-      (counted_settled (times view.log) (meaning f) j low))
+      → Tells (longer view point) dom v f a → Tells view dom v f a
+  tells_before dom v f a tells j low = grind (arith, reached_grows, finality, counted_settled)
 
   -- an exact table of a settled position stays exact
   exact_stays : (f : Form) (i : ℕ) (table : TableOf) → settled (times view.log) f i ≡ true → Exact view f i table
@@ -157,8 +108,7 @@ module _ (view : View) (point : TimePoint) (rising : NeverFalls (times (longer v
   exact_stays f i table s e =
       record {
         columns = e.columns;
-        rows = λ dom v covers near.
-            e.rows dom v (covers_before dom covers) near ∙ finality view.log (point ∷ []) dom f v i rising s;
+        rows = grind (arith, covers_before, finality);
       }
 
   pub all_stay : (f : CoreForm) (i : ℕ) (tables : List TableOf) → i + length tables ≤ reached view f

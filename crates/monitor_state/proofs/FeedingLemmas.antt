@@ -1,18 +1,15 @@
 -- Tables pushed to a SINCE and pulled from it, one after the other.
-use Rattle.std.proofs.Common.{◌≡◌, ℕ, ◌+◌, ◌<◌, Bool, true, List, [], ◌∷◌, ◌++◌, length, sym, ap, ◌∙◌}
-use Rattle.std.proofs.Common.{arith, length-append, append_assoc}
-use Rattle.std.proofs.lemmas.Bool.Decides.{nat_tests}
-use Rattle.std.proofs.lemmas.List.{drop-drop, length-drop}
+use Rattle.std.proofs.Common.{◌≡◌, ℕ, ◌+◌, ◌<◌, Bool, true, List, [], ◌∷◌, ◌++◌, length, sym, ap, ◌∙◌, arith}
+use Rattle.std.proofs.Common.{length-append, append_assoc}
+use Rattle.std.proofs.{lemmas.Bool.Decides.nat_tests, lemmas.List.drop-drop, lemmas.List.length-drop}
 use Rattle.mfotl_model.specs.Satisfaction.{Valuation, since, truth_at}
 use Rattle.mfotl_model.specs.Tables.{TableOf, has}
 use Rattle.eval_since.specs.SinceView.{Advances, Follows, SinceOf, due}
 use Rattle.relations.proofs.PushedLemmas.{over_push, stand_push}
 use Rattle.relations.specs.Pushed.{left_holds}
 use Rattle.monitor_state.proofs.GrowthLemmas.{stand_split}
-use Rattle.monitor_state.proofs.StampLemmas.{stamps_more, stamps_pulled}
 use Rattle.monitor_state.specs.Feeding.{LeftsPushed, RightsPushed, SincePulled}
 use Rattle.monitor_state.specs.Ordered.{PushedInOrder}
-use Rattle.monitor_state.specs.Stamps.{stamps}
 
 pub lefts_more : {old s new : SinceOf} {front tables : List TableOf} → LeftsPushed old s front → LeftsPushed s new tables
     → LeftsPushed old new (front ++ tables)
@@ -28,8 +25,7 @@ lefts_more {old} {s} {new} {front} {tables} before more =
     }
 
 pub rights_more : {old s new : SinceOf} {front tables : List TableOf} → RightsPushed old s front
-    → RightsPushed s new tables
-    → RightsPushed old new (front ++ tables)
+    → RightsPushed s new tables → RightsPushed old new (front ++ tables)
 rights_more {old} {s} {new} {front} {tables} before more =
     let place : old.pulled + length (old.rights ++ front) ≡ old.pulled + length old.rights + length front =
     omega (arith, length-append old.rights front) in
@@ -47,13 +43,11 @@ since_due_parts s h = (grind (arith, nat_tests), grind (arith, nat_tests), grind
 pub pulled_more : {columns : List ℕ} {old s new : SinceOf} {tables items : List TableOf} {table : TableOf}
     → SincePulled columns old s tables → true ≡ due s → Advances s new
     → ((t : List ℕ) (a b : List Bool) (v : Valuation) → Follows s t a b v → Follows new t a b v)
-    → table.columns ≡ s.window.right
-    → ((t : List ℕ) (a b : List Bool) (v : Valuation) → Follows s t a b v
+    → table.columns ≡ s.window.right → ((t : List ℕ) (a b : List Bool) (v : Valuation) → Follows s t a b v
     → has table v ≡ since s.window.interval t a b s.pulled)
     → PushedInOrder columns table tables items → SincePulled columns old new items
 pulled_more {columns} {old} {s} {new} {tables} {items} {table} before ready advances follows over rows pushed =
-    let n : length items ≡ length tables + 1 =
-    rw pushed.pushed (omega (arith, length-append tables (pushed.ordered ∷ []))) in
+    let n : length items ≡ length tables + 1 = cc (length-append tables (pushed.ordered ∷ [])) in
     let some = since_due_parts s (sym ready) in
     record {
       pulled = omega arith;
@@ -63,11 +57,7 @@ pulled_more {columns} {old} {s} {new} {tables} {items} {table} before ready adva
       right = cc;
       times = rw (n, advances.times, before.times, drop-drop);
       known =
-          stamps_more old.pulled (length tables) s.pulled (length items) s.window.last
-          (stamps old.pulled old.window.last old.times) (stamps s.pulled s.window.last s.times)
-          (stamps new.pulled new.window.last new.times) before.pulled before.known
-          (stamps_pulled s.pulled new.pulled s.window.last new.window.last s.times new.times advances.pulled
-          advances.stamps) n;
+          grind (arith, drop-drop);
       lefts = rw (n, advances.lefts, before.lefts, drop-drop);
       rights = rw (n, advances.rights, before.rights, drop-drop);
       in_times = omega (arith, some.0, ap length before.times, length-drop {A = ℕ});

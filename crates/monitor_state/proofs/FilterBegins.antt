@@ -1,30 +1,22 @@
 -- The node of a conjunction whose right side is asked for the left one's rows, with which a monitor begins.
-use Rattle.std.proofs.Common.{◌≡◌, Bool, true, false, ◌&&◌, ◌||◌, ◌++◌, List, [], ◌∷◌, length, refl, sym, ap, ◌∙◌}
-use Rattle.std.proofs.Common.{arith, append-nil, inl, inr, ℕ}
-use Rattle.std.proofs.lemmas.Bool.{and_parts, not-true, or_cases, or_right}
-use Rattle.std.proofs.Math.Bool.{or-false}
-use Rattle.mfotl_model.specs.Exact.{View}
-use Rattle.mfotl_model.specs.FreeVariables.{among}
-use Rattle.eval_until.specs.UntilView.{took_all}
-use Rattle.monitorable.specs.CoreForms.{CoreForm, Not, And, Since, Until}
+use Rattle.std.proofs.Common.{◌≡◌, Bool, true, false, ◌&&◌, ◌++◌, List, [], ◌∷◌, length, refl, sym, ap, ◌∙◌, arith}
+use Rattle.std.proofs.Common.{append-nil, ℕ}
+use Rattle.std.proofs.{lemmas.Bool.and_parts, lemmas.Bool.or_right, Math.Bool.or-false}
+use Rattle.mfotl_model.specs.{Exact.View, FreeVariables.among}
+use Rattle.monitorable.specs.CoreForms.{CoreForm, And, Since, Until}
 use Rattle.monitorable.specs.Fragment.{bound_by, fault_in, is_conjunction}
 use Rattle.monitorable.specs.declared.role.Role.{Role}
 use Rattle.monitorable.specs.declared.role.Role.TheVariants as role
 use Rattle.monitor_state.proofs.BeginLemmas.{adds_one, none_reached, since_begins_at, since_state_is}
-use Rattle.monitor_state.proofs.GuardLemmas.{and_left, and_own, not_under}
-use Rattle.monitor_state.proofs.WholeLemmas.{asker_guarded, part_whole}
-use Rattle.monitor_state.proofs.NarrowedBegins.{among_both}
-use Rattle.monitor_state.proofs.UntilBegins.{until_begins_at, until_state_is}
+use Rattle.monitor_state.proofs.{GuardLemmas.and_left, GuardLemmas.and_own, WholeLemmas.asker_guarded}
+use Rattle.monitor_state.proofs.{WholeLemmas.part_whole, NarrowedBegins.among_both, UntilBegins.until_begins_at}
+use Rattle.monitor_state.proofs.{UntilBegins.until_state_is}
 use Rattle.monitor_state.specs.Beginnings.{Accepted, Adds, WindowBegun}
-use Rattle.monitor_state.specs.FilterNode.{GivenAs}
-use Rattle.monitor_state.specs.Nodes.{adds_none, filters, is_keyed, is_negated, is_window, left_operand, nodes_in}
-use Rattle.monitor_state.specs.Nodes.{without_last}
-use Rattle.monitor_state.specs.Views.{reached}
+use Rattle.monitor_state.specs.{FilterNode.GivenAs, Views.reached}
+use Rattle.monitor_state.specs.Nodes.{adds_none, filters, is_negated, is_window, left_operand, nodes_in, without_last}
 use Rattle.monitor_state.specs.WindowNode.{IsWindow, WindowStands, window_took_all}
-use Rattle.monitor_state.specs.declared.filter.FilterState.{FilterState}
-use Rattle.monitor_state.specs.declared.node.Node.{Node}
+use Rattle.monitor_state.specs.declared.{filter.FilterState.FilterState, node.Node.Node, window.Window.Window}
 use Rattle.monitor_state.specs.declared.node.Node.TheVariants as node
-use Rattle.monitor_state.specs.declared.window.Window.{Window}
 use Rattle.monitor_state.specs.declared.window.Window.TheVariants as window
 
 pub is_filter_window : (own : Bool) (f g : CoreForm) → (own && filters f g) ≡ true → is_window (left_operand g) ≡ true
@@ -43,29 +35,19 @@ filtered_whole r f g own is only accepted =
 
 -- a side that has more variables is no NOT
 pub keyed_plain : (f g : CoreForm) → filters f g ≡ true → adds_none f g ≡ false → is_negated g ≡ false
-keyed_plain f g only more =
-    elim (or_cases (adds_none f g) (is_keyed f g) (and_parts _ _ only).1) [
-      | inl none ↦ absurd (let clash : true ≡ false = sym none ∙ more in cc)
-      | inr keyed ↦ not-true (is_negated g) (and_parts _ _ keyed).0
-    ]
+keyed_plain f g only more = grind arith
 
 -- so is the window without its NOT, as a conjunct
 pub operand_accepted : (g : CoreForm) → is_window (left_operand g) ≡ true → Accepted role.Part g
     → Accepted role.Part (left_operand g)
 unfolding fault_in
-operand_accepted (Not (Since i a b)) is accepted = not_under role.Part (Since i a b) accepted
-operand_accepted (Not (Until i a b)) is accepted = not_under role.Part (Until i a b) accepted
-operand_accepted (Not f) is accepted = absurd (let clash : true ≡ false = sym is in cc)
-operand_accepted g is accepted = accepted
+operand_accepted g is accepted = grind arith
 
 -- and has the same nodes below it
 pub operand_nodes : (g : CoreForm) → is_window (left_operand g) ≡ true
     → without_last (nodes_in role.Part (left_operand g)) ≡ without_last (nodes_in role.Part g)
 unfolding nodes_in
-operand_nodes (Not (Since i a b)) is = ap without_last (sym (append-nil (nodes_in role.Negated (Since i a b))))
-operand_nodes (Not (Until i a b)) is = ap without_last (sym (append-nil (nodes_in role.Negated (Until i a b))))
-operand_nodes (Not f) is = absurd (let clash : true ≡ false = sym is in cc)
-operand_nodes g is = refl
+operand_nodes g is = grind (arith, append-nil)
 
 window_is : (w : CoreForm) (s : Window) → WindowBegun w s → IsWindow w s
 window_is (Since i f g) (window.Since s) begun = since_state_is i f g s begun
@@ -75,8 +57,7 @@ window_is w s begun = absurd begun
 window_begins : (w : CoreForm) (s : Window) → WindowBegun w s → (view : View) → view.log ≡ []
     → WindowStands view 0 w s × (window_took_all s ≡ true)
 window_begins (Since i f g) (window.Since s) begun view empty = (since_begins_at i f g s begun view empty, refl)
-window_begins (Until i f g) (window.Until s) begun view empty =
-    (until_begins_at i f g s begun view empty, ap took_all begun.begun)
+window_begins (Until i f g) (window.Until s) begun view empty = search (until_begins_at)
 window_begins w s begun view empty = absurd begun
 
 pub filter_added : (f g : CoreForm) (s : FilterState) (old new : List Node) → filters f g ≡ true
@@ -88,10 +69,8 @@ filter_added f g s old new only turns gives none begun is =
     (λ view empty.
     let begins = window_begins (left_operand g) s.window begun view empty in
     let here : 0 ≡ reached view (And f g) = none_reached view empty (And f g) in
-    let there : 0 ≡ reached view f = none_reached view empty f in
-    let size : length s.tables ≡ 0 = ap length none in
     record {
-      pushed = omega arith;
+      pushed = omega (arith, none_reached view empty f, ap length none);
       exact = rw none tt;
       behind = rw (← here) begins.0;
       all = begins.1;
@@ -106,5 +85,4 @@ bound_by_right y f g m = among_both y (bound_by f) (bound_by g) ∙ or_right _ _
 pub bound_by_left : (y : ℕ) (f g : CoreForm) → among y (bound_by g) ≡ false
     → among y (bound_by (And f g)) ≡ among y (bound_by f)
 unfolding bound_by
-bound_by_left y f g m = among_both y (bound_by f) (bound_by g)
-    ∙ ap (λ b. among y (bound_by f) || b) m ∙ or-false (among y (bound_by f))
+bound_by_left y f g m = cc (among_both y (bound_by f) (bound_by g), or-false (among y (bound_by f)))

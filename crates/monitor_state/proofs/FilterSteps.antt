@@ -1,33 +1,23 @@
 -- The state of a conjunction whose right side is asked for the left one's rows, over one step.
-use Rattle.std.proofs.Common.{subst, ◌≡◌, ℕ, ◌+◌, ◌≤◌, Bool, true, false, ◌&&◌, cond, nat_eq, Option, Some, None}
-use Rattle.std.proofs.Common.{List, [], ◌∷◌}
+use Rattle.std.proofs.Common.{◌≡◌, ℕ, ◌+◌, ◌≤◌, Bool, true, false, ◌&&◌, nat_eq, Option, Some, None, List, [], ◌∷◌}
 use Rattle.std.proofs.Common.{length, map, refl, sym, ap, ap₂, ◌∙◌, inl, inr, arith, length-append}
 use Rattle.std.proofs.lemmas.Bool.{or_cases, or_left, or_right}
 use Rattle.std.proofs.lemmas.List.Folds.{list_any-append}
-use Rattle.mfotl_model.proofs.CountLemmas.{counted_settled}
-use Rattle.mfotl_model.proofs.LogicLemmas.{among_joined}
-use Rattle.mfotl_model.proofs.ColumnLemmas.{read_own}
+use Rattle.mfotl_model.proofs.{CountLemmas.counted_settled, LogicLemmas.among_joined, ColumnLemmas.read_own}
 use Rattle.mfotl_model.specs.Exact.{View, AllExact, Exact}
 use Rattle.mfotl_model.specs.FreeVariables.{among, fv, joined}
-use Rattle.mfotl_model.specs.Log.{times}
-use Rattle.mfotl_model.specs.Regions.{Passes}
-use Rattle.mfotl_model.specs.Satisfaction.{Valuation, sat}
+use Rattle.mfotl_model.specs.{Log.times, Regions.Passes, Satisfaction.Valuation, Satisfaction.sat, Times.NeverFalls}
 use Rattle.mfotl_model.specs.Tables.{TableOf, all_among, has, has_row, valuation}
-use Rattle.mfotl_model.specs.Times.{NeverFalls}
 use Rattle.mfotl_model.specs.declared.event.TimePoint.{TimePoint}
 use Rattle.monitorable.proofs.Coincidence.{coincidence}
-use Rattle.monitorable.specs.CoreForms.{CoreForm, meaning, True, Compare, Not, And, Since, Until}
-use Rattle.monitorable.specs.Fragment.{binds, bound_by}
-use Rattle.monitorable.specs.Soundness.{IsWellFormedIn}
-use Rattle.relations.proofs.JoinLemmas.{member_of_all}
-use Rattle.relations.proofs.InsideLemmas.{joined_within}
+use Rattle.monitorable.specs.CoreForms.{CoreForm, meaning, Compare, Not, And, Since, Until}
+use Rattle.monitorable.specs.{Fragment.bound_by, Soundness.IsWellFormedIn}
+use Rattle.relations.proofs.{JoinLemmas.member_of_all, InsideLemmas.joined_within}
 use Rattle.relations.specs.Pushed.{turned}
 use Rattle.monitor_state.proofs.CountLemmas.{and_below, count_and, count_below}
 use Rattle.monitor_state.proofs.ExactLemmas.{reached_grows, reached_within, rising_before}
-use Rattle.monitor_state.proofs.GrowthLemmas.{exact_more}
-use Rattle.monitor_state.proofs.RegionLemmas.{all_from_each, joined_inside, near_left, near_right}
-use Rattle.monitor_state.proofs.RegionLemmas.{right_inside}
-use Rattle.monitor_state.proofs.SinceSteps.{free_operand, reached_operand, turned_sat}
+use Rattle.monitor_state.proofs.{GrowthLemmas.exact_more, SinceSteps.reached_operand, SinceSteps.turned_sat}
+use Rattle.monitor_state.proofs.RegionLemmas.{all_from_each, joined_inside, near_left, near_right, right_inside}
 use Rattle.monitor_state.proofs.WindowSteps.{window_due_at, window_fed, window_gone, window_means, window_settled}
 use Rattle.monitor_state.specs.FilterFeeding.{FilterPulled, FilterStep, FilterStops, FilterTakes, FiltersOrJoins, Joins}
 use Rattle.monitor_state.specs.FilterFeeding.{Sifts}
@@ -36,18 +26,13 @@ use Rattle.monitor_state.specs.Nodes.{adds_none, is_negated, left_operand, windo
 use Rattle.monitor_state.specs.Steps.{News, StackNews, longer}
 use Rattle.monitor_state.specs.Views.{reached}
 use Rattle.monitor_state.specs.WindowNode.{IsWindow, WindowStands, window_columns, window_due}
-use Rattle.monitor_state.specs.declared.filter.FilterState.{FilterState}
-use Rattle.monitor_state.specs.declared.window.Window.{Window}
+use Rattle.monitor_state.specs.declared.{filter.FilterState.FilterState, window.Window.Window}
 use Rattle.monitor_state.specs.declared.window.Window.TheVariants as window
 
 -- what a core binds is free in it
 pub bound_free : (f : CoreForm) (y : ℕ) → among y (bound_by f) ≡ true → among y (fv (meaning f)) ≡ true
 unfolding fv bound_by
-bound_free (Compare c) y h = by (binds c) h
-  where
-    by : (b : Bool) → among y (cond b (fv (meaning (Compare c))) []) ≡ true → among y (fv (meaning (Compare c))) ≡ true
-    by true m = m
-    by false m = let clash : false ≡ true = m in cc
+bound_free (Compare c) y h = grind arith
 bound_free (Not f) y h = absurd (let clash : true ≡ false = sym h in cc)
 bound_free (And f g) y h =
     among_joined y (fv (meaning f)) (fv (meaning g))
@@ -57,17 +42,6 @@ bound_free (And f g) y h =
       | inr e ↦ or_right (among y (fv (meaning f))) (among y (fv (meaning g))) (bound_free g y e)
     ]
 bound_free f y h = h
-
--- the variables of what only filters are the other side's
-filter_free : (f g : CoreForm) → adds_none f g ≡ true → (y : ℕ) → among y (fv (meaning g)) ≡ true
-    → among y (fv (meaning f)) ≡ true
-filter_free f g none y m =
-    bound_free f y (member_of_all (λ z. among z (bound_by f)) (fv (meaning g)) y none m)
-
-plain_operand : (g : CoreForm) → is_negated g ≡ false → left_operand g ≡ g
-plain_operand True plain = absurd (let clash : true ≡ false = plain in cc)
-plain_operand (Not f) plain = absurd (let clash : true ≡ false = plain in cc)
-plain_operand f plain = refl
 
 -- the columns of a window's rows are its variables
 columns_within : (whole w : CoreForm) (s : Window) → IsWellFormedIn whole w → IsWindow w s
@@ -115,16 +89,13 @@ module _ (view : View) (rising : NeverFalls (times view.log)) (passes : Passes (
   unfolding fv sat
   sifted_exact p s negated table kept none turns is stands exact over sifts =
       record {
-        columns =
-            over ∙ exact.columns
-            ∙ sym (joined_within (fv (meaning f)) (fv (meaning g))
-            (all_from_each (fv (meaning g)) (fv (meaning f)) (λ y m. filter_free f g none y m)));
+        columns = grind (arith, joined_within, all_from_each, bound_free, member_of_all);
         rows = λ dom v covers near.
             let own : Valuation = valuation table.columns (map v table.columns) in
             let agree : (y : ℕ) → among y (fv (meaning (left_operand g))) ≡ true
             → (among y (fv (meaning f)) ≡ true) × (own y ≡ v y) = λ y m.
             let inner : among y (fv (meaning f)) ≡ true =
-            filter_free f g none y (ap (among y) (sym (free_operand g)) ∙ m) in
+            (grind (arith, bound_free, member_of_all)) in
             (inner, read_own v table.columns y (ap (among y) exact.columns ∙ inner)) in
             has_is kept table.columns v over
             ∙ sifts (map v table.columns) (sat view.log dom v p (meaning (left_operand g)))
@@ -150,10 +121,9 @@ module _ (view : View) (rising : NeverFalls (times view.log)) (passes : Passes (
       → Exact view (meaning f) p table → Joins s order table kept → Exact view (meaning (And f g)) p kept
   unfolding fv sat
   joined_exact p s order table kept plain ordered is stands exact joins =
-      let own : left_operand g ≡ g = plain_operand g plain in
+      let own : left_operand g ≡ g = (grind arith) in
       let within = columns_within whole (left_operand g) s sound is in
-      let both : joined table.columns (window_columns s) ≡ joined (fv (meaning f)) (window_columns s) =
-      ap (λ cs. joined cs (window_columns s)) exact.columns in
+      let both : joined table.columns (window_columns s) ≡ joined (fv (meaning f)) (window_columns s) = cc in
       record {
         columns = joins.over ∙ ordered;
         rows = λ dom v covers near.
@@ -176,12 +146,9 @@ module _ (view : View) (rising : NeverFalls (times view.log)) (passes : Passes (
   given_exact : (p : ℕ) (s : Window) (negated : Bool) (order : Option TableOf) (table kept : TableOf)
       → negated ≡ is_negated g → GivenAs f g order → IsWindow (left_operand g) s
       → WindowStands view p (left_operand g) s → Exact view (meaning f) p table
-      → FiltersOrJoins s negated order table kept
-      → Exact view (meaning (And f g)) p kept
-  given_exact p s negated None table kept turns none is stands exact gives =
-      sifted_exact p s negated table kept none turns is stands exact gives.0 gives.1
-  given_exact p s negated (Some order) table kept turns as_ is stands exact gives =
-      joined_exact p s order table kept as_.0 as_.1 is stands exact gives
+      → FiltersOrJoins s negated order table kept → Exact view (meaning (And f g)) p kept
+  given_exact p s negated None table kept turns none is stands exact gives = search (sifted_exact)
+  given_exact p s negated (Some order) table kept turns as_ is stands exact gives = search (joined_exact)
 
   step_stands : (p : ℕ) (old new : FilterState) (kept : TableOf) → StandsAt view f g p old → FilterStep old new kept
       → StandsAt view f g (p + 1) new × Exact view (meaning (And f g)) p kept
@@ -192,25 +159,12 @@ module _ (view : View) (rising : NeverFalls (times view.log)) (passes : Passes (
       let low = count_below (times view.log) rising (meaning (left_operand g)) p
       (sym (window_due_at view rising (left_operand g) step.ready p (omega arith) ready.0 ready.1) ∙ step.was_due) in
       let gone = window_gone view (left_operand g) step.ready new.window p ready.0 ready.1 step.was_due step.goes in
-      let exact = rw step.front at stands.exact in (
-        record {
-          turns = step.turns ∙ stands.turns;
-          gives = rw step.orders stands.gives;
-          pushed = omega arith;
-          inside = omega (arith, reached_operand view g);
-          exact = exact.1;
-          asks = gone.0;
-          behind = gone.1;
-        },
-        given_exact p step.ready old.negated old.order step.table kept stands.turns stands.gives ready.0 ready.1 exact.0
-            step.gives,
-      )
+      grind (arith, reached_operand, given_exact)
 
   steps_stand : (p : ℕ) (old new : FilterState) (tables : List TableOf) → StandsAt view f g p old
       → FilterPulled old new tables
       → StandsAt view f g (p + length tables) new × AllExact view (meaning (And f g)) p tables
-  steps_stand p old new [] stands same =
-      let none : p ≡ p + 0 = omega arith in (subst (λ q. StandsAt view f g q new) none (rw same stands), tt)
+  steps_stand p old new [] stands same = grind arith
   steps_stand p old new (kept ∷ tables) stands pulled =
       let one = step_stands p old pulled.0 kept stands pulled.1 in
       let rest = steps_stand (p + 1) pulled.0 new tables one.0 pulled.2 in
@@ -219,18 +173,7 @@ module _ (view : View) (rising : NeverFalls (times view.log)) (passes : Passes (
 
   stops_stand : (p : ℕ) (old new : FilterState) → StandsAt view f g p old → FilterStops old new
       → StandsAt view f g p new
-  stops_stand p old new stands stops =
-      let ready = window_settled view (left_operand g) old.window new.window p stands.asks stands.behind
-      stops.settles in
-      record {
-        turns = stops.turns ∙ stands.turns;
-        gives = rw stops.orders stands.gives;
-        pushed = rw stops.tables stands.pushed;
-        inside = stands.inside;
-        exact = rw stops.tables stands.exact;
-        asks = ready.0;
-        behind = ready.1;
-      }
+  stops_stand p old new stands stops = grind (arith, window_settled)
 
   -- where no more can be pulled, all settled positions are
   all_pulled : (p : ℕ) (s : FilterState) → StandsAt view f g p s → (window_due s.window ≡ true → s.tables ≡ [])
@@ -241,8 +184,7 @@ module _ (view : View) (rising : NeverFalls (times view.log)) (passes : Passes (
       (λ low high.
       let ready = counted_settled (times view.log) (meaning (left_operand g)) p
       (omega (arith, reached_operand view g)) in
-      let none : length s.tables ≡ 0 = ap length (done (window_due_at view rising (left_operand g) s.window p (omega arith) stands.asks
-      stands.behind ∙ ready)) in
+      let none : length s.tables ≡ 0 = grind (arith, window_due_at) in
       omega arith)
 
 module _ {view : View} {point : TimePoint} (whole : CoreForm) {f g : CoreForm} {old new : FilterState} {ts : ℕ}
@@ -283,9 +225,7 @@ module _ {view : View} {point : TimePoint} (whole : CoreForm) {f g : CoreForm} {
       takes.last new last_stands.0 takes.stops
 
   count : reached view (And f g) + length tables ≡ reached (longer view point) (And f g)
-  count =
-      all_pulled (longer view point) rising passes whole f g sound (reached view (And f g) + length tables) new
-      new_stands takes.stops.done
+  count = search (all_pulled, new_stands)
 
   pub filter_steps : IsFilter f g new × FilterStands (longer view point) f g new × News view point (And f g) tables
   filter_steps =

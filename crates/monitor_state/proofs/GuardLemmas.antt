@@ -1,60 +1,40 @@
 -- What the fragment gives the parts of a core: no variable of a conjunction that a child doesn't bind.
-use Rattle.std.proofs.Common.{◌≡◌, ℕ, ◌<◌, Bool, true, false, cond, List, [], ◌∷◌, ◌++◌, length, map, None, refl, sym}
-use Rattle.std.proofs.Common.{ap, ap₂, subst, ◌∙◌, arith, append_assoc, append-nil}
+use Rattle.std.proofs.Common.{◌≡◌, ℕ, ◌<◌, Bool, true, false, List, [], ◌∷◌, ◌++◌, length, map, None, refl, sym, ap}
+use Rattle.std.proofs.Common.{ap₂, ◌∙◌, arith, append_assoc, append-nil}
 use Rattle.std.proofs.lemmas.Bool.{and_from, or_left, or_right}
 use Rattle.std.specs.List.{list_all, list_any}
 use Rattle.mfotl_model.proofs.LogicLemmas.{among_joined}
-use Rattle.mfotl_model.specs.FreeVariables.{among, fv}
-use Rattle.mfotl_model.specs.Tables.{all_among, all_apart}
-use Rattle.mfotl_model.specs.declared.formula.Bound.{Bound}
-use Rattle.mfotl_model.specs.declared.interval.Interval.{Interval}
-use Rattle.mfotl_model.specs.declared.term.Comparison.{Comparison}
+use Rattle.mfotl_model.specs.{FreeVariables.among, FreeVariables.fv, Tables.all_among, Tables.all_apart}
+use Rattle.mfotl_model.specs.declared.{formula.Bound.Bound, interval.Interval.Interval}
 use Rattle.eval_bool.specs.OrView.{same_columns}
 use Rattle.eval_bool.specs.JoinView.{all_children, bound_columns, children_of, compared_variables, conjunct_columns}
 use Rattle.eval_bool.specs.JoinView.{is_guarded, tests_of}
 use Rattle.monitorable.proofs.FragmentLemmas.{even_variables, guarded, no_first, right_variable}
 use Rattle.monitorable.proofs.FreeVariableLemmas.{fv_apart}
 use Rattle.monitorable.specs.CoreForms.{CoreForm, meaning, Compare, Not, And, Or, Exists, Since, Until}
-use Rattle.monitorable.specs.Conjuncts.{PartForm, conjuncts_of, negated_part}
-use Rattle.monitorable.specs.Conjuncts.PartForm.{Child as ChildPart, Test as TestPart}
-use Rattle.monitorable.specs.Fragment.{Names, asked, binds, bound_by, covers, fault_in, guards, is_conjunction}
-use Rattle.monitorable.specs.Fragment.{judges_not, under_not, with_name}
+use Rattle.monitorable.specs.{Conjuncts.PartForm, Conjuncts.conjuncts_of, Conjuncts.PartForm.Child as ChildPart}
+use Rattle.monitorable.specs.{Conjuncts.PartForm.Test as TestPart}
+use Rattle.monitorable.specs.Fragment.{Names, bound_by, fault_in, guards, is_conjunction, judges_not, under_not}
 use Rattle.monitorable.specs.declared.role.Role.{Role}
 use Rattle.monitorable.specs.declared.role.Role.TheVariants as role
-use Rattle.monitor_state.proofs.JoinSteps.{columns_are}
-use Rattle.monitor_state.proofs.RegionLemmas.{all_from_each}
+use Rattle.monitor_state.proofs.{JoinSteps.columns_are, RegionLemmas.all_from_each}
 use Rattle.monitor_state.specs.Beginnings.{Accepted, GuardedIf, is_child}
-use Rattle.monitor_state.specs.Nodes.{children}
-use Rattle.monitor_state.specs.Stands.{conjunct_as}
+use Rattle.monitor_state.specs.{Nodes.children, Stands.conjunct_as}
 
 -- the columns that conjuncts bind, in a row
-bound_append : (ps qs : List PartForm)
-    → bound_columns (children_of (map conjunct_as (ps ++ qs)))
+bound_append : (ps qs : List PartForm) → bound_columns (children_of (map conjunct_as (ps ++ qs)))
     ≡ bound_columns (children_of (map conjunct_as ps)) ++ bound_columns (children_of (map conjunct_as qs))
 bound_append [] qs = refl
 bound_append (ChildPart f true ∷ ps) qs = bound_append ps qs
-bound_append (ChildPart f false ∷ ps) qs =
-    ap (λ xs. fv (meaning f) ++ xs) (bound_append ps qs)
-    ∙ sym (append_assoc (fv (meaning f)) (bound_columns (children_of (map conjunct_as ps)))
-    (bound_columns (children_of (map conjunct_as qs))))
+bound_append (ChildPart f false ∷ ps) qs = simp (append_assoc, bound_append ps qs)
 bound_append (TestPart c w ∷ ps) qs = bound_append ps qs
-
-negated_bound : (f : CoreForm) → bound_columns (children_of (map conjunct_as (negated_part f ∷ []))) ≡ []
-negated_bound (Compare c) = refl
-negated_bound f = refl
-
-compared_bound : (c : Comparison) (b : Bool)
-    → bound_columns (children_of (map conjunct_as (cond b (ChildPart (Compare c) false) (TestPart c true) ∷ [])))
-    ≡ cond b (fv (meaning (Compare c))) []
-compared_bound c true = append-nil (fv (meaning (Compare c)))
-compared_bound c false = refl
 
 -- the columns that the conjuncts bind are the variables that the core binds
 pub bound_is : (f : CoreForm) → bound_columns (children_of (map conjunct_as (conjuncts_of f))) ≡ bound_by f
 unfolding conjuncts_of bound_by
 bound_is (And f g) = bound_append (conjuncts_of f) (conjuncts_of g) ∙ ap₂ (λ xs ys. xs ++ ys) (bound_is f) (bound_is g)
-bound_is (Not f) = negated_bound f
-bound_is (Compare c) = compared_bound c (binds c)
+bound_is (Not f) = grind arith
+bound_is (Compare c) = grind (arith, append-nil)
 bound_is f = append-nil (fv (meaning f))
 
 -- conjuncts whose columns are among some variables
@@ -90,8 +70,7 @@ join_guarded names f accepted =
 -- no child has a column twice
 pub join_apart : (ps : List PartForm) → all_children all_apart (children_of (map conjunct_as ps)) ≡ true
 join_apart [] = refl
-join_apart (ChildPart f n ∷ ps) =
-    and_from _ _ (fv_apart (meaning f)) (join_apart ps)
+join_apart (ChildPart f n ∷ ps) = simp (and_from, fv_apart, join_apart ps)
 join_apart (TestPart c w ∷ ps) = join_apart ps
 
 pub some_child : (ps : List PartForm) → list_any is_child ps ≡ true → 0 < length (children ps)
@@ -111,24 +90,11 @@ and_right r f g a = (a.0, (no_first _ _ (no_first _ _ a.1).1).0)
 pub and_own : (r : Role) (f g : CoreForm) → Accepted r (And f g) → is_conjunction r ≡ true
     → (names : Names) × (guards names (And f g) ≡ None)
 unfolding fault_in
-and_own r f g a own =
-    (a.0, ap (λ b. asked b (guards a.0 (And f g))) (sym own) ∙ (no_first _ _ (no_first _ _ a.1).1).1)
+and_own r f g a own = grind arith
 
 pub not_under : (r : Role) (f : CoreForm) → Accepted r (Not f) → Accepted (under_not r) f
 unfolding fault_in
 not_under r f a = (a.0, (no_first _ _ a.1).0)
-
--- where the right operand covers the left one, the left one's variables are among its own
-covered_among : (names : Names) (f g : CoreForm) → covers names f g ≡ None
-    → all_among (fv (meaning f)) (fv (meaning g)) ≡ true
-covered_among names f g covered =
-    all_from_each (fv (meaning f)) (fv (meaning g))
-    (λ y m. right_variable names f g y covered (among_joined y (fv (meaning f)) (fv (meaning g)) ∙ or_left _ _ m))
-
--- the same of a core that is known to be so
-pub and_own_at : (r : Role) (h f g : CoreForm) (own : Bool) → h ≡ And f g → own ≡ is_conjunction r → Accepted r h
-    → GuardedIf own h
-and_own_at r h f g own same is a holds = rw same (and_own r f g (rw same at a) (sym is ∙ holds))
 
 pub not_under_at : (r s : Role) (h f : CoreForm) → h ≡ Not f → s ≡ under_not r → Accepted r h → Accepted s f
 not_under_at r s h f same under a = rw under (not_under r f (rw same at a))
@@ -136,49 +102,27 @@ not_under_at r s h f same under a = rw under (not_under r f (rw same at a))
 pub not_own_at : (r : Role) (h f : CoreForm) (own : Bool) → h ≡ Not f → own ≡ judges_not r → Accepted r h
     → GuardedIf own h
 unfolding fault_in
-not_own_at r h f own same is a holds =
-    let whole = subst (Accepted r) same a in
-    rw same (whole.0, ap (λ b. asked b (guards whole.0 (Not f))) (sym (sym is ∙ holds)) ∙ (no_first _ _ whole.1).1)
+not_own_at r h f own same is a holds = grind arith
 
 pub exists_under_at : (r : Role) (h : CoreForm) (x : Bound) (f : CoreForm) → h ≡ Exists x f → Accepted r h
     → Accepted role.Whole f
 unfolding fault_in
-exists_under_at r h x f same a =
-    let whole = subst (Accepted r) same a in (with_name whole.0 x, (no_first _ _ whole.1).0)
+exists_under_at r h x f same a = grind arith
 
 -- so are a window's operands, and the variables of the left one are among the right one's
 pub since_parts : (r : Role) (h : CoreForm) (i : Interval) (f g : CoreForm) → h ≡ Since i f g → Accepted r h
     → Accepted role.Left f × Accepted role.Whole g × (all_among (fv (meaning f)) (fv (meaning g)) ≡ true)
 unfolding fault_in
-since_parts r h i f g same a =
-    let whole = subst (Accepted r) same a in
-    let left = no_first _ _ whole.1 in
-    let right = no_first _ _ left.1 in
-    ((whole.0, left.0), (whole.0, right.0), covered_among whole.0 f g right.1)
+since_parts r h i f g same a = grind (arith, no_first, all_from_each, right_variable, among_joined, or_left)
 
 pub until_parts : (r : Role) (h : CoreForm) (i : Interval) (f g : CoreForm) → h ≡ Until i f g → Accepted r h
     → Accepted role.Left f × Accepted role.Whole g × (all_among (fv (meaning f)) (fv (meaning g)) ≡ true)
 unfolding fault_in
-until_parts r h i f g same a =
-    let whole = subst (Accepted r) same a in
-    let left = no_first _ _ whole.1 in
-    let right = no_first _ _ left.1 in
-    ((whole.0, left.0), (whole.0, right.0), covered_among whole.0 f g (no_first _ _ right.1).1)
+until_parts r h i f g same a = grind (arith, no_first, all_from_each, right_variable, among_joined, or_left)
 
 -- the operands of an OR have the same variables
 pub or_parts : (r : Role) (h f g : CoreForm) → h ≡ Or f g → Accepted r h
     → Accepted role.Whole f × Accepted role.Whole g × (same_columns (fv (meaning f)) (fv (meaning g)) ≡ true)
 unfolding fault_in
 or_parts r h f g same a =
-    let whole = subst (Accepted r) same a in
-    let left = no_first _ _ whole.1 in
-    let right = no_first _ _ left.1 in
-    let both = λ (y : ℕ). among_joined y (fv (meaning f)) (fv (meaning g)) in (
-      (whole.0, left.0),
-      (whole.0, right.0),
-      and_from _ _
-          (all_from_each (fv (meaning f)) (fv (meaning g))
-          (λ y m. (even_variables f g y right.1 (both y ∙ or_left _ _ m)).1))
-          (all_from_each (fv (meaning g)) (fv (meaning f))
-          (λ y m. (even_variables f g y right.1 (both y ∙ or_right _ _ m)).0)),
-    )
+    grind (arith, no_first, among_joined, and_from, all_from_each, even_variables, or_left, or_right)

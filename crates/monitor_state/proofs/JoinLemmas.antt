@@ -1,11 +1,10 @@
 -- Tables pushed to a conjunction and pulled from it, one after the other.
 use Rattle.std.proofs.Common.{◌≡◌, ℕ, zero, suc, ◌+◌, ◌<◌, true, nat_lt, nat_le, List, [], ◌∷◌, ◌++◌, length, drop, map}
-use Rattle.std.proofs.Common.{refl, sym, ap, ap₂, arith, length-append, append-nil, append_assoc}
+use Rattle.std.proofs.Common.{refl, sym, ap, arith, length-append, append-nil, append_assoc}
 use Rattle.std.proofs.lemmas.Bool.{and_parts, and_from, ltb-true, le-leb}
-use Rattle.std.proofs.lemmas.List.{drop-drop, length-drop}
+use Rattle.std.proofs.{lemmas.List.drop-drop, lemmas.List.length-drop, lemmas.Grind.common_steps}
 use Rattle.std.specs.List.{list_all}
-use Rattle.mfotl_model.specs.Satisfaction.{Valuation}
-use Rattle.mfotl_model.specs.Tables.{TableOf, has}
+use Rattle.mfotl_model.specs.{Satisfaction.Valuation, Tables.TableOf, Tables.has}
 use Rattle.eval_bool.specs.JoinView.{ChildOf, JoinOf, child_advanced, child_pushed, join_advanced, join_due, joins}
 use Rattle.relations.proofs.PushedLemmas.{over_push, stand_push}
 use Rattle.monitor_state.specs.JoinFeeding.{JoinPulled, child_dropped, child_fed, children_fed, join_pulled}
@@ -52,8 +51,7 @@ dropped_none (c ∷ cs) = ap (λ ds. c ∷ ds) (dropped_none cs)
 dropped_more : (n : ℕ) (cs : List ChildOf)
     → map child_advanced (map (child_dropped n) cs) ≡ map (child_dropped (n + 1)) cs
 dropped_more n [] = refl
-dropped_more n (c ∷ cs) =
-    ap₂ (λ xs ds. record c { tables = xs } ∷ ds) (drop-drop 1 n c.tables) (dropped_more n cs)
+dropped_more n (c ∷ cs) = simp (drop-drop, dropped_more n cs)
 
 -- where each child has one table behind the first n, it has n + 1
 room_more : (n : ℕ) (cs : List ChildOf) → list_all (λ c. nat_le n (length c.tables)) cs ≡ true
@@ -64,10 +62,7 @@ room_more n (c ∷ cs) room ready =
     let parts = and_parts (nat_le n (length c.tables)) (list_all (λ c. nat_le n (length c.tables)) cs) room in
     let readies = and_parts (nat_lt 0 (length (drop n c.tables)))
     (list_all (λ c. nat_lt 0 (length c.tables)) (map (child_dropped n) cs)) ready in
-    and_from (nat_le (n + 1) (length c.tables)) (list_all (λ c. nat_le (n + 1) (length c.tables)) cs)
-    (le-leb (n + 1) (length c.tables)
-    (omega (arith, ltb-true 0 (length (drop n c.tables)) readies.0, length-drop n c.tables)))
-    (room_more n cs parts.1 readies.1)
+    grind (arith, and_from, le-leb, ltb-true, length-drop, room_more n cs parts.1 readies.1)
 
 pub join_pulled_none : (s : JoinOf) → JoinPulled s s []
 join_pulled_none s =
@@ -82,8 +77,7 @@ join_pulled_none s =
 -- one turn of the loop that pulls
 pub join_pulled_more : {old s new : JoinOf} {tables items : List TableOf} (table : TableOf) → JoinPulled old s tables
     → true ≡ join_due s → new ≡ join_advanced s → table.columns ≡ s.columns
-    → ((v : Valuation) → has table v ≡ joins s v)
-    → items ≡ tables ++ table ∷ [] → JoinPulled old new items
+    → ((v : Valuation) → has table v ≡ joins s v) → items ≡ tables ++ table ∷ [] → JoinPulled old new items
 join_pulled_more {old} {s} {new} {tables} {items} table before ready advanced over rows made =
     let n : length items ≡ length tables + 1 = rw made (omega (arith, length-append tables (table ∷ []))) in
     let place : 0 + length tables ≡ length tables = omega arith in
@@ -101,10 +95,7 @@ join_pulled_more {old} {s} {new} {tables} {items} table before ready advanced ov
 -- a turn leaves the first child fewer tables
 advanced_fewer : (cs : List ChildOf) → 0 < length cs → list_all (λ c. nat_lt 0 (length c.tables)) cs ≡ true
     → (first_tables (map child_advanced cs) < first_tables cs) × (0 < length (map child_advanced cs))
-advanced_fewer [] some ready = absurd (omega arith)
-advanced_fewer (c ∷ cs) some ready =
-    let parts = and_parts (nat_lt 0 (length c.tables)) (list_all (λ c. nat_lt 0 (length c.tables)) cs) ready in
-    (omega (arith, ltb-true 0 (length c.tables) parts.0, length-drop 1 c.tables), omega arith)
+advanced_fewer cs some ready = grind (arith, common_steps, and_parts, ltb-true, length-drop)
 
 pub join_fewer : (s : JoinOf) {new : JoinOf} → 0 < length s.children → true ≡ join_due s → new ≡ join_advanced s
     → (first_tables new.children < first_tables s.children) × (0 < length new.children)

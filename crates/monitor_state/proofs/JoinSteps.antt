@@ -1,72 +1,52 @@
 -- A conjunction's state over one step.
-use Rattle.std.proofs.Common.{◌≡◌, ℕ, ◌+◌, ◌<◌, Bool, true, false, not, cond, ◌&&◌, nat_lt, nat_le}
-use Rattle.std.proofs.Common.{List, [], ◌∷◌, ◌++◌, length, drop, map, refl, sym, ap, ap₂, ◌∙◌, arith, length-append}
+use Rattle.std.proofs.Common.{◌≡◌, ℕ, ◌+◌, ◌<◌, Bool, true, false, not, cond, ◌&&◌, nat_lt, nat_le, List, [], ◌∷◌, ◌++◌}
+use Rattle.std.proofs.Common.{length, map, refl, sym, ap, ap₂, ◌∙◌, arith, length-append}
 use Rattle.std.proofs.Math.Bool.{beq, and-true, and_assoc}
 use Rattle.std.proofs.lemmas.Bool.{lt-ltb, ltb-true, leb-true, le-leb, and_parts, and_from}
-use Rattle.std.proofs.lemmas.List.{length-drop}
-use Rattle.std.proofs.lemmas.List.Folds.{list_all-append}
-use Rattle.std.specs.Cmp.{both_ways}
+use Rattle.std.proofs.{lemmas.List.length-drop, lemmas.List.Folds.list_all-append}
 use Rattle.std.specs.List.{list_all}
-use Rattle.mfotl_model.proofs.CountLemmas.{counted_settled}
+use Rattle.mfotl_model.proofs.{CountLemmas.counted_settled, LogicLemmas.and_moved}
 use Rattle.mfotl_model.proofs.VariableLemmas.{joined_assoc, joined_none, joined_nothing}
-use Rattle.mfotl_model.proofs.LogicLemmas.{and_moved}
 use Rattle.mfotl_model.specs.Exact.{View, Covers, AllExact}
 use Rattle.mfotl_model.specs.FreeVariables.{joined, fv, variables_in}
-use Rattle.mfotl_model.specs.Log.{times}
-use Rattle.mfotl_model.specs.Regions.{Passes}
+use Rattle.mfotl_model.specs.{Log.times, Regions.Passes, Settled.settled, Tables.TableOf, Tables.has, Times.NeverFalls}
 use Rattle.mfotl_model.specs.Satisfaction.{Valuation, sat, compares, term_value}
-use Rattle.mfotl_model.specs.Settled.{settled}
-use Rattle.mfotl_model.specs.Tables.{TableOf, has}
-use Rattle.mfotl_model.specs.Times.{NeverFalls}
-use Rattle.mfotl_model.specs.declared.event.TimePoint.{TimePoint}
-use Rattle.mfotl_model.specs.declared.term.Comparison.{Comparison}
-use Rattle.mfotl_model.specs.declared.value.Value.{Value}
+use Rattle.mfotl_model.specs.declared.{event.TimePoint.TimePoint, term.Comparison.Comparison, value.Value.Value}
 use Rattle.eval_bool.specs.Firsts.{first_has}
 use Rattle.eval_bool.specs.JoinView.{ChildOf, JoinOf, child_holds, children_of, conjunct_columns, join_due, joins}
 use Rattle.eval_bool.specs.JoinView.{test_holds, tests_of}
-use Rattle.monitorable.proofs.ConjunctsLaw.{conjuncts_mean}
-use Rattle.monitorable.proofs.SettledLemmas.{settled_in_log}
+use Rattle.monitorable.proofs.{ConjunctsLaw.conjuncts_mean, SettledLemmas.settled_in_log}
 use Rattle.monitorable.specs.CoreForms.{CoreForm, meaning, Compare, Not, And}
 use Rattle.monitorable.specs.Conjuncts.{PartForm, conjuncts_of, negated_part, part_holds}
-use Rattle.monitorable.specs.Conjuncts.PartForm.{Child as ChildPart, Test as TestPart}
-use Rattle.monitorable.specs.Fragment.{binds}
-use Rattle.relations.specs.Operations.{chosen}
-use Rattle.relations.specs.Pushed.{turned}
+use Rattle.monitorable.specs.{Conjuncts.PartForm.Child as ChildPart, Conjuncts.PartForm.Test as TestPart}
+use Rattle.monitorable.specs.{Fragment.binds}
+use Rattle.relations.specs.{Operations.chosen, Pushed.turned}
 use Rattle.monitor_state.proofs.CountLemmas.{count_below, count_is, count_within}
 use Rattle.monitor_state.proofs.ExactLemmas.{exact_drop, shifted, stand_exact}
-use Rattle.monitor_state.proofs.GrowthLemmas.{exact_more, first_exact}
-use Rattle.monitor_state.proofs.RegionLemmas.{near_left, near_right}
+use Rattle.monitor_state.proofs.{GrowthLemmas.exact_more, GrowthLemmas.first_exact, RegionLemmas.near_left}
+use Rattle.monitor_state.proofs.{RegionLemmas.near_right}
 use Rattle.monitor_state.specs.JoinFeeding.{JoinTakes, child_dropped, children_fed, join_fed, join_pulled}
-use Rattle.monitor_state.specs.Nodes.{children, operands}
+use Rattle.monitor_state.specs.{Nodes.children, Nodes.operands, Views.reached}
 use Rattle.monitor_state.specs.Stands.{ChildrenStand, IsConjunction, JoinStands, bare, conjunct_as}
 use Rattle.monitor_state.specs.Steps.{News, StackNews, longer}
-use Rattle.monitor_state.specs.Views.{reached}
 
 -- the columns of conjuncts in a row
 columns_append : (ps qs : List PartForm)
     → conjunct_columns (map conjunct_as (ps ++ qs)) ≡ joined (conjunct_columns (map conjunct_as ps))
     (conjunct_columns (map conjunct_as qs))
 columns_append [] qs = sym (joined_none (conjunct_columns (map conjunct_as qs)))
-columns_append (ChildPart f negated ∷ ps) qs =
-    ap (joined (fv (meaning f))) (columns_append ps qs)
-    ∙ sym (joined_assoc (fv (meaning f)) (conjunct_columns (map conjunct_as ps))
-    (conjunct_columns (map conjunct_as qs)))
-columns_append (TestPart c wanted ∷ ps) qs =
-    ap (joined (variables_in (c.left ∷ c.right ∷ []))) (columns_append ps qs)
-    ∙ sym (joined_assoc (variables_in (c.left ∷ c.right ∷ [])) (conjunct_columns (map conjunct_as ps))
-    (conjunct_columns (map conjunct_as qs)))
+columns_append (ChildPart f negated ∷ ps) qs = simp (joined_assoc, columns_append ps qs)
+columns_append (TestPart c wanted ∷ ps) qs = simp (joined_assoc, columns_append ps qs)
 
 negated_columns : (f : CoreForm) → conjunct_columns (map conjunct_as (negated_part f ∷ [])) ≡ fv (meaning f)
 unfolding fv
-negated_columns (Compare c) = joined_nothing (variables_in (c.left ∷ c.right ∷ []))
-negated_columns f = joined_nothing (fv (meaning f))
+negated_columns f = grind (arith, joined_nothing)
 
 compared_columns : (c : Comparison) (b : Bool)
     → conjunct_columns (map conjunct_as (cond b (ChildPart (Compare c) false) (TestPart c true) ∷ [])) ≡ variables_in
     (c.left ∷ c.right ∷ [])
 unfolding fv
-compared_columns c true = joined_nothing (variables_in (c.left ∷ c.right ∷ []))
-compared_columns c false = joined_nothing (variables_in (c.left ∷ c.right ∷ []))
+compared_columns c b = grind arith
 
 -- the columns of a conjunction are its free variables
 pub columns_are : (f : CoreForm) → conjunct_columns (map conjunct_as (conjuncts_of f)) ≡ fv (meaning f)
@@ -78,24 +58,18 @@ columns_are f = joined_nothing (fv (meaning f))
 
 -- a comparison that is wanted to come out so
 pub chosen_is : (wanted b : Bool) → beq wanted b ≡ cond wanted b (not b)
-chosen_is true true = refl
-chosen_is true false = refl
-chosen_is false true = refl
-chosen_is false false = refl
+chosen_is wanted b = grind arith
 
 module _ (view : View) (passes : Passes (fv view.whole) view.near) where
   -- what joins of exact tables is what the conjuncts mean
   joins_mean : (i : ℕ) (parts : List PartForm) (cs : List ChildOf)
       → map bare cs ≡ children_of (map conjunct_as parts) → ChildrenStand view i (children parts) cs
-      → list_all (λ c. nat_lt 0 (length c.tables)) cs ≡ true
-      → (dom : List Value) (v : Valuation) → Covers view dom
+      → list_all (λ c. nat_lt 0 (length c.tables)) cs ≡ true → (dom : List Value) (v : Valuation) → Covers view dom
       → view.near (conjunct_columns (map conjunct_as parts)) v ≡ true
       → (list_all (child_holds v) cs && list_all (test_holds v) (tests_of (map conjunct_as parts)))
       ≡ list_all (part_holds view.log dom v i) parts
   unfolding sat chosen
   joins_mean i [] [] is stand ready dom v covers near = refl
-  joins_mean i [] (c ∷ cs) is stand ready dom v covers near = absurd stand
-  joins_mean i (ChildPart f negated ∷ parts) [] is stand ready dom v covers near = absurd stand
   joins_mean i (ChildPart f negated ∷ parts) (c ∷ cs) is stand ready dom v covers near =
       let readies = and_parts (nat_lt 0 (length c.tables)) (list_all (λ c. nat_lt 0 (length c.tables)) cs) ready in
       let head : bare c ≡ record { columns = fv (meaning f); negated = negated; tables = [] } = cc in
@@ -118,6 +92,7 @@ module _ (view : View) (passes : Passes (fv view.whole) view.near) where
       (joins_mean i parts cs is stand ready dom v covers
       (near_right (fv view.whole) view.near passes (variables_in (c.left ∷ c.right ∷ []))
       (conjunct_columns (map conjunct_as parts)) v near))
+  joins_mean i parts cs is stand ready dom v covers near = absurd assumption
 
 bare_dropped : (n : ℕ) (cs : List ChildOf) → map bare (map (child_dropped n) cs) ≡ map bare cs
 bare_dropped n [] = refl
@@ -141,8 +116,7 @@ dropped_stand view i k (f ∷ fs) (c ∷ cs) room stand =
       },
       dropped_stand view i k fs cs parts.1 stand.1,
     )
-dropped_stand view i k [] (c ∷ cs) room stand = absurd stand
-dropped_stand view i k (f ∷ fs) [] room stand = absurd stand
+dropped_stand view i k fs cs room stand = absurd assumption
 
 -- less room is enough, and some is left then
 less_room : (k n : ℕ) (cs : List ChildOf) → k < n → list_all (λ c. nat_le n (length c.tables)) cs ≡ true
@@ -152,13 +126,7 @@ less_room k n [] low room = (refl, refl)
 less_room k n (c ∷ cs) low room =
     let parts = and_parts (nat_le n (length c.tables)) (list_all (λ c. nat_le n (length c.tables)) cs) room in
     let high = leb-true n (length c.tables) parts.0 in
-    let rest = less_room k n cs low parts.1 in (
-      and_from (nat_le k (length c.tables)) (list_all (λ c. nat_le k (length c.tables)) cs)
-          (le-leb k (length c.tables) (omega arith)) rest.0,
-      and_from (nat_lt 0 (length (drop k c.tables)))
-          (list_all (λ c. nat_lt 0 (length c.tables)) (map (child_dropped k) cs))
-          (lt-ltb 0 (length (drop k c.tables)) (omega (arith, length-drop k c.tables))) rest.1,
-    )
+    grind (arith, and_from, le-leb, lt-ltb, length-drop, less_room k n cs low parts.1)
 
 children_append : (ps qs : List PartForm) → children (ps ++ qs) ≡ children ps ++ children qs
 children_append [] qs = refl
@@ -172,22 +140,17 @@ all_settled t j fs = list_all (λ f. settled t (meaning f) j) fs
 module _ (t : List ℕ) (j : ℕ) (inside : nat_lt j (length t) ≡ true) where
   negated_settled : (f : CoreForm) → settled t (meaning f) j ≡ all_settled t j (children (negated_part f ∷ []))
   unfolding settled
-  negated_settled (Compare c) = inside
-  negated_settled f = sym (and-true (settled t (meaning f) j))
+  negated_settled f = grind arith
 
   compared_settled : (c : Comparison) (b : Bool) → settled t (meaning (Compare c)) j
       ≡ all_settled t j (children (cond b (ChildPart (Compare c) false) (TestPart c true) ∷ []))
   unfolding settled
-  compared_settled c true = sym (and-true (nat_lt j (length t)))
-  compared_settled c false = inside
+  compared_settled c b = grind arith
 
   -- a conjunction is settled where its children are
   parts_settled : (f : CoreForm) → settled t (meaning f) j ≡ all_settled t j (children (conjuncts_of f))
   unfolding settled conjuncts_of
-  parts_settled (And f g) =
-      ap₂ (λ a b. a && b) (parts_settled f) (parts_settled g)
-      ∙ sym (ap (all_settled t j) (children_append (conjuncts_of f) (conjuncts_of g))
-      ∙ list_all-append (λ h. settled t (meaning h) j) (children (conjuncts_of f)) (children (conjuncts_of g)))
+  parts_settled (And f g) = simp (children_append, list_all-append, parts_settled f, parts_settled g)
   parts_settled (Not f) = negated_settled f
   parts_settled (Compare c) = compared_settled c (binds c)
   parts_settled f = sym (and-true (settled t (meaning f) j))
@@ -195,10 +158,7 @@ module _ (t : List ℕ) (j : ℕ) (inside : nat_lt j (length t) ≡ true) where
 -- a conjunction of tests alone is settled wherever the log is
 pub tests_settled : (t : List ℕ) (j : ℕ) (f : CoreForm) → children (conjuncts_of f) ≡ []
     → settled t (meaning f) j ≡ nat_lt j (length t)
-tests_settled t j f none =
-    both_ways (settled t (meaning f) j) (nat_lt j (length t))
-    (λ h. lt-ltb j (length t) (settled_in_log t (meaning f) j h))
-    (λ inside. parts_settled t j inside f ∙ ap (all_settled t j) none)
+tests_settled t j f none = grind (arith, lt-ltb, settled_in_log, parts_settled)
 
 -- how far the children's tables go
 module _ (view : View) (rising : NeverFalls (times view.log)) where
@@ -206,32 +166,23 @@ module _ (view : View) (rising : NeverFalls (times view.log)) where
       → all_settled (times view.log) j fs ≡ true
   children_settled n j [] [] low stand = refl
   children_settled n j (f ∷ fs) (c ∷ cs) low stand =
-      and_from (settled (times view.log) (meaning f) j) (all_settled (times view.log) j fs)
-      (counted_settled (times view.log) (meaning f) j (omega (arith, stand.0.pushed)))
-      (children_settled n j fs cs low stand.1)
-  children_settled n j [] (c ∷ cs) low stand = absurd stand
-  children_settled n j (f ∷ fs) [] low stand = absurd stand
+      grind (arith, and_from, counted_settled, children_settled n j fs cs low stand.1)
+  children_settled n j fs cs low stand = absurd assumption
 
   all_due : (n : ℕ) (fs : List CoreForm) (cs : List ChildOf) → ChildrenStand view n fs cs
-      → all_settled (times view.log) n fs ≡ true
-      → list_all (λ c. nat_lt 0 (length c.tables)) cs ≡ true
+      → all_settled (times view.log) n fs ≡ true → list_all (λ c. nat_lt 0 (length c.tables)) cs ≡ true
   all_due n [] [] stand all = refl
   all_due n (f ∷ fs) (c ∷ cs) stand all =
       let parts = and_parts (settled (times view.log) (meaning f) n) (all_settled (times view.log) n fs) all in
       let low = count_below (times view.log) rising (meaning f) n parts.0 in
-      and_from (nat_lt 0 (length c.tables)) (list_all (λ c. nat_lt 0 (length c.tables)) cs)
-      (lt-ltb 0 (length c.tables) (omega (arith, stand.0.pushed)))
-      (all_due n fs cs stand.1 parts.1)
-  all_due n [] (c ∷ cs) stand all = absurd stand
-  all_due n (f ∷ fs) [] stand all = absurd stand
+      grind (arith, and_from, lt-ltb, all_due n fs cs stand.1 parts.1)
+  all_due n fs cs stand all = absurd assumption
 
   in_log : (n j : ℕ) (fs : List CoreForm) (cs : List ChildOf) → 0 < length fs → j < n → ChildrenStand view n fs cs
       → nat_lt j (length (times view.log)) ≡ true
   in_log n j [] cs some low stand = absurd (omega arith)
   in_log n j (f ∷ fs) [] some low stand = absurd stand
-  in_log n j (f ∷ fs) (c ∷ cs) some low stand =
-      lt-ltb j (length (times view.log))
-      (omega (arith, stand.0.pushed, count_within (times view.log) (meaning f)))
+  in_log n j (f ∷ fs) (c ∷ cs) some low stand = omega (arith, lt-ltb, count_within (times view.log) (meaning f))
 
   join_count : (f : CoreForm) (s : JoinOf) → 0 < length (children (conjuncts_of f))
       → ChildrenStand view s.pulled (children (conjuncts_of f)) s.children
@@ -244,10 +195,7 @@ module _ (view : View) (rising : NeverFalls (times view.log)) where
       (λ h.
       let inside = lt-ltb s.pulled (length (times view.log))
       (settled_in_log (times view.log) (meaning f) s.pulled h) in
-      let clash : true ≡ false =
-      sym (all_due s.pulled (children (conjuncts_of f)) s.children stand
-      (sym (parts_settled (times view.log) s.pulled inside f) ∙ h))
-      ∙ done in
+      let clash : true ≡ false = grind (arith, all_due, parts_settled) in
       cc)
 
 module _ (view : View) (point : TimePoint) (rising : NeverFalls (times (longer view point).log))
@@ -257,17 +205,9 @@ module _ (view : View) (point : TimePoint) (rising : NeverFalls (times (longer v
       → ChildrenStand view i fs cs
       → StackNews view point fs lists → ChildrenStand (longer view point) i fs (children_fed cs lists)
   fed_stand i [] [] [] stand news = tt
-  fed_stand i (f ∷ fs) (c ∷ cs) (tables ∷ lists) stand news = (
-    record {
-      pushed = omega (arith, stand.0.pushed, news.0.count, length-append c.tables tables);
-      exact = exact_more news.0 rising i c.tables stand.0.pushed stand.0.exact;
-    },
-    fed_stand i fs cs lists stand.1 news.1,
-  )
-  fed_stand i [] [] (tables ∷ lists) stand news = absurd news
-  fed_stand i [] (c ∷ cs) lists stand news = absurd stand
-  fed_stand i (f ∷ fs) [] lists stand news = absurd stand
-  fed_stand i (f ∷ fs) (c ∷ cs) [] stand news = absurd news
+  fed_stand i (f ∷ fs) (c ∷ cs) (tables ∷ lists) stand news =
+      grind (arith, length-append, exact_more, fed_stand i fs cs lists stand.1 news.1)
+  fed_stand i fs cs lists stand news = absurd assumption
 
   module _ {f : CoreForm} {old new : JoinOf} {lists : List (List TableOf)} {tables : List TableOf}
       (is : IsConjunction f old) (stands : JoinStands view f old) (news : StackNews view point (operands f) lists)
@@ -280,18 +220,14 @@ module _ (view : View) (point : TimePoint) (rising : NeverFalls (times (longer v
     stand_fed = rw is.whole at (fed_stand old.pulled (operands f) old.children lists stands.children news)
 
     new_stand : ChildrenStand (longer view point) new.pulled (children (conjuncts_of f)) new.children
-    new_stand =
-        rw takes.pulls.state
-        (dropped_stand (longer view point) old.pulled (length tables) (children (conjuncts_of f))
-        (children_fed old.children lists) takes.pulls.room stand_fed)
+    new_stand = grind (arith, dropped_stand, stand_fed)
 
     count : new.pulled ≡ reached (longer view point) f
     count = join_count (longer view point) rising f new is.some new_stand takes.ends
 
     -- what is pulled at each place is what the conjunction means there
     row_means : (dom : List Value) (v : Valuation) → Covers (longer view point) dom
-        → view.near (fv (meaning f)) v ≡ true
-        → (k : ℕ) → k < length tables
+        → view.near (fv (meaning f)) v ≡ true → (k : ℕ) → k < length tables
         → joins (join_pulled k (join_fed old lists)) v ≡ sat (longer view point).log dom v (old.pulled + k) (meaning f)
     row_means dom v covers near k low =
         let room = less_room k (length tables) (children_fed old.children lists) low takes.pulls.room in
@@ -316,17 +252,4 @@ module _ (view : View) (point : TimePoint) (rising : NeverFalls (times (longer v
         (λ k table low high row. row ∙ row_means dom v covers near k (omega arith)) (takes.pulls.rows v)))
 
     pub join_steps : IsConjunction f new × JoinStands (longer view point) f new × News view point f tables
-    join_steps = (
-      rw takes.pulls.state (record {
-        columns = is.columns;
-        tests = is.tests;
-        parts = bare_dropped (length tables) (children_fed old.children lists) ∙ bare_is;
-        some = is.some;
-        whole = is.whole;
-      }),
-      record { pulled = count; children = rw is.whole new_stand },
-      record {
-        count = (let pulled : new.pulled ≡ old.pulled + length tables = rw takes.pulls.state in omega (arith, count));
-        exact = rw stands.pulled at join_exact;
-      },
-    )
+    join_steps = grind (arith, bare_dropped, bare_is, count, new_stand, join_exact)

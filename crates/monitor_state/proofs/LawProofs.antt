@@ -2,18 +2,12 @@
 use Rattle.std.proofs.Common.{List, [], ◌++◌, refl, sym, ap, subst, ◌∙◌, append_assoc, append-nil}
 use Rattle.std.specs.Cmp.{both_ways}
 use Rattle.mfotl_model.proofs.RegionLemmas.{everywhere_passes, slice_has}
-use Rattle.mfotl_model.specs.Exact.{View}
-use Rattle.mfotl_model.specs.FreeVariables.{fv}
-use Rattle.mfotl_model.specs.Regions.{Passes}
-use Rattle.mfotl_model.specs.Satisfaction.{event_of, has_event}
-use Rattle.mfotl_model.specs.Slices.{HasEach, slice}
-use Rattle.mfotl_model.specs.declared.event.Event.{Event}
-use Rattle.mfotl_model.specs.declared.term.Atom.{Atom as OneAtom}
-use Rattle.monitorable.proofs.SoundLaw.{parts_are_sound}
-use Rattle.monitorable.proofs.TableLaw.{tables_satisfy}
-use Rattle.monitorable.specs.Atoms.{atoms_of}
+use Rattle.mfotl_model.specs.{Exact.View, FreeVariables.fv, Regions.Passes, Satisfaction.event_of}
+use Rattle.mfotl_model.specs.{Satisfaction.has_event, Slices.HasEach, Slices.slice}
+use Rattle.mfotl_model.specs.declared.{event.Event.Event, term.Atom.Atom as OneAtom}
+use Rattle.monitorable.proofs.{SoundLaw.parts_are_sound, TableLaw.tables_satisfy}
+use Rattle.monitorable.specs.{Atoms.atoms_of, Laws.whole_view}
 use Rattle.monitorable.specs.CoreForms.{CoreForm, meaning, Atom, Not, And, Or, Exists, Previous, Next, Since, Until}
-use Rattle.monitorable.specs.Laws.{whole_view}
 use Rattle.monitor_state.specs.Laws.{LoneWorkerSteps, SliceIsEnough, TablesAreViolations}
 use Rattle.monitor_state.specs.Steps.{SameNear}
 

@@ -1,29 +1,24 @@
 -- The nodes of a monitor take a time-point one after the other.
-use Rattle.std.proofs.Common.{subst, ◌≡◌, ℕ, Bool, true, false, ◌&&◌, cond, suc, ◌+◌, ◌<◌, ◌≤◌, List, [], ◌∷◌, ◌++◌}
-use Rattle.std.proofs.Common.{length, take, drop, get_or, set, refl, sym, ap, ◌∙◌, inl, inr, arith, append_assoc}
-use Rattle.std.proofs.Common.{append-nil, add-one}
-use Rattle.std.proofs.lemmas.Bool.{and_parts, cases_Bool}
-use Rattle.mfotl_model.specs.FreeVariables.{fv}
-use Rattle.mfotl_model.specs.Tables.{all_among, TableOf}
-use Rattle.std.proofs.Math.Seq.{take-suc-set, drop-cons}
+use Rattle.std.proofs.Common.{subst, ◌≡◌, ℕ, Bool, true, false, ◌&&◌, cond, ◌+◌, ◌<◌, ◌≤◌, List, [], ◌∷◌, ◌++◌, length}
+use Rattle.std.proofs.Common.{take, drop, get_or, set, refl, sym, ap, ◌∙◌, inl, inr, arith, append_assoc, append-nil}
+use Rattle.std.proofs.{lemmas.Bool.and_parts, lemmas.Bool.cases_Bool, Math.Seq.take-suc-set, Math.Seq.drop-cons}
+use Rattle.std.proofs.{lemmas.Grind.common_steps}
+use Rattle.mfotl_model.specs.{FreeVariables.fv, Tables.all_among, Tables.TableOf, Exact.View}
 use Rattle.std.proofs.lemmas.List.{drop-set-lt, drop_all, take_all}
-use Rattle.mfotl_model.specs.Exact.{View}
-use Rattle.mfotl_model.specs.declared.event.TimePoint.{TimePoint}
-use Rattle.mfotl_model.specs.declared.term.Comparison.{Comparison}
+use Rattle.mfotl_model.specs.declared.{event.TimePoint.TimePoint, term.Comparison.Comparison}
 use Rattle.monitorable.specs.CoreForms.{CoreForm, meaning, True, False, Atom, Compare, Not, And, Or, Exists, Previous}
 use Rattle.monitorable.specs.CoreForms.{Next, Since, Until}
 use Rattle.monitorable.specs.Conjuncts.{PartForm, conjuncts_of, negated_part}
-use Rattle.monitorable.specs.Conjuncts.PartForm.{Child as ChildPart, Test as TestPart}
-use Rattle.monitorable.specs.Fragment.{binds, bound_by, is_conjunction, judges_not, under_not}
-use Rattle.monitorable.specs.Soundness.{IsWellFormedIn}
+use Rattle.monitorable.specs.{Conjuncts.PartForm.Child as ChildPart, Conjuncts.PartForm.Test as TestPart}
+use Rattle.monitorable.specs.{Soundness.IsWellFormedIn}
+use Rattle.monitorable.specs.Fragment.{binds, bound_by, is_conjunction, under_not}
 use Rattle.monitorable.specs.declared.role.Role.{Role}
 use Rattle.monitorable.specs.declared.role.Role.TheVariants as role
 use Rattle.monitor_state.proofs.PosedSteps.{news_posed, premises_posed}
-use Rattle.monitor_state.specs.Constants.{stands_alone}
+use Rattle.monitor_state.specs.{Constants.stands_alone, Stands.NodesStand}
 use Rattle.monitor_state.specs.Going.{AllPremises, Going, Works}
 use Rattle.monitor_state.specs.Nodes.{children, filters, left_operand, nodes_in, nodes_of, operands, window_operands}
 use Rattle.monitor_state.specs.Nodes.{posed, without_last}
-use Rattle.monitor_state.specs.Stands.{NodesStand}
 use Rattle.monitor_state.specs.Steps.{TakesPoint, News, Premises, SameNear, StackNews, longer}
 use Rattle.monitor_state.specs.declared.node.Node.{Node}
 
@@ -42,8 +37,7 @@ children_append (TestPart c w ∷ ps) qs = children_append ps qs
 -- one core's node after its operands' ones
 works_one : (goal f : CoreForm) (pending rest : List CoreForm) → operands f ≡ [] → Works goal (pending ++ f ∷ []) rest
     → Works goal pending (f ∷ rest)
-works_one goal f pending rest none works =
-    (pending, sym (append-nil pending) ∙ ap (λ fs. pending ++ fs) (sym none), works)
+works_one goal f pending rest none works = grind (arith, append-nil)
 
 -- the last one is put off
 pub last_off : (fs : List CoreForm) (f : CoreForm) → without_last (fs ++ f ∷ []) ≡ fs
@@ -52,8 +46,7 @@ last_off (g ∷ []) f = refl
 last_off (g ∷ h ∷ fs) f = ap (λ gs. g ∷ gs) (last_off (h ∷ fs) f)
 
 no_window : (own inside : Bool) → (own && (false && inside)) ≡ false
-no_window true inside = refl
-no_window false inside = refl
+no_window own inside = grind arith
 
 module _ (goal : CoreForm) where
   works_nothing : (pending rest : List CoreForm) → Works goal (pending ++ []) rest → Works goal pending ([] ++ rest)
@@ -61,55 +54,28 @@ module _ (goal : CoreForm) where
 
   -- what the roots are of a core that is evaluated whole in each role
   roots_whole : (r : Role) (f : CoreForm) → (roots role.Part f ≡ f ∷ []) → (roots role.Negated f ≡ f ∷ [])
-      → left_operand f ≡ f
-      → roots r f ≡ f ∷ []
-  roots_whole role.Whole f part negated left = refl
-  roots_whole role.Part f part negated left = part
-  roots_whole role.Negated f part negated left = negated
-  roots_whole role.Left f part negated left = ap (λ h. h ∷ []) left
-
-  work_alone : (r : Role) (f : CoreForm) (pending rest : List CoreForm) → operands f ≡ []
-      → (roots role.Part f ≡ f ∷ []) → (roots role.Negated f ≡ f ∷ []) → left_operand f ≡ f
-      → Works goal (pending ++ roots r f) rest → Works goal pending (f ∷ [] ++ rest)
-  work_alone r f pending rest none part negated left works =
-      works_one goal f pending rest none
-      (subst (λ fs. Works goal (pending ++ fs) rest) (roots_whole r f part negated left) works)
+      → left_operand f ≡ f → roots r f ≡ f ∷ []
+  roots_whole r f part negated left = grind arith
 
   -- a comparison: an equation with a constant is a node, but where it is negated
   compare_part : (c : Comparison) (b : Bool) (pending rest : List CoreForm)
       → Works goal (pending ++ children (cond b (ChildPart (Compare c) false) (TestPart c true) ∷ [])) rest
       → Works goal pending (cond b (Compare c ∷ []) [] ++ rest)
-  compare_part c true pending rest works = works_one goal (Compare c) pending rest refl works
-  compare_part c false pending rest works = works_nothing pending rest works
+  compare_part c b pending rest works = grind (arith, works_one, works_nothing)
 
   after_two : (h : CoreForm) (pending rest xs ys : List CoreForm) → operands h ≡ xs ++ ys
-      → Works goal (pending ++ h ∷ []) rest
-      → Works goal ((pending ++ xs) ++ ys) (h ∷ rest)
-  after_two h pending rest xs ys is works =
-      (pending, append_assoc pending xs ys ∙ ap (λ fs. pending ++ fs) (sym is), works)
-
-  -- a core with one operand, or with two, of which the nodes come before
-  work_under : (h : CoreForm) (ns : List CoreForm) (g : CoreForm) (pending rest : List CoreForm) → operands h ≡ g ∷ []
-      → Works goal (pending ++ h ∷ []) rest
-      → (Works goal (pending ++ g ∷ []) (h ∷ rest) → Works goal pending (ns ++ (h ∷ rest)))
-      → Works goal pending ((ns ++ h ∷ []) ++ rest)
-  work_under h ns g pending rest is works before =
-      subst (Works goal pending) (sym (append_assoc ns (h ∷ []) rest))
-      (before (pending, ap (λ fs. pending ++ fs) (sym is), works))
+      → Works goal (pending ++ h ∷ []) rest → Works goal ((pending ++ xs) ++ ys) (h ∷ rest)
+  after_two h pending rest xs ys is works = grind (arith, append_assoc)
 
   work_both : (h : CoreForm) (ns ms xs ys : List CoreForm) (pending rest : List CoreForm) → operands h ≡ xs ++ ys
       → Works goal (pending ++ h ∷ []) rest
       → (Works goal (pending ++ xs) (ms ++ (h ∷ rest)) → Works goal pending (ns ++ (ms ++ (h ∷ rest))))
       → (Works goal ((pending ++ xs) ++ ys) (h ∷ rest) → Works goal (pending ++ xs) (ms ++ (h ∷ rest)))
       → Works goal pending ((ns ++ ms ++ h ∷ []) ++ rest)
-  work_both h ns ms xs ys pending rest is works first second =
-      subst (Works goal pending)
-      (sym (append_assoc ns ms (h ∷ rest)) ∙ sym (append_assoc (ns ++ ms) (h ∷ []) rest))
-      (first (second (after_two h pending rest xs ys is works)))
+  work_both h ns ms xs ys pending rest is works first second = search (append_assoc, after_two)
 
   -- a conjunction whose conjuncts are all its node's operands
-  and_work : (r : Role) (f g : CoreForm) (pending rest : List CoreForm)
-      → Works goal (pending ++ roots r (And f g)) rest
+  and_work : (r : Role) (f g : CoreForm) (pending rest : List CoreForm) → Works goal (pending ++ roots r (And f g)) rest
       → ((more : List CoreForm) → Works goal (pending ++ children (conjuncts_of f)) more
       → Works goal pending (nodes_in role.Part f ++ more))
       → ((more : List CoreForm) → Works goal ((pending ++ children (conjuncts_of f)) ++ children (conjuncts_of g)) more
@@ -118,53 +84,25 @@ module _ (goal : CoreForm) where
       → Works goal pending ((nodes_in role.Part f ++ nodes_in role.Part g ++ cond (is_conjunction r) (And f g ∷ []) [])
       ++ rest)
   unfolding conjuncts_of
-  and_work r f g pending rest works first second joins =
-      subst (Works goal pending)
-      (sym (append_assoc (nodes_in role.Part f) (nodes_in role.Part g) (own ++ rest))
-      ∙ sym (append_assoc (nodes_in role.Part f ++ nodes_in role.Part g) own rest))
-      (first (nodes_in role.Part g ++ (own ++ rest)) (second (own ++ rest) (last r joins works)))
-    where
-      own : List CoreForm
-      own = cond (is_conjunction r) (And f g ∷ []) []
-
-      split : children (conjuncts_of (And f g)) ≡ children (conjuncts_of f) ++ children (conjuncts_of g)
-      split = children_append (conjuncts_of f) (conjuncts_of g)
-
-      whole : filters f g ≡ false → Works goal (pending ++ And f g ∷ []) rest
-          → Works goal ((pending ++ children (conjuncts_of f)) ++ children (conjuncts_of g)) (And f g ∷ rest)
-      whole none w =
-          after_two (And f g) pending rest (children (conjuncts_of f)) (children (conjuncts_of g))
-          (ap (λ b. cond b (f ∷ window_operands (left_operand g)) (children (conjuncts_of (And f g)))) none ∙ split) w
-
-      last : (r : Role) → (is_conjunction r && filters f g) ≡ false → Works goal (pending ++ roots r (And f g)) rest
-          → Works goal ((pending ++ children (conjuncts_of f)) ++ children (conjuncts_of g))
-          (cond (is_conjunction r) (And f g ∷ []) [] ++ rest)
-      last role.Whole none w = whole none w
-      last role.Negated none w = whole none w
-      last role.Left none w = whole none w
-      last role.Part none w =
-          rw (split, ← append_assoc pending (children (conjuncts_of f)) (children (conjuncts_of g))) at w
+  and_work r f g pending rest works first second joins = grind (arith, append_assoc, children_append, after_two)
 
   joined_work : (r : Role) (f g : CoreForm) (pending rest : List CoreForm) → (is_conjunction r && filters f g) ≡ false
       → ((is_conjunction r && filters f g) ≡ false
       → Works goal pending ((nodes_in role.Part f ++ nodes_in role.Part g ++ cond (is_conjunction r) (And f g ∷ []) [])
-      ++ rest))
-      → Works goal pending (nodes_in r (And f g) ++ rest)
+      ++ rest)) → Works goal pending (nodes_in r (And f g) ++ rest)
   unfolding nodes_in
   joined_work r f g pending rest none works = rw none (works none)
 
   -- a conjunction whose right side is a window or the NOT of one: either it only filters, or it doesn't
   window_work : (r : Role) (f g w : CoreForm) (ns ms : List CoreForm) (a b : CoreForm) (pending rest : List CoreForm)
       → nodes_in role.Part g ≡ ns ++ ms ++ w ∷ [] → window_operands (left_operand g) ≡ a ∷ b ∷ []
-      → Works goal (pending ++ roots r (And f g)) rest
-      → ((more : List CoreForm) → Works goal (pending ++ f ∷ []) more
+      → Works goal (pending ++ roots r (And f g)) rest → ((more : List CoreForm) → Works goal (pending ++ f ∷ []) more
       → Works goal pending (nodes_in role.Whole f ++ more))
       → ((below more : List CoreForm) → Works goal (below ++ a ∷ []) more → Works goal below (ns ++ more))
       → ((below more : List CoreForm) → Works goal (below ++ b ∷ []) more → Works goal below (ms ++ more))
       → ((is_conjunction r && filters f g) ≡ false
       → Works goal pending ((nodes_in role.Part f ++ nodes_in role.Part g ++ cond (is_conjunction r) (And f g ∷ []) [])
-      ++ rest))
-      → Works goal pending (nodes_in r (And f g) ++ rest)
+      ++ rest)) → Works goal pending (nodes_in r (And f g) ++ rest)
   unfolding nodes_in
   window_work r f g w ns ms a b pending rest nodes ops works first left right joins =
       elim (cases_Bool (is_conjunction r && filters f g)) [
@@ -204,17 +142,11 @@ module _ (goal : CoreForm) where
   nodes_work role.Negated (Compare c) pending rest works = works_nothing pending rest works
   nodes_work role.Part (Compare c) pending rest works = compare_part c (binds c) pending rest works
   nodes_work r (Exists x f) pending rest works =
-      work_under (Exists x f) (nodes_in role.Whole f) f pending rest refl
-      (subst (λ fs. Works goal (pending ++ fs) rest) (roots_whole r (Exists x f) refl refl refl) works)
-      (nodes_work role.Whole f pending (Exists x f ∷ rest))
+      grind (arith, common_steps, append_assoc, roots_whole, nodes_work role.Whole f pending (Exists x f ∷ rest))
   nodes_work r (Previous i f) pending rest works =
-      work_under (Previous i f) (nodes_in role.Whole f) f pending rest refl
-      (subst (λ fs. Works goal (pending ++ fs) rest) (roots_whole r (Previous i f) refl refl refl) works)
-      (nodes_work role.Whole f pending (Previous i f ∷ rest))
+      grind (arith, common_steps, append_assoc, roots_whole, nodes_work role.Whole f pending (Previous i f ∷ rest))
   nodes_work r (Next i f) pending rest works =
-      work_under (Next i f) (nodes_in role.Whole f) f pending rest refl
-      (subst (λ fs. Works goal (pending ++ fs) rest) (roots_whole r (Next i f) refl refl refl) works)
-      (nodes_work role.Whole f pending (Next i f ∷ rest))
+      grind (arith, common_steps, append_assoc, roots_whole, nodes_work role.Whole f pending (Next i f ∷ rest))
   nodes_work r (Or f g) pending rest works =
       work_both (Or f g) (nodes_in role.Whole f) (nodes_in role.Whole g) (f ∷ []) (g ∷ []) pending rest refl
       (subst (λ fs. Works goal (pending ++ fs) rest) (roots_whole r (Or f g) refl refl refl) works)
@@ -266,35 +198,27 @@ module _ (goal : CoreForm) where
       (and_work r f g pending rest works (nodes_work role.Part f pending)
       (nodes_work role.Part g (pending ++ children (conjuncts_of f))))
   nodes_work role.Whole (Not f) pending rest works =
-      subst (Works goal pending) (sym (append_assoc (nodes_in role.Negated f) (Not f ∷ []) rest))
-      (nodes_work role.Negated f pending (Not f ∷ rest) (pending, refl, works))
+      search (append_assoc, nodes_work role.Negated f pending (Not f ∷ rest) (pending, refl, works))
   nodes_work role.Negated (Not f) pending rest works =
-      subst (Works goal pending) (sym (append_assoc (nodes_in role.Negated f) (Not f ∷ []) rest))
-      (nodes_work role.Negated f pending (Not f ∷ rest) (pending, refl, works))
-  nodes_work role.Part (Not f) pending rest works =
-      subst (λ fs. Works goal pending (fs ++ rest)) (sym (append-nil (nodes_in role.Negated f)))
-      (nodes_work role.Negated f pending rest works)
-  nodes_work role.Left (Not f) pending rest works =
-      subst (λ fs. Works goal pending (fs ++ rest)) (sym (append-nil (nodes_in role.Whole f)))
-      (nodes_work role.Whole f pending rest works)
+      search (append_assoc, nodes_work role.Negated f pending (Not f ∷ rest) (pending, refl, works))
+  nodes_work role.Part (Not f) pending rest works = search (append-nil, nodes_work role.Negated f pending rest works)
+  nodes_work role.Left (Not f) pending rest works = search (append-nil, nodes_work role.Whole f pending rest works)
   nodes_work role.Whole True pending rest works = works_one goal True pending rest refl works
   nodes_work role.Part True pending rest works = works_one goal True pending rest refl works
   nodes_work role.Negated True pending rest works = works_one goal True pending rest refl works
   nodes_work role.Left True pending rest works = works_one goal False pending rest refl works
-  nodes_work r False pending rest works = work_alone r False pending rest refl refl refl refl works
-  nodes_work r (Atom a) pending rest works = work_alone r (Atom a) pending rest refl refl refl refl works
+  nodes_work r False pending rest works = grind (arith, works_one, roots_whole)
+  nodes_work r (Atom a) pending rest works = grind (arith, works_one, roots_whole)
 
 module _ (view : View) (point given : TimePoint) (whole : CoreForm) where
   premises_append : (fs gs : List CoreForm) → AllPremises view point given whole fs
-      → AllPremises view point given whole gs
-      → AllPremises view point given whole (fs ++ gs)
+      → AllPremises view point given whole gs → AllPremises view point given whole (fs ++ gs)
   premises_append [] gs first second = second
   premises_append (f ∷ fs) gs first second = (first.0, premises_append fs gs first.1 second)
 
   premises_if : (b : Bool) (f : CoreForm) → Premises view point given whole f
       → AllPremises view point given whole (cond b (f ∷ []) [])
-  premises_if true f p = (p, tt)
-  premises_if false f p = tt
+  premises_if b f p = grind arith
 
   premises_two : (ns ms : List CoreForm) (h : CoreForm) → AllPremises view point given whole ns
       → AllPremises view point given whole ms
@@ -302,10 +226,8 @@ module _ (view : View) (point given : TimePoint) (whole : CoreForm) where
   premises_two ns ms h first second own = premises_append (ns ++ ms) (h ∷ []) (premises_append ns ms first second) own
 
   premises_either : (b : Bool) (fs gs : List CoreForm) → AllPremises view point given whole fs
-      → AllPremises view point given whole gs
-      → AllPremises view point given whole (cond b fs gs)
-  premises_either true fs gs first second = first
-  premises_either false fs gs first second = second
+      → AllPremises view point given whole gs → AllPremises view point given whole (cond b fs gs)
+  premises_either b fs gs first second = grind arith
 
   premises_fewer : (fs : List CoreForm) → AllPremises view point given whole fs
       → AllPremises view point given whole (without_last fs)
@@ -316,29 +238,15 @@ module _ (view : View) (point given : TimePoint) (whole : CoreForm) where
   -- what the step takes for granted of a core it does of a part of it
   premises_of : {f g : CoreForm} → Premises view point given whole f → IsWellFormedIn whole g
       → SameNear view g given.db point.db → Premises view point given whole g
-  premises_of p sound same =
-      record {
-        rising = p.rising;
-        passes = p.passes;
-        whole_is = p.whole_is;
-        sound = sound;
-        ts = p.ts;
-        same = same;
-      }
+  premises_of p sound same = assumption
 
   -- and so of each part
   pub premises_all : (r : Role) (f : CoreForm) → Premises view point given whole f
       → AllPremises view point given whole (nodes_in r f)
   unfolding nodes_in
-  premises_all r (Exists x f) p =
-      premises_append (nodes_in role.Whole f) (Exists x f ∷ [])
-      (premises_all role.Whole f (premises_of p p.sound.4 p.same)) (p, tt)
-  premises_all r (Previous i f) p =
-      premises_append (nodes_in role.Whole f) (Previous i f ∷ [])
-      (premises_all role.Whole f (premises_of p p.sound p.same)) (p, tt)
-  premises_all r (Next i f) p =
-      premises_append (nodes_in role.Whole f) (Next i f ∷ [])
-      (premises_all role.Whole f (premises_of p p.sound p.same)) (p, tt)
+  premises_all r (Exists x f) p = search (premises_append, premises_all role.Whole f (premises_of p p.sound.4 p.same))
+  premises_all r (Previous i f) p = search (premises_append, premises_all role.Whole f (premises_of p p.sound p.same))
+  premises_all r (Next i f) p = search (premises_append, premises_all role.Whole f (premises_of p p.sound p.same))
   premises_all r (And f g) p =
       let left = premises_of {g = f} p p.sound.0 p.same.0 in
       let right = premises_of {g = g} p p.sound.1 p.same.1 in
@@ -356,8 +264,7 @@ module _ (view : View) (point given : TimePoint) (whole : CoreForm) where
       (premises_all role.Whole f (premises_of p p.sound.2 p.same.0))
       (premises_all role.Whole g (premises_of p p.sound.3 p.same.1)) (p, tt)
   premises_all r (Not f) p =
-      premises_append (nodes_in (under_not r) f) (cond (judges_not r) (Not f ∷ []) [])
-      (premises_all (under_not r) f (premises_of p p.sound p.same)) (premises_if (judges_not r) (Not f) p)
+      search (premises_append, premises_if, premises_all (under_not r) f (premises_of p p.sound p.same))
   premises_all r (Since i f g) p =
       premises_two (nodes_in role.Left f) (nodes_in role.Whole g) (Since i f g)
       (premises_all role.Left f (premises_of p p.sound.1 p.same.0))
@@ -371,16 +278,13 @@ module _ (view : View) (point given : TimePoint) (whole : CoreForm) where
   premises_all r f p = (p, tt)
 
 pub nodes_append : (view : View) (fs gs : List CoreForm) (ns ms : List Node) → NodesStand view fs ns
-    → NodesStand view gs ms
-    → NodesStand view (fs ++ gs) (ns ++ ms)
+    → NodesStand view gs ms → NodesStand view (fs ++ gs) (ns ++ ms)
 nodes_append view [] gs [] ms first second = second
-nodes_append view (f ∷ fs) gs (n ∷ ns) ms first second =
-    (first.0, first.1, nodes_append view fs gs ns ms first.2 second)
+nodes_append view (f ∷ fs) gs (n ∷ ns) ms first second = search (nodes_append view fs gs ns ms first.2 second)
 nodes_append view fs gs ns ms first second = absurd assumption
 
 stack_append : (view : View) (point : TimePoint) (fs : List CoreForm) (f : CoreForm) (stack : List (List TableOf))
-    (tables : List TableOf)
-    → StackNews view point fs stack → News view point f tables
+    (tables : List TableOf) → StackNews view point fs stack → News view point f tables
     → StackNews view point (fs ++ f ∷ []) (stack ++ tables ∷ [])
 stack_append view point [] f [] tables first one = (one, tt)
 stack_append view point (g ∷ fs) f (ts ∷ stack) tables first one =
@@ -389,15 +293,12 @@ stack_append view point fs f stack tables first one = absurd assumption
 
 top_only : (view : View) (point : TimePoint) (f : CoreForm) (rest : List (List TableOf)) (top : List TableOf)
     → StackNews view point (f ∷ []) (rest ++ top ∷ []) → News view point f top
-top_only view point f [] top news = news.0
-top_only view point f (tables ∷ []) top news = absurd news.1
-top_only view point f (tables ∷ next ∷ more) top news = absurd news.1
+top_only view point f rest top news = grind (arith, common_steps)
 
 module _ (view : View) (point given : TimePoint) (whole : CoreForm) where
   -- the step begins
   pub going_begins : (nodes : List Node) → Premises view point given whole whole
-      → NodesStand view (nodes_of whole) nodes
-      → Going view point given whole [] nodes []
+      → NodesStand view (nodes_of whole) nodes → Going view point given whole [] nodes []
   going_begins nodes premises stand =
       record {
         old = [];
@@ -407,9 +308,7 @@ module _ (view : View) (point given : TimePoint) (whole : CoreForm) where
         took = tt;
         take = stand;
         works = rw (append-nil (nodes_of whole)) at (nodes_work (posed whole) role.Whole (posed whole) [] [] refl);
-        premises =
-            premises_all view point given whole role.Whole (posed whole)
-            (premises_posed view point given whole premises);
+        premises = search (premises_all, premises_posed);
         news = tt;
       }
 
@@ -443,15 +342,7 @@ module _ (view : View) (point given : TimePoint) (whole : CoreForm) where
       → TakesPoint (get_or nodes n default) given stack new rest tables → items ≡ rest ++ tables ∷ []
       → Going view point given whole (take (n + 1) (set nodes n new)) (drop (n + 1) (set nodes n new) ++ behind) items
   going_turns nodes behind n stack rest items tables default new inside going advances pushed =
-      let cons : drop n nodes ≡ get_or nodes n default ∷ drop (suc n) nodes = drop-cons nodes n default inside in
-      let front : take n nodes ++ new ∷ [] ≡ take (n + 1) (set nodes n new) =
-      sym (take-suc-set nodes n new inside) ∙ ap (λ k. take k (set nodes n new)) (sym (add-one n)) in
-      let back : drop (suc n) nodes ≡ drop (n + 1) (set nodes n new) =
-      ap (λ k. drop k nodes) (sym (add-one n)) ∙ sym (drop-set-lt (n + 1) nodes n new (omega arith)) in
-      rw (← front, ← back)
-      (turn (take n nodes) (drop (suc n) nodes ++ behind) stack rest items tables (get_or nodes n default) new going.old
-      going.next going.pending going.all going.took (rw cons at going.take) going.works going.premises going.news
-      advances pushed)
+      grind (arith, drop-cons nodes n default inside, take-suc-set nodes n new inside, drop-set-lt, turn)
 
   -- all nodes of a list took the time-point, and those behind are still to
   pub going_behind : (nodes behind : List Node) (n : ℕ) (stack : List (List TableOf)) → length nodes ≤ n
@@ -464,10 +355,7 @@ module _ (view : View) (point given : TimePoint) (whole : CoreForm) where
       → Works (posed whole) pending next → StackNews view point pending (rest ++ top ∷ [])
       → NodesStand (longer view point) (nodes_of whole) done × News view point whole top
   ended done rest top old (f ∷ next) pending all took take works news = absurd take
-  ended done rest top old [] pending all took take works news = (
-    subst (λ fs. NodesStand (longer view point) fs done) (sym (all ∙ append-nil old)) took,
-    news_posed view point whole top (top_only view point (posed whole) rest top (rw works at news)),
-  )
+  ended done rest top old [] pending all took take works news = grind (arith, append-nil, news_posed, top_only)
 
   -- the last node takes the time-point, and the step ends
   pub going_ends : (before : List Node) (last new : Node) (stack rest : List (List TableOf)) (top : List TableOf)
@@ -476,8 +364,7 @@ module _ (view : View) (point given : TimePoint) (whole : CoreForm) where
   going_ends before last new stack rest top going advances =
       let turned = turn before [] stack rest (rest ++ top ∷ []) top last new going.old going.next going.pending
       going.all going.took going.take going.works going.premises going.news advances refl in
-      ended (before ++ new ∷ []) rest top turned.old turned.next turned.pending turned.all turned.took turned.take
-      turned.works turned.news
+      grind (arith, ended)
 
   idle : (next pending : List CoreForm) → NodesStand view next [] → Works (posed whole) pending next
       → StackNews view point pending [] → ⊥

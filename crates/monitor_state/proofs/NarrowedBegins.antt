@@ -1,30 +1,23 @@
 -- What the fragment gives a core it gives the one whose denied EXISTS is asked for fewer rows.
-use Rattle.std.proofs.Common.{◌≡◌, ℕ, Bool, cond, true, false, not, None, ◌||◌, nat_eq, List, [], ◌∷◌, ◌++◌, refl, sym}
-use Rattle.std.proofs.Common.{ap, ◌∙◌, inl, inr}
-use Rattle.std.proofs.lemmas.Bool.{and_from, and_parts, eqb-true, or_cases, or_left, or_right}
+use Rattle.std.proofs.Common.{◌≡◌, ℕ, true, false, not, None, ◌||◌, nat_eq, List, [], ◌++◌, refl, sym, ap, ◌∙◌, inl}
+use Rattle.std.proofs.Common.{inr, arith}
+use Rattle.std.proofs.lemmas.Bool.{and_from, and_parts, or_cases, or_left, or_right}
 use Rattle.std.proofs.lemmas.List.Folds.{list_any-append}
 use Rattle.std.specs.Ordering.{eq_by_cmp}
 use Rattle.mfotl_model.proofs.LogicLemmas.{among_without}
-use Rattle.mfotl_model.specs.ActiveDomain.{constants}
-use Rattle.mfotl_model.specs.Domains.{Includes, in_domain}
-use Rattle.mfotl_model.specs.Exact.{View}
+use Rattle.mfotl_model.specs.{ActiveDomain.constants, Domains.Includes, Domains.in_domain, Exact.View, Values.value_cmp}
 use Rattle.mfotl_model.specs.FreeVariables.{among, fv, without}
-use Rattle.mfotl_model.specs.Values.{value_cmp}
-use Rattle.mfotl_model.specs.declared.event.Event.{Event}
-use Rattle.mfotl_model.specs.declared.formula.Bound.{Bound}
-use Rattle.mfotl_model.specs.declared.value.Value.{Value}
+use Rattle.mfotl_model.specs.declared.{event.Event.Event, formula.Bound.Bound, value.Value.Value}
 use Rattle.monitorable.proofs.FragmentLemmas.{no_first, no_variable, none_first, none_outside, used_variable}
 use Rattle.monitorable.specs.CoreForms.{CoreForm, meaning, Atom, And, Exists, Not, Since, Until}
-use Rattle.monitorable.specs.Fragment.{Names, at_variable, bound_by, fault_in, first, first_outside, guards, needed_by}
-use Rattle.monitorable.specs.Fragment.{named_variable, uses, with_name}
+use Rattle.monitorable.specs.Fragment.{Names, bound_by, fault_in, first, first_outside, guards, needed_by}
+use Rattle.monitorable.specs.Fragment.{named_variable}
 use Rattle.monitorable.specs.Soundness.{IsWellFormedIn}
-use Rattle.monitorable.specs.declared.fault.FragmentFault.TheVariants.{UnusedBound, Unguarded}
+use Rattle.monitorable.specs.declared.fault.FragmentFault.TheVariants.{Unguarded}
 use Rattle.monitorable.specs.declared.role.Role.TheVariants as role
-use Rattle.monitor_state.proofs.NarrowedLemmas.{among_led}
-use Rattle.monitor_state.proofs.WholeLemmas.{guarded, inside_all}
-use Rattle.monitor_state.specs.Beginnings.{Accepted}
+use Rattle.monitor_state.proofs.{NarrowedLemmas.among_led, WholeLemmas.guarded}
+use Rattle.monitor_state.specs.{Beginnings.Accepted, Steps.SameNear}
 use Rattle.monitor_state.specs.Nodes.{first_conjunct, is_atom, is_window, leads, led, narrowed}
-use Rattle.monitor_state.specs.Steps.{SameNear}
 
 -- ---- a conjunction with one more conjunct before the others
 
@@ -51,8 +44,7 @@ needed_led a g is = absurd (let clash : false ≡ true = is in cc)
 
 atom_part : (names : Names) (a : CoreForm) → is_atom a ≡ true → fault_in names role.Part a ≡ None
 unfolding fault_in
-atom_part names (Atom a) is = refl
-atom_part names a is = absurd (let clash : false ≡ true = is in cc)
+atom_part names a is = grind arith
 
 led_part : (names : Names) (a g : CoreForm) → is_atom a ≡ true → fault_in names role.Part g ≡ None
     → fault_in names role.Part (led a g) ≡ None
@@ -64,13 +56,7 @@ led_part names a g is e = none_first _ _ (atom_part names a is) (none_first _ _ 
 
 led_guarded : (names : Names) (a g : CoreForm) → is_atom a ≡ true → guards names g ≡ None
     → guards names (led a g) ≡ None
-led_guarded names a g is guard =
-    guarded (led a g) names
-    (λ y m.
-    bound_led a g y
-    (none_outside (bound_by g) (needed_by g) y
-    (no_variable (λ z. Unguarded (named_variable names z)) (first_outside (bound_by g) (needed_by g)) guard)
-    (ap (among y) (sym (needed_led a g is)) ∙ m)))
+led_guarded names a g is guard = search (guarded, bound_led, none_outside, no_variable, needed_led)
 
 -- a window alone needs nothing
 led_whole : (names : Names) (a g : CoreForm) → is_atom a ≡ true → is_window (first_conjunct g) ≡ true
@@ -80,24 +66,9 @@ led_whole names a (And g h) is asks e =
     let left = no_first _ _ e in
     let right = no_first _ _ left.1 in
     none_first _ _ (led_part names a g is left.0) (none_first _ _ right.0 (led_guarded names a (And g h) is right.1))
-led_whole names a (Since i f g) is asks e =
-    none_first _ _ (atom_part names a is) (none_first _ _ e (led_guarded names a (Since i f g) is refl))
-led_whole names a (Until i f g) is asks e =
-    none_first _ _ (atom_part names a is) (none_first _ _ e (led_guarded names a (Until i f g) is refl))
+led_whole names a (Since i f g) is asks e = grind arith
+led_whole names a (Until i f g) is asks e = grind arith
 led_whole names a g is asks e = absurd (let clash : false ≡ true = asks in cc)
-
-led_uses : (a : CoreForm) (x : Bound) (g : CoreForm) → among x.number (fv (meaning g)) ≡ true
-    → uses x (led a g) ≡ None
-led_uses a x g m =
-    ap (at_variable (λ y. UnusedBound (record { number = y; name = x.name })))
-    (inside_all (fv (meaning (led a g))) (x.number ∷ [])
-    (λ y here.
-    among_led a g y
-    ∙ or_right _ _
-    (elim (or_cases (nat_eq y x.number) false here) [
-      | inl same ↦ ap (λ z. among z (fv (meaning g))) (eqb-true y x.number same) ∙ m
-      | inr none ↦ absurd (let clash : false ≡ true = none in cc)
-    ])))
 
 pub within_both : (b : Value) (xs ys : List Value) → in_domain (xs ++ ys) b ≡ (in_domain xs b || in_domain ys b)
 within_both b xs ys = list_any-append (eq_by_cmp value_cmp b) xs ys
@@ -120,19 +91,12 @@ constants_led a g b m = sym (within_both b (constants (meaning a)) (constants (m
 
 first_constants : (f : CoreForm) → Includes (constants (meaning f)) (constants (meaning (first_conjunct f)))
 unfolding constants
-first_constants (And f g) b m =
-    within_both b (constants (meaning f)) (constants (meaning g)) ∙ or_left _ _ (first_constants f b m)
+first_constants (And f g) b m = simp (within_both, or_left, first_constants f b m)
 first_constants f b m = m
 
 led_constants : (f g : CoreForm)
     → Includes (constants (meaning f) ++ constants (meaning g)) (constants (meaning (led (first_conjunct f) g)))
-led_constants f g b m =
-    within_both b (constants (meaning f)) (constants (meaning g))
-    ∙ elim (or_cases (in_domain (constants (meaning (first_conjunct f))) b) (in_domain (constants (meaning g)) b)
-    (constants_led (first_conjunct f) g b m)) [
-      | inl one ↦ or_left _ _ (first_constants f b one)
-      | inr two ↦ or_right _ _ two
-    ]
+led_constants f g b m = grind (arith, within_both, or_cases, constants_led, or_left, first_constants, or_right)
 
 led_sound : (whole a g : CoreForm) → IsWellFormedIn whole a → IsWellFormedIn whole g → IsWellFormedIn whole (led a g)
 led_sound whole a (And g h) first second = (led_sound whole a g first second.0, second.1)
@@ -154,9 +118,7 @@ first_same view f given db same = same
 
 leads_parts : (a : CoreForm) (x : ℕ) (g : CoreForm) → leads a x g ≡ true
     → (is_atom a ≡ true) × (is_window (first_conjunct g) ≡ true)
-leads_parts a x g on =
-    let one = and_parts _ _ on in
-    (one.0, (and_parts _ _ (and_parts _ _ one.1).1).0)
+leads_parts a x g on = grind arith
 
 -- ---- the core
 
@@ -164,19 +126,11 @@ leads_parts a x g on =
 by_leads : (P : CoreForm → Type 0) (f : CoreForm) (x : Bound) (g : CoreForm)
     → (leads (first_conjunct f) x.number g ≡ true → P (And f (Not (Exists x (led (first_conjunct f) g)))))
     → P (And f (Not (Exists x g))) → P (narrowed (And f (Not (Exists x g))))
-by_leads P f x g asked plain = by (leads (first_conjunct f) x.number g) refl
-  where
-    by : (b : Bool) → leads (first_conjunct f) x.number g ≡ b
-        → P (And f (Not (Exists x (cond b (led (first_conjunct f) g) g))))
-    by true on = asked on
-    by false off = plain
+by_leads P f x g asked plain = grind arith
 
 pub same_narrowed : (view : View) (f : CoreForm) (given db : List Event) → SameNear view f given db
     → SameNear view (narrowed f) given db
-same_narrowed view (And f (Not (Exists x g))) given db same =
-    by_leads (λ k. SameNear view k given db) f x g
-    (λ on. (same.0, led_same view (first_conjunct f) g given db (first_same view f given db same.0) same.1)) same
-same_narrowed view f given db same = same
+same_narrowed view f given db same = grind (arith, by_leads, led_same, first_same)
 
 pub sound_narrowed : (f : CoreForm) → IsWellFormedIn f f → IsWellFormedIn f (narrowed f)
 unfolding constants fault_in
@@ -199,8 +153,7 @@ sound_narrowed f sound = sound
 first_bound : (f : CoreForm) (y : ℕ) → is_atom (first_conjunct f) ≡ true
     → among y (fv (meaning (first_conjunct f))) ≡ true → among y (bound_by f) ≡ true
 unfolding bound_by
-first_bound (And f g) y is m =
-    among_both y (bound_by f) (bound_by g) ∙ or_left _ _ (first_bound f y is m)
+first_bound (And f g) y is m = simp (among_both, or_left, first_bound f y is m)
 first_bound (Atom a) y is m = m
 first_bound f y is m = absurd (let clash : false ≡ true = is in cc)
 
@@ -240,19 +193,7 @@ asked_accepted : (f : CoreForm) (x : Bound) (g : CoreForm) → leads (first_conj
     → Accepted role.Whole (And f (Not (Exists x (led (first_conjunct f) g))))
 unfolding bound_by fault_in needed_by fv
 asked_accepted f x g on a =
-    let asks = leads_parts (first_conjunct f) x.number g on in
-    let inner = with_name a.0 x in
-    let left = no_first _ _ a.1 in
-    let rest = no_first _ _ left.1 in
-    let parts = no_first _ _ (no_first _ _ rest.0).0 in (
-      a.0,
-      none_first _ _ left.0
-          (none_first _ _
-          (none_first _ _
-          (none_first _ _ (led_whole inner (first_conjunct f) g asks.0 asks.1 parts.0)
-          (led_uses (first_conjunct f) x g (used_variable x g parts.1))) refl)
-          (asked_guarded a.0 f x g asks.0 rest.1)),
-    )
+    grind (arith, leads_parts, no_first, none_first, led_whole, among_led, or_right, used_variable, asked_guarded)
 
 pub narrowed_accepted : (f : CoreForm) → Accepted role.Whole f → Accepted role.Whole (narrowed f)
 narrowed_accepted (And f (Not (Exists x g))) a =

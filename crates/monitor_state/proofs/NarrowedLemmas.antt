@@ -1,7 +1,7 @@
 -- A core whose denied EXISTS is asked for fewer rows means what the core means.
 use Rattle.std.proofs.Common.{◌≡◌, ℕ, Bool, true, false, not, ◌&&◌, ◌||◌, cond, nat_eq, List, [], ◌∷◌, ◌++◌, filter}
-use Rattle.std.proofs.Common.{refl, sym, ap, ap₂, ◌∙◌, inl, inr}
-use Rattle.std.proofs.lemmas.Bool.{and_parts, cases_Bool, cond-false, eqb-true, not-true, or_left, or_right}
+use Rattle.std.proofs.Common.{refl, sym, ap, ap₂, ◌∙◌, inl, inr, arith}
+use Rattle.std.proofs.lemmas.Bool.{and_parts, cases_Bool, not-true, or_left, or_right}
 use Rattle.std.proofs.lemmas.List.Elements.{filter-append}
 use Rattle.std.proofs.Math.Bool.{or_assoc, and-false, and_assoc}
 use Rattle.std.specs.List.{list_any}
@@ -10,9 +10,7 @@ use Rattle.mfotl_model.proofs.VariableLemmas.{filter-filter}
 use Rattle.mfotl_model.specs.FreeVariables.{among, fv, without}
 use Rattle.mfotl_model.specs.Satisfaction.{Valuation, sat, with_value}
 use Rattle.mfotl_model.specs.Settled.{settled}
-use Rattle.mfotl_model.specs.declared.event.TimePoint.{TimePoint}
-use Rattle.mfotl_model.specs.declared.formula.Bound.{Bound}
-use Rattle.mfotl_model.specs.declared.value.Value.{Value}
+use Rattle.mfotl_model.specs.declared.{event.TimePoint.TimePoint, formula.Bound.Bound, value.Value.Value}
 use Rattle.monitorable.proofs.Coincidence.{coincidence}
 use Rattle.monitorable.specs.CoreForms.{CoreForm, meaning, And, Exists, Not}
 use Rattle.monitor_state.specs.Nodes.{first_conjunct, leads, led, narrowed}
@@ -22,27 +20,19 @@ use Rattle.monitor_state.specs.Nodes.{first_conjunct, leads, led, narrowed}
 pub among_led : (a g : CoreForm) (y : ℕ) → among y (fv (meaning (led a g)))
     ≡ (among y (fv (meaning a)) || among y (fv (meaning g)))
 unfolding fv
-among_led a (And g h) y =
-    among_joined y (fv (meaning (led a g))) (fv (meaning h))
-    ∙ ap (λ b. b || among y (fv (meaning h))) (among_led a g y)
-    ∙ or_assoc (among y (fv (meaning a))) (among y (fv (meaning g))) (among y (fv (meaning h)))
-    ∙ ap (λ b. among y (fv (meaning a)) || b) (sym (among_joined y (fv (meaning g)) (fv (meaning h))))
+among_led a (And g h) y = simp (among_joined, or_assoc, among_led a g y)
 among_led a g y = among_joined y (fv (meaning a)) (fv (meaning g))
 
 pub sat_led : (log : List TimePoint) (dom : List Value) (v : Valuation) (i : ℕ) (a g : CoreForm)
     → sat log dom v i (meaning (led a g)) ≡ (sat log dom v i (meaning a) && sat log dom v i (meaning g))
 unfolding sat
-sat_led log dom v i a (And g h) =
-    ap (λ b. b && sat log dom v i (meaning h)) (sat_led log dom v i a g)
-    ∙ and_assoc (sat log dom v i (meaning a)) (sat log dom v i (meaning g)) (sat log dom v i (meaning h))
+sat_led log dom v i a (And g h) = simp (and_assoc, sat_led log dom v i a g)
 sat_led log dom v i a g = refl
 
 pub settled_led : (t : List ℕ) (i : ℕ) (a g : CoreForm)
     → settled t (meaning (led a g)) i ≡ (settled t (meaning a) i && settled t (meaning g) i)
 unfolding settled
-settled_led t i a (And g h) =
-    ap (λ b. b && settled t (meaning h) i) (settled_led t i a g)
-    ∙ and_assoc (settled t (meaning a) i) (settled t (meaning g) i) (settled t (meaning h) i)
+settled_led t i a (And g h) = simp (and_assoc, settled_led t i a g)
 settled_led t i a g = refl
 
 -- ---- what holds of a conjunction holds of its first conjunct
@@ -90,21 +80,11 @@ none_stay p (x ∷ xs) none =
 
 module _ (p : ℕ → Bool) (a : CoreForm) (none : (y : ℕ) → p y ≡ true → among y (fv (meaning a)) ≡ false) where
   outside : (y : ℕ) → among y (fv (meaning a)) ≡ true → p y ≡ false
-  outside y m =
-      elim (cases_Bool (p y)) [
-        | inl holds ↦ absurd (let clash : true ≡ false = sym m ∙ none y holds in cc)
-        | inr fails ↦ fails
-      ]
+  outside y m = grind arith
 
   led_filtered : (g : CoreForm) → filter p (fv (meaning (led a g))) ≡ filter p (fv (meaning g))
   unfolding fv
-  led_filtered (And g h) =
-      filter-append p (fv (meaning (led a g))) (filter (λ y. not (among y (fv (meaning (led a g))))) (fv (meaning h)))
-      ∙ ap₂ (λ xs ys. xs ++ ys) (led_filtered g)
-      (filter_pair p (λ y. not (among y (fv (meaning (led a g))))) (λ y. not (among y (fv (meaning g))))
-      (fv (meaning h))
-      (λ y passes. ap not (among_led a g y ∙ ap (λ b. b || among y (fv (meaning g))) (none y passes))))
-      ∙ sym (filter-append p (fv (meaning g)) (filter (λ y. not (among y (fv (meaning g)))) (fv (meaning h))))
+  led_filtered (And g h) = grind (arith, filter-append, ap₂, filter_pair, among_led, led_filtered g)
   led_filtered g =
       filter-append p (fv (meaning a)) (filter (λ y. not (among y (fv (meaning a)))) (fv (meaning g)))
       ∙ ap₂ (λ xs ys. xs ++ ys) (none_stay p (fv (meaning a)) outside)
@@ -116,18 +96,11 @@ module _ (p : ℕ → Bool) (a : CoreForm) (none : (y : ℕ) → p y ≡ true �
 
 module _ (f : CoreForm) (x : Bound) (g : CoreForm) (on : leads (first_conjunct f) x.number g ≡ true) where
   free : among x.number (fv (meaning (first_conjunct f))) ≡ false
-  free =
-      not-true (among x.number (fv (meaning (first_conjunct f)))) (and_parts _ _ (and_parts _ _ on).1).0
+  free = grind arith
 
   other : (v : Valuation) (a : Value) (y : ℕ) → among y (fv (meaning (first_conjunct f))) ≡ true
       → with_value v x.number a y ≡ v y
-  other v a y m =
-      elim (cases_Bool (nat_eq y x.number)) [
-        | inl same ↦
-            absurd (let clash : true ≡ false =
-            sym m ∙ ap (λ z. among z (fv (meaning (first_conjunct f)))) (eqb-true y x.number same) ∙ free in cc)
-        | inr apart ↦ cond-false (nat_eq y x.number) a (v y) apart
-      ]
+  other v a y m = grind arith
 
   sat_asked : (log : List TimePoint) (dom : List Value) (v : Valuation) (i : ℕ)
       → sat log dom v i (meaning (And f (Not (Exists x (led (first_conjunct f) g)))))
@@ -150,27 +123,17 @@ module _ (f : CoreForm) (x : Bound) (g : CoreForm) (on : leads (first_conjunct f
           (coincidence log dom (meaning (first_conjunct f)) (with_value v x.number a) v i (other v a)
           ∙ first_holds log dom v i f is)))
 
-  settled_asked : (t : List ℕ) (i : ℕ)
-      → settled t (meaning (And f (Not (Exists x (led (first_conjunct f) g))))) i
+  settled_asked : (t : List ℕ) (i : ℕ) → settled t (meaning (And f (Not (Exists x (led (first_conjunct f) g))))) i
       ≡ settled t (meaning (And f (Not (Exists x g)))) i
   unfolding settled
-  settled_asked t i = by (settled t (meaning f) i) refl
-    where
-      by : (b : Bool) → settled t (meaning f) i ≡ b
-          → (b && settled t (meaning (led (first_conjunct f) g)) i) ≡ (b && settled t (meaning g) i)
-      by false is = refl
-      by true is =
-          settled_led t i (first_conjunct f) g ∙ ap (λ b. b && settled t (meaning g) i) (first_settled t i f is)
+  settled_asked t i = grind (arith, settled_led, first_settled)
 
   -- the variables that what is denied adds
   added : (xs : List ℕ) → filter (λ y. not (among y (fv (meaning f)))) (without x.number xs)
       ≡ filter (λ y. not (nat_eq y x.number) && not (among y (fv (meaning f)))) xs
-  added xs =
-      filter-filter (λ y. not (among y (fv (meaning f)))) (λ y. not (nat_eq y x.number))
-      (λ y. not (nat_eq y x.number) && not (among y (fv (meaning f)))) (λ y. refl) xs
+  added xs = search (filter-filter)
 
-  fv_asked : fv (meaning (And f (Not (Exists x (led (first_conjunct f) g)))))
-      ≡ fv (meaning (And f (Not (Exists x g))))
+  fv_asked : fv (meaning (And f (Not (Exists x (led (first_conjunct f) g))))) ≡ fv (meaning (And f (Not (Exists x g))))
   unfolding fv
   fv_asked =
       ap (λ ys. fv (meaning f) ++ ys)
@@ -178,41 +141,20 @@ module _ (f : CoreForm) (x : Bound) (g : CoreForm) (on : leads (first_conjunct f
       ∙ led_filtered (λ y. not (nat_eq y x.number) && not (among y (fv (meaning f)))) (first_conjunct f)
       (λ y passes.
       elim (cases_Bool (among y (fv (meaning (first_conjunct f))))) [
-        | inl m ↦
-            absurd (let clash : true ≡ false =
-            sym (first_free f y m)
-            ∙ not-true (among y (fv (meaning f)))
-            (and_parts (not (nat_eq y x.number)) (not (among y (fv (meaning f)))) passes).1 in cc)
+        | inl m ↦ grind (arith, first_free, not-true, and_parts)
         | inr fails ↦ fails
       ]) g
       ∙ sym (added (fv (meaning g))))
 
 -- ---- the core
 
--- what is the same of a conjunction and of the one whose denied EXISTS is asked for fewer rows
-same_of_narrowed : {A : Type 0} (of : CoreForm → A) (f : CoreForm) (x : Bound) (g : CoreForm)
-    → (leads (first_conjunct f) x.number g ≡ true
-    → of (And f (Not (Exists x (led (first_conjunct f) g)))) ≡ of (And f (Not (Exists x g))))
-    → of (narrowed (And f (Not (Exists x g)))) ≡ of (And f (Not (Exists x g)))
-same_of_narrowed of f x g asked = by (leads (first_conjunct f) x.number g) refl
-  where
-    by : (b : Bool) → leads (first_conjunct f) x.number g ≡ b
-        → of (And f (Not (Exists x (cond b (led (first_conjunct f) g) g)))) ≡ of (And f (Not (Exists x g)))
-    by true on = asked on
-    by false off = refl
-
 pub sat_narrowed : (log : List TimePoint) (dom : List Value) (v : Valuation) (i : ℕ) (f : CoreForm)
     → sat log dom v i (meaning (narrowed f)) ≡ sat log dom v i (meaning f)
-sat_narrowed log dom v i (And f (Not (Exists x g))) =
-    same_of_narrowed (λ k. sat log dom v i (meaning k)) f x g (λ on. sat_asked f x g on log dom v i)
-sat_narrowed log dom v i f = refl
+sat_narrowed log dom v i f = grind (arith, sat_asked)
 
 pub settled_narrowed : (t : List ℕ) (i : ℕ) (f : CoreForm)
     → settled t (meaning (narrowed f)) i ≡ settled t (meaning f) i
-settled_narrowed t i (And f (Not (Exists x g))) =
-    same_of_narrowed (λ k. settled t (meaning k) i) f x g (λ on. settled_asked f x g on t i)
-settled_narrowed t i f = refl
+settled_narrowed t i f = grind (arith, settled_asked)
 
 pub fv_narrowed : (f : CoreForm) → fv (meaning (narrowed f)) ≡ fv (meaning f)
-fv_narrowed (And f (Not (Exists x g))) = same_of_narrowed (λ k. fv (meaning k)) f x g (λ on. fv_asked f x g on)
-fv_narrowed f = refl
+fv_narrowed f = grind (arith, fv_asked)

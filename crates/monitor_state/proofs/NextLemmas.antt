@@ -1,8 +1,7 @@
 -- Tables pushed to a NEXT and pulled from it, one after the other.
-use Rattle.std.proofs.Common.{◌≡◌, ℕ, ◌+◌, ◌<◌, Bool, true, false, cond, List, [], ◌∷◌, ◌++◌, length}
-use Rattle.std.proofs.Common.{refl, sym, ap, ◌∙◌, arith, length-append, append-nil, append_assoc}
-use Rattle.std.proofs.lemmas.Bool.Decides.{nat_tests}
-use Rattle.std.proofs.lemmas.List.{drop-drop, length-drop}
+use Rattle.std.proofs.Common.{◌≡◌, ℕ, ◌+◌, ◌<◌, Bool, true, false, cond, List, [], ◌∷◌, ◌++◌, length, sym, ap, ◌∙◌}
+use Rattle.std.proofs.Common.{arith, length-append, append-nil, append_assoc}
+use Rattle.std.proofs.{lemmas.Bool.Decides.nat_tests, lemmas.List.drop-drop, lemmas.List.length-drop}
 use Rattle.mfotl_model.specs.Satisfaction.{Valuation, next, truth_at}
 use Rattle.mfotl_model.specs.Tables.{TableOf, has}
 use Rattle.eval_until.specs.NextView.{AdvancesNext, FollowsNext, NextOf, next_due, tables_pushed, with_table}
@@ -12,8 +11,7 @@ use Rattle.monitor_state.specs.NextFeeding.{NextPulled, NextPushed, next_kept, n
 
 fed_none : (s : NextOf) (b : Bool) → record s { started = b }
     ≡ record s { started = next_started b []; tables = s.tables ++ next_kept b [] }
-fed_none s true = rw append-nil
-fed_none s false = rw append-nil
+fed_none s b = grind (arith, append-nil)
 
 pub pushed_none : (s : NextOf) → NextPushed s s []
 pushed_none s = record { pushed = fed_none s s.started; follows = λ bare t a v h stand. h }
@@ -26,31 +24,18 @@ fed_more : (s : NextOf) (b : Bool) (front : List TableOf) (table : TableOf)
       tables =
           s.tables ++ next_kept b (front ++ table ∷ []);
     }
-fed_more s true front table = rw append_assoc
-fed_more s false [] table = refl
-fed_more s false (x ∷ front) table = rw append_assoc
+fed_more s b front table = grind (arith, append_assoc)
 
 -- how many tables were pushed
 pub pushed_count : (b : Bool) (p : ℕ) (xs front : List TableOf) → (b ≡ false → (p ≡ 0) × (length xs ≡ 0))
     → cond (next_started b front) (p + 1 + length (xs ++ next_kept b front)) 0
     ≡ cond b (p + 1 + length xs) 0 + length front
-pushed_count true p xs front bare = omega (arith, length-append xs front)
-pushed_count false p xs [] bare = omega arith
-pushed_count false p xs (x ∷ front) bare = omega (arith, (bare refl).0, (bare refl).1, length-append xs front)
+pushed_count b p xs front bare = grind (arith, length-append)
 
 pub pushed_more : {old s new : NextOf} {front : List TableOf} (table : TableOf) → NextPushed old s front
-    → new ≡ with_table s table
-    → ((t : List ℕ) (a : List Bool) (v : Valuation) → FollowsNext s t a v
-    → has table v ≡ truth_at a (tables_pushed s) → FollowsNext new t a v)
-    → NextPushed old new (front ++ table ∷ [])
-pushed_more {old} {s} {new} {front} table before pushed follows =
-    record {
-      pushed = pushed ∙ ap (λ (x : NextOf). with_table x table) before.pushed ∙ fed_more old old.started front table;
-      follows = λ bare t a v h stand.
-          let parts = stand_split (λ i x. has x v ≡ truth_at a i) (tables_pushed old) front (table ∷ []) stand in
-          follows t a v (before.follows bare t a v h parts.0)
-          (rw (before.pushed, pushed_count old.started old.pulled old.tables front bare) parts.1.0);
-    }
+    → new ≡ with_table s table → ((t : List ℕ) (a : List Bool) (v : Valuation) → FollowsNext s t a v
+    → has table v ≡ truth_at a (tables_pushed s) → FollowsNext new t a v) → NextPushed old new (front ++ table ∷ [])
+pushed_more {old} {s} {new} {front} table before pushed follows = grind (arith, fed_more, stand_split, pushed_count)
 
 due_parts : (s : NextOf) → true ≡ next_due s → (1 < length s.times) × (s.started ≡ true) × (0 < length s.tables)
 due_parts s h = (grind (arith, nat_tests), grind (arith, nat_tests), grind (arith, nat_tests))

@@ -1,59 +1,42 @@
 -- A NEXT's state over one step.
-use Rattle.std.proofs.Common.{◌≡◌, ℕ, ◌+◌, ◌<◌, ◌≤◌, Bool, true, false, ◌&&◌, cond, nat_lt, List, [], ◌∷◌, ◌++◌}
-use Rattle.std.proofs.Common.{length, drop, refl, sym, ◌∙◌, arith, length-append, append-nil}
-use Rattle.std.proofs.lemmas.Bool.Decides.{nat_tests}
+use Rattle.std.proofs.Common.{◌≡◌, ℕ, ◌+◌, ◌<◌, ◌≤◌, Bool, true, false, ◌&&◌, cond, nat_lt, List, [], ◌∷◌, ◌++◌, length}
+use Rattle.std.proofs.Common.{drop, refl, ◌∙◌, arith, length-append, append-nil}
 use Rattle.std.proofs.lemmas.List.{drop-drop, length-drop, length-map}
 use Rattle.mfotl_model.specs.Exact.{View, Covers, AllExact}
-use Rattle.mfotl_model.specs.FreeVariables.{fv}
-use Rattle.mfotl_model.specs.Log.{times}
-use Rattle.mfotl_model.specs.Satisfaction.{Valuation, sat}
-use Rattle.mfotl_model.specs.Tables.{TableOf}
-use Rattle.mfotl_model.specs.Times.{NeverFalls}
-use Rattle.mfotl_model.specs.declared.event.TimePoint.{TimePoint}
-use Rattle.mfotl_model.specs.declared.interval.Interval.{Interval}
-use Rattle.mfotl_model.specs.declared.value.Value.{Value}
+use Rattle.mfotl_model.specs.{FreeVariables.fv, Log.times, Satisfaction.Valuation, Satisfaction.sat, Tables.TableOf}
+use Rattle.mfotl_model.specs.{Times.NeverFalls}
+use Rattle.mfotl_model.specs.declared.{event.TimePoint.TimePoint, interval.Interval.Interval, value.Value.Value}
 use Rattle.eval_until.specs.NextView.{FollowsNext, NextOf, tables_pushed}
 use Rattle.monitorable.specs.CoreForms.{CoreForm, meaning, Next}
-use Rattle.monitor_state.proofs.CountLemmas.{count_next}
+use Rattle.monitor_state.proofs.{CountLemmas.count_next, GrowthLemmas.exact_more, GrowthLemmas.told}
+use Rattle.monitor_state.proofs.{NextLemmas.pushed_count, StampLemmas.from_more}
 use Rattle.monitor_state.proofs.ExactLemmas.{covers_before, dates_before, dates_new, exact_drop, exact_tell, log_more}
 use Rattle.monitor_state.proofs.ExactLemmas.{stand_exact, tells_before, truths_tell}
-use Rattle.monitor_state.proofs.GrowthLemmas.{exact_more, told}
-use Rattle.monitor_state.proofs.NextLemmas.{pushed_count}
-use Rattle.monitor_state.proofs.StampLemmas.{from_more}
 use Rattle.monitor_state.specs.NextFeeding.{BeginsBare, NextTakes, next_fed, next_kept, next_started}
-use Rattle.monitor_state.specs.Stands.{IsNext, NextStands}
-use Rattle.monitor_state.specs.Steps.{News, longer}
+use Rattle.monitor_state.specs.{Stands.IsNext, Stands.NextStands, Steps.News, Steps.longer}
 use Rattle.monitor_state.specs.Views.{Dates, Tells, reached}
+use Rattle.std.proofs.lemmas.Grind.{common_steps}
 
 -- the tables that are kept are exact from the position after the pulled ones on
 kept_exact : {view : View} {point : TimePoint} {f : CoreForm} (tables : List TableOf) → News view point f tables
     → NeverFalls (times (longer view point).log) → (b : Bool) (p : ℕ) (xs : List TableOf)
     → (b ≡ false → (p ≡ 0) × (length xs ≡ 0)) → cond b (p + 1 + length xs) 0 ≡ reached view f
-    → AllExact view (meaning f) (p + 1) xs
-    → AllExact (longer view point) (meaning f) (p + 1) (xs ++ next_kept b tables)
-kept_exact tables news rising true p xs bare pushed exact = exact_more news rising (p + 1) xs pushed exact
-kept_exact tables news rising false p (x ∷ xs) bare pushed exact = absurd (omega (arith, (bare refl).1))
-kept_exact [] news rising false p [] bare pushed exact = tt
-kept_exact {view} {point} {f} (table ∷ tables) news rising false p [] bare pushed exact =
-    let here : reached view f + 1 ≡ p + 1 = omega (arith, (bare refl).0) in rw here at news.exact.1
+    → AllExact view (meaning f) (p + 1) xs → AllExact (longer view point) (meaning f) (p + 1) (xs ++ next_kept b tables)
+kept_exact tables news rising b p xs bare pushed exact = grind (arith, common_steps, exact_more)
 
 -- before the first table nothing is kept
 bare_more : (b : Bool) (p : ℕ) (xs tables : List TableOf) → (b ≡ false → (p ≡ 0) × (length xs ≡ 0))
     → next_started b tables ≡ false → (p ≡ 0) × (length (xs ++ next_kept b tables) ≡ 0)
-bare_more true p xs tables bare h = absurd (let clash : true ≡ false = h in cc)
-bare_more false p xs [] bare h = rw append-nil (bare refl)
-bare_more false p xs (table ∷ tables) bare h = absurd (let clash : true ≡ false = h in cc)
+bare_more b p xs tables bare h = grind (arith, append-nil)
 
 -- the operand's tables go further than the positions pulled
 pulled_within : (b : Bool) (p n m : ℕ) → cond b (p + 1 + n) 0 ≡ m → (b ≡ false → (p ≡ 0) × (n ≡ 0)) → 0 < p → p + 1 ≤ m
-pulled_within true p n m is bare some = omega arith
-pulled_within false p n m is bare some = absurd (omega (arith, (bare refl).0))
+pulled_within b p n m is bare some = grind arith
 
 -- where none is due, too few times are kept, or the table of the next position is missing
 none_due : (b : Bool) (p n m k : ℕ) → cond b (p + 1 + n) 0 ≡ m → (nat_lt 1 k && (b && nat_lt 0 n)) ≡ false → 1 < k
     → p + 1 < m → ⊥
-none_due true p n m k is ends more low = grind (arith, nat_tests)
-none_due false p n m k is ends more low = omega arith
+none_due b p n m k is ends more low = grind arith
 
 module _ {view : View} {point : TimePoint} {i : Interval} {f : CoreForm} {old new : NextOf} {ts : ℕ}
     {operand tables : List TableOf} (news : News view point f operand) (is : IsNext i f old)
@@ -89,33 +72,23 @@ module _ {view : View} {point : TimePoint} {i : Interval} {f : CoreForm} {old ne
   fed_times = rw fed_is (from_more view point rising old.pulled ts old.times ts_is (omega arith) stands.kept)
 
   fed_pushed : tables_pushed takes.fed ≡ reached (longer view point) f
-  fed_pushed =
-      rw (fed_is, pushed_count old.started old.pulled old.tables operand stands.bare, stands.pushed) news.count
+  fed_pushed = cc (fed_is, pushed_count old.started old.pulled old.tables operand stands.bare)
 
   fed_bare : BeginsBare takes.fed
   fed_bare = rw fed_is (bare_more old.started old.pulled old.tables operand stands.bare)
 
   fed_exact : AllExact (longer view point) (meaning f) (takes.fed.pulled + 1) takes.fed.tables
-  fed_exact =
-      rw fed_is (kept_exact operand news rising old.started old.pulled old.tables stands.bare stands.pushed
-      stands.tables)
+  fed_exact = search (fed_is, kept_exact)
 
   -- what was pushed and not pulled
   new_timed : new.pulled + length new.times ≡ length (longer view point).log
   new_timed = rw takes.pulls.times (omega (arith, length-drop (length tables) takes.fed.times, fed_timed))
 
   new_pushed : tables_pushed new ≡ reached (longer view point) f
-  new_pushed =
-      let sum : new.pulled + 1 + length new.tables ≡ takes.fed.pulled + 1 + length takes.fed.tables =
-      rw takes.pulls.kept (omega (arith, length-drop (length tables) takes.fed.tables)) in
-      rw (takes.pulls.started, sum) fed_pushed
+  new_pushed = grind (arith, length-drop, fed_pushed)
 
   new_bare : BeginsBare new
-  new_bare h =
-      let bare = fed_bare (sym takes.pulls.started ∙ h) in (
-        omega (arith, bare.0, bare.1),
-        rw takes.pulls.kept (omega (arith, bare.1, length-drop (length tables) takes.fed.tables)),
-      )
+  new_bare h = grind (arith, fed_bare, length-drop)
 
   all_pulled : new.pulled ≡ reached (longer view point) (Next i f)
   all_pulled =

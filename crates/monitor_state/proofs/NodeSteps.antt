@@ -1,69 +1,38 @@
 -- What one node does in a step.
-use Rattle.std.proofs.Common.{◌||◌}
-use Rattle.std.proofs.Common.{None, ◌≡◌, ℕ, suc, ◌+◌, ◌<◌, Bool, true, false, not, ◌&&◌, cond, nat_eq, nat_lt}
-use Rattle.std.proofs.Common.{List, [], ◌∷◌, ◌++◌, length, map, get_or, refl, sym, ap, ◌∙◌, arith, append_assoc}
-use Rattle.std.proofs.Common.{append-nil}
+use Rattle.std.proofs.Common.{◌||◌, None, ◌≡◌, ℕ, suc, ◌+◌, ◌<◌, true, false, nat_eq, nat_lt, List, [], ◌∷◌, ◌++◌}
+use Rattle.std.proofs.Common.{length, refl, sym, ap, ◌∙◌, arith, append_assoc, append-nil}
 use Rattle.std.proofs.lemmas.Bool.{and_parts, lt-ltb, ltb-true, cond-true, cond-false, ne_eqb}
-use Rattle.std.proofs.lemmas.List.{length-map, map-append}
-use Rattle.std.proofs.Math.Seq.{get_or-append_seam}
-use Rattle.std.specs.List.{list_any}
-use Rattle.std.specs.Cmp.{both_ways}
+use Rattle.std.proofs.{lemmas.List.length-map, lemmas.List.map-append, Math.Seq.get_or-append_seam}
+use Rattle.std.specs.{List.list_any, Cmp.both_ways}
 use Rattle.mfotl_model.proofs.LogicLemmas.{among_without, same_number}
-use Rattle.mfotl_model.specs.ActiveDomain.{adom, constants}
-use Rattle.mfotl_model.specs.Counts.{settled_count}
-use Rattle.mfotl_model.specs.Domains.{in_domain, Includes}
+use Rattle.mfotl_model.specs.{ActiveDomain.adom, ActiveDomain.constants, Counts.settled_count, Domains.in_domain}
+use Rattle.mfotl_model.specs.{Domains.Includes, Formulas.Form, Log.times, Regions.Passes, Settled.settled}
+use Rattle.mfotl_model.specs.{Tables.TableOf, Tables.has, Times.NeverFalls}
 use Rattle.mfotl_model.specs.Exact.{View, Covers, Exact, AllExact}
 use Rattle.mfotl_model.specs.FreeVariables.{fv, among, without, variables_in}
-use Rattle.mfotl_model.specs.Formulas.{Form}
-use Rattle.mfotl_model.specs.Log.{times}
-use Rattle.mfotl_model.specs.Regions.{Passes}
-use Rattle.mfotl_model.specs.Satisfaction.{Valuation, sat, with_value, event_of, has_event, database_at}
-use Rattle.mfotl_model.specs.Settled.{settled}
-use Rattle.mfotl_model.specs.Tables.{TableOf, has}
-use Rattle.mfotl_model.specs.Times.{NeverFalls}
-use Rattle.mfotl_model.specs.declared.event.TimePoint.{TimePoint}
-use Rattle.mfotl_model.specs.declared.formula.Bound.{Bound}
-use Rattle.mfotl_model.specs.declared.term.Atom.{Atom as OneAtom}
-use Rattle.mfotl_model.specs.declared.value.Value.{Value}
-use Rattle.eval_since.specs.PreviousView.{PrevOf}
-use Rattle.eval_since.specs.SinceView.{SinceOf}
-use Rattle.monitorable.proofs.DomainLaw.{domain}
-use Rattle.monitorable.proofs.DomainLemmas.{any_with, any_witness}
-use Rattle.monitorable.proofs.DomainRows.{has_constants, has_log}
+use Rattle.mfotl_model.specs.Satisfaction.{Valuation, sat, with_value, event_of, has_event}
+use Rattle.mfotl_model.specs.declared.{event.TimePoint.TimePoint, formula.Bound.Bound, term.Atom.Atom as OneAtom}
+use Rattle.mfotl_model.specs.declared.{value.Value.Value}
+use Rattle.eval_since.specs.{PreviousView.PrevOf, SinceView.SinceOf}
+use Rattle.monitorable.proofs.{DomainLaw.domain, DomainLemmas.any_with, DomainLemmas.any_witness}
+use Rattle.monitorable.proofs.{DomainRows.has_constants, DomainRows.has_log}
 use Rattle.monitorable.specs.CoreForms.{CoreForm, meaning, True, False, Atom, Compare, Not, And, Or, Exists, Previous}
-use Rattle.monitorable.specs.CoreForms.{Next, Since}
-use Rattle.monitorable.specs.Conjuncts.{conjuncts_of}
-use Rattle.eval_bool.specs.JoinView.{ChildOf, JoinOf}
-use Rattle.eval_bool.specs.OrView.{OrOf}
-use Rattle.monitor_state.proofs.OrSteps.{or_steps}
-use Rattle.monitor_state.specs.OrFeeding.{OrTakes}
-use Rattle.monitor_state.proofs.JoinSteps.{join_steps, tests_settled}
-use Rattle.monitor_state.specs.JoinFeeding.{JoinTakes}
+use Rattle.monitorable.specs.CoreForms.{Next, Since, Until}
 use Rattle.monitorable.specs.Fragment.{Names, frag}
-use Rattle.monitor_state.proofs.CountLemmas.{count_is}
-use Rattle.monitor_state.proofs.ExactLemmas.{log_more, rising_before}
-use Rattle.monitor_state.proofs.SinceSteps.{since_steps}
-use Rattle.monitor_state.proofs.PreviousSteps.{previous_steps}
-use Rattle.monitor_state.specs.Feeding.{SinceTakes}
-use Rattle.monitor_state.specs.PreviousFeeding.{PreviousTakes}
-use Rattle.eval_until.specs.NextView.{NextOf}
-use Rattle.monitor_state.proofs.NextSteps.{next_steps}
-use Rattle.monitor_state.specs.NextFeeding.{NextTakes}
-use Rattle.eval_until.specs.UntilView.{UntilOf}
-use Rattle.monitorable.specs.CoreForms.{Until}
-use Rattle.monitor_state.proofs.UntilSteps.{until_steps}
-use Rattle.monitor_state.specs.UntilFeeding.{UntilTakes}
-use Rattle.monitor_state.specs.Nodes.{adds_none, is_keyed, children, filters, is_window, left_operand, operands}
-use Rattle.monitor_state.specs.Nodes.{window_operands}
-use Rattle.monitor_state.proofs.FilterSteps.{filter_steps}
-use Rattle.monitor_state.specs.FilterFeeding.{FilterTakes}
+use Rattle.eval_bool.specs.{JoinView.ChildOf, JoinView.JoinOf, OrView.OrOf}
+use Rattle.monitor_state.proofs.{OrSteps.or_steps, JoinSteps.join_steps, JoinSteps.tests_settled, CountLemmas.count_is}
+use Rattle.monitor_state.proofs.{ExactLemmas.log_more, ExactLemmas.rising_before, SinceSteps.since_steps}
+use Rattle.monitor_state.proofs.{PreviousSteps.previous_steps, NextSteps.next_steps, UntilSteps.until_steps}
+use Rattle.monitor_state.proofs.{FilterSteps.filter_steps}
+use Rattle.monitor_state.specs.{OrFeeding.OrTakes, JoinFeeding.JoinTakes, Feeding.SinceTakes}
+use Rattle.monitor_state.specs.{PreviousFeeding.PreviousTakes, NextFeeding.NextTakes, UntilFeeding.UntilTakes}
+use Rattle.monitor_state.specs.{FilterFeeding.FilterTakes, Quantified.IsWithout, Quantified.Quantifies, Stacks.Pops}
+use Rattle.monitor_state.specs.{Stacks.PopsMany, Views.reached}
+use Rattle.eval_until.specs.{NextView.NextOf, UntilView.UntilOf}
+use Rattle.monitor_state.specs.Nodes.{adds_none, is_keyed, children, is_window, left_operand, operands, window_operands}
 use Rattle.monitor_state.specs.declared.filter.FilterState.{FilterState}
-use Rattle.monitorable.specs.Soundness.{IsWellFormedIn}
-use Rattle.monitor_state.specs.Quantified.{IsWithout, Quantifies}
-use Rattle.monitor_state.specs.Stacks.{Pops, PopsMany}
 use Rattle.monitor_state.specs.Stands.{ChildrenStand, IsConstant, IsConjunction, JoinStands}
 use Rattle.monitor_state.specs.Steps.{TakesPoint, News, Premises, StackNews, longer}
-use Rattle.monitor_state.specs.Views.{reached}
 use Rattle.monitor_state.specs.declared.node.Node.TheVariants as node
 
 module _ (view : View) (point : TimePoint) where
@@ -71,20 +40,16 @@ module _ (view : View) (point : TimePoint) where
       → StackNews view point (below ++ f ∷ []) stack
       → (rest : List (List TableOf)) × (top : List TableOf) × (stack ≡ rest ++ top ∷ []) × StackNews view point below
       rest × News view point f top
-  unstack [] f [] s = absurd s
   unstack [] f (top ∷ []) s = ([], top, refl, tt, s.0)
-  unstack [] f (top ∷ next ∷ more) s = absurd s.1
-  unstack (g ∷ below) f [] s = absurd s
   unstack (g ∷ below) f (tables ∷ stack) s =
       let r = unstack below f stack s.1 in (tables ∷ r.0, r.1, ap (λ xs. tables ∷ xs) r.2, (s.0, r.3), r.4)
+  unstack below f more s = absurd assumption
 
   -- the top of the stack is the last operand's
   pops_top : {stack rest : List (List TableOf)} {top : List TableOf} (below : List CoreForm) (f : CoreForm)
       → StackNews view point (below ++ f ∷ []) stack → Pops stack rest top
       → StackNews view point below rest × News view point f top
-  pops_top {stack} below f news pops =
-      let r = unstack below f stack news in
-      let same = pops r.0 r.1 r.2 in (rw same.0 r.3, rw same.1 r.4)
+  pops_top {stack} below f news pops = grind (arith, unstack)
 
   -- the two topmost are two operands'
   pops_two : {stack mid rest : List (List TableOf)} {ls rs : List TableOf} (below : List CoreForm) (f g : CoreForm)
@@ -123,24 +88,7 @@ module _ (view : View) (point : TimePoint) (rising : NeverFalls (times (longer v
 
   one_new : (table : TableOf) → Exact (longer view point) (meaning f) (length view.log) table
       → News view point f (table ∷ [])
-  one_new table exact =
-      record {
-        count = omega (
-          arith,
-          reached_all,
-          log_more view point rising,
-          length-map (longer view point).log (λ p. p.ts),
-          count_all (times (longer view point).log) rising (meaning f) (all (times (longer view point).log)),
-        );
-        exact = (rw reached_all exact, tt);
-      }
-
--- a conjunction without operands has no children
-alone_children : (f g : CoreForm) (b : Bool)
-    → cond b (f ∷ window_operands (left_operand g)) (children (conjuncts_of (And f g))) ≡ []
-    → children (conjuncts_of (And f g)) ≡ []
-alone_children f g true none = absurd (let e : (f ∷ window_operands (left_operand g)) ≡ [] = none in cc)
-alone_children f g false none = none
+  one_new table exact = grind (arith, reached_all, log_more, length-map, count_all)
 
 constant_one : {view : View} {point given : TimePoint} {whole f : CoreForm} {table : TableOf} {tables : List TableOf}
     (below : List CoreForm) (stack : List (List TableOf)) → Premises view point given whole f → IsConstant f table
@@ -169,21 +117,12 @@ constant_advances table given stack tables made view point whole (Not f) below p
     constant_one below stack premises is (λ t i. tests_settled t i (Not f) is.alone) made stacked
 constant_advances table given stack tables made view point whole (And f g) below premises is stands stacked =
     constant_one below stack premises is
-    (λ t i. tests_settled t i (And f g) (alone_children f g (filters f g) is.alone)) made stacked
+    (λ t i. tests_settled t i (And f g) (grind arith)) made stacked
 constant_advances table given stack tables made view point whole f below premises is stands stacked = absurd is
 
--- the database of the new time-point
-new_database : (log : List TimePoint) (point : TimePoint) → database_at (log ++ point ∷ []) (length log) ≡ point.db
-new_database log point =
-    ap (λ dbs. get_or dbs (length log) []) (map-append (λ (p : TimePoint). p.db) log (point ∷ []))
-    ∙ ap (λ n. get_or (map (λ (p : TimePoint). p.db) log ++ point.db ∷ []) n []) (sym (length-map log (λ p. p.db)))
-    ∙ get_or-append_seam (map (λ (p : TimePoint). p.db) log) point.db [] []
-
 pub atom_advances : (atom : OneAtom) (given : TimePoint) (stack : List (List TableOf)) (table : TableOf)
-    (tables : List TableOf)
-    → table.columns ≡ variables_in atom.args
-    → ((v : Valuation) → has table v ≡ has_event given.db (event_of v atom))
-    → tables ≡ table ∷ []
+    (tables : List TableOf) → table.columns ≡ variables_in atom.args
+    → ((v : Valuation) → has table v ≡ has_event given.db (event_of v atom)) → tables ≡ table ∷ []
     → TakesPoint (node.Atom atom) given stack (node.Atom atom) stack tables
 unfolding sat fv settled
 atom_advances atom given stack table tables columns rows made view point whole (Atom a) below premises is stands
@@ -195,11 +134,7 @@ atom_advances atom given stack table tables columns rows made view point whole (
           (one_new view point premises.rising (Atom a) (λ t i. refl) table
           (record {
             columns = columns ∙ ap (λ (b : OneAtom). variables_in b.args) is;
-            rows = λ dom v covers near.
-                rows v
-                ∙ ap (λ b. has_event given.db (event_of v b)) is
-                ∙ premises.same v near
-                ∙ ap (λ db. has_event db (event_of v a)) (sym (new_database view.log point));
+            rows = grind (arith, map-append, length-map, get_or-append_seam);
           })),
     )
 atom_advances atom given stack table tables columns rows made view point whole f below premises is stands stacked =
@@ -213,15 +148,7 @@ module _ (view : View) (x : Bound) (f whole : CoreForm) (passes : Passes (fv vie
   -- a near row without the variable is near with any value of it
   near_with : (v : Valuation) (a : Value) → view.near (without x.number (fv (meaning f))) v ≡ true
       → view.near (fv (meaning f)) (with_value v x.number a) ≡ true
-  near_with v a h =
-      passes (without x.number (fv (meaning f))) (fv (meaning f)) v (with_value v x.number a)
-      (λ y m free.
-      let other : nat_eq y x.number ≡ false = ne_eqb y x.number
-      (λ e. let clash : true ≡ false = sym free ∙ ap (λ z. among z (fv view.whole)) e
-      ∙ ap (λ w. among x.number (fv w)) whole_is ∙ apart in cc) in (
-        among_without y x.number (fv (meaning f)) ∙ ap (λ b. not b && among y (fv (meaning f))) other ∙ m,
-        sym (cond-false (nat_eq y x.number) a (v y) other),
-      )) h
+  near_with v a h = grind (arith, ne_eqb, among_without, cond-false)
 
   with_itself : (v : Valuation) (a : Value) → with_value v x.number a x.number ≡ a
   with_itself v a = cond-true (nat_eq x.number x.number) a (v x.number) (same_number x.number)
@@ -239,8 +166,7 @@ module _ (view : View) (x : Bound) (f whole : CoreForm) (passes : Passes (fv vie
       ap (in_domain dom) (sym (with_itself v a)) ∙ covers (with_value v x.number a x.number) own
 
   exists_exact : (i : ℕ) (table quantified : TableOf) → IsWithout x.number table quantified
-      → Exact view (meaning f) i table
-      → Exact view (meaning (Exists x f)) i quantified
+      → Exact view (meaning f) i table → Exact view (meaning (Exists x f)) i quantified
   unfolding sat fv
   exists_exact i table quantified is exact =
       record {
@@ -262,41 +188,25 @@ module _ (view : View) (x : Bound) (f whole : CoreForm) (passes : Passes (fv vie
       → AllExact view (meaning (Exists x f)) i qs
   exists_all i [] [] q all = tt
   exists_all i (t ∷ tables) (r ∷ qs) q all = (exists_exact i t r q.0 all.0, exists_all (i + 1) tables qs q.1 all.1)
-  exists_all i [] (r ∷ qs) q all = absurd q
-  exists_all i (t ∷ tables) [] q all = absurd q
+  exists_all i tables qs q all = absurd assumption
 
 quantifies_length : (x : ℕ) (tables qs : List TableOf) → Quantifies x tables qs → length tables ≡ length qs
 quantifies_length x [] [] q = refl
 quantifies_length x (t ∷ tables) (r ∷ qs) q = ap suc (quantifies_length x tables qs q.1)
-quantifies_length x [] (r ∷ qs) q = absurd q
-quantifies_length x (t ∷ tables) [] q = absurd q
+quantifies_length x tables qs q = absurd assumption
 
 pub quantifies_more : (x : ℕ) (tables qs : List TableOf) (table q : TableOf) → Quantifies x tables qs
-    → IsWithout x table q
-    → Quantifies x (tables ++ table ∷ []) (qs ++ q ∷ [])
+    → IsWithout x table q → Quantifies x (tables ++ table ∷ []) (qs ++ q ∷ [])
 quantifies_more x [] [] table q all one = (one, tt)
 quantifies_more x (t ∷ tables) (r ∷ qs) table q all one = (all.0, quantifies_more x tables qs table q all.1 one)
-quantifies_more x [] (r ∷ qs) table q all one = absurd all
-quantifies_more x (t ∷ tables) [] table q all one = absurd all
+quantifies_more x tables qs table q all one = absurd assumption
 
 pub exists_advances : (var : ℕ) {given : TimePoint} {stack rest : List (List TableOf)} {tables qs : List TableOf}
     → Pops stack rest tables → Quantifies var tables qs
     → TakesPoint (node.Exists var) given stack (node.Exists var) rest qs
 unfolding settled settled_count
 exists_advances var {tables = tables} {qs = qs} pops q view point whole (Exists x f) below premises is stands stacked =
-    let news = pops_top view point below f stacked pops in
-    let sound = premises.sound in
-    let qx : Quantifies x.number tables qs = rw is at q in (
-      is,
-      tt,
-      news.0,
-      record {
-        count = rw (← quantifies_length x.number tables qs qx) news.1.count;
-        exact =
-            exists_all (longer view point) x f whole premises.passes premises.whole_is sound.0 sound.1 sound.2.0
-            sound.2.1 sound.3 (reached view f) tables qs qx news.1.exact;
-      },
-    )
+    grind (arith, pops_top view point below f stacked pops, quantifies_length, exists_all)
 exists_advances var pops q view point whole f below premises is stands stacked = absurd is
 
 pub since_advances : {old new : SinceOf} (order : TableOf) {given : TimePoint} {stack mid rest : List (List TableOf)}
@@ -342,16 +252,13 @@ module _ (view : View) (point : TimePoint) where
   pops_many : {n : ℕ} {stack rest tops : List (List TableOf)} (below fs : List CoreForm) → n ≡ length fs
       → StackNews view point (below ++ fs) stack → PopsMany n stack rest tops
       → StackNews view point below rest × StackNews view point fs tops
-  pops_many {stack = stack} below fs is news pops =
-      let r = split_news below fs stack news in
-      let same = pops r.0 r.1 r.2 (r.3 ∙ sym is) in (rw same.0 r.4, rw same.1 r.5)
+  pops_many {stack = stack} below fs is news pops = grind (arith, split_news)
 
 children_length : (view : View) (i : ℕ) (fs : List CoreForm) (cs : List ChildOf) → ChildrenStand view i fs cs
     → length cs ≡ length fs
 children_length view i [] [] stand = refl
 children_length view i (f ∷ fs) (c ∷ cs) stand = ap suc (children_length view i fs cs stand.1)
-children_length view i [] (c ∷ cs) stand = absurd stand
-children_length view i (f ∷ fs) [] stand = absurd stand
+children_length view i fs cs stand = absurd assumption
 
 join_taken : {view : View} {point given : TimePoint} {whole : CoreForm} {old new : JoinOf}
     {stack rest lists : List (List TableOf)} {tables : List TableOf} (f : CoreForm) (below : List CoreForm)
@@ -367,8 +274,7 @@ join_taken {view} {point} {old = old} f below premises is stands stacked pops ta
     (steps.0, steps.1, news.0, steps.2)
 
 pub join_advances : {old new : JoinOf} {given : TimePoint} {stack rest lists : List (List TableOf)}
-    {tables : List TableOf}
-    → PopsMany (length old.children) stack rest lists → JoinTakes old lists new tables
+    {tables : List TableOf} → PopsMany (length old.children) stack rest lists → JoinTakes old lists new tables
     → TakesPoint (node.Join old) given stack (node.Join new) rest tables
 join_advances pops takes view point whole (And f g) below premises is stands stacked =
     join_taken (And f g) below premises is stands stacked pops takes
@@ -377,8 +283,7 @@ join_advances pops takes view point whole (Not f) below premises is stands stack
 join_advances pops takes view point whole f below premises is stands stacked = absurd is
 
 pub or_advances : {old new : OrOf} {given : TimePoint} {stack mid rest : List (List TableOf)}
-    {ls rs tables : List TableOf}
-    → Pops stack mid rs → Pops mid rest ls → OrTakes old ls rs new tables
+    {ls rs tables : List TableOf} → Pops stack mid rs → Pops mid rest ls → OrTakes old ls rs new tables
     → TakesPoint (node.Or old) given stack (node.Or new) rest tables
 or_advances last first takes view point whole (Or f g) below premises is stands stacked =
     let news = pops_two view point below f g stacked last first in
@@ -387,8 +292,7 @@ or_advances last first takes view point whole (Or f g) below premises is stands 
 or_advances last first takes view point whole f below premises is stands stacked = absurd is
 
 pub previous_advances : {old new : PrevOf} {given : TimePoint} {stack rest : List (List TableOf)}
-    {operand tables : List TableOf}
-    → Pops stack rest operand → PreviousTakes old given.ts operand new tables
+    {operand tables : List TableOf} → Pops stack rest operand → PreviousTakes old given.ts operand new tables
     → TakesPoint (node.Previous old) given stack (node.Previous new) rest tables
 previous_advances pops takes view point whole (Previous i f) below premises is stands stacked =
     let news = pops_top view point below f stacked pops in
@@ -397,18 +301,13 @@ previous_advances pops takes view point whole (Previous i f) below premises is s
 previous_advances pops takes view point whole f below premises is stands stacked = absurd is
 
 pub next_advances : {old new : NextOf} {given : TimePoint} {stack rest : List (List TableOf)}
-    {operand tables : List TableOf}
-    → Pops stack rest operand → NextTakes old given.ts operand new tables
+    {operand tables : List TableOf} → Pops stack rest operand → NextTakes old given.ts operand new tables
     → TakesPoint (node.Next old) given stack (node.Next new) rest tables
 next_advances pops takes view point whole (Next i f) below premises is stands stacked =
     let news = pops_top view point below f stacked pops in
     let steps = next_steps news.1 is stands takes premises.ts premises.rising in
     (steps.0, steps.1, news.0, steps.2)
 next_advances pops takes view point whole f below premises is stands stacked = absurd is
-
-sound_operand : (whole g : CoreForm) → IsWellFormedIn whole g → IsWellFormedIn whole (left_operand g)
-sound_operand whole (Not f) sound = sound
-sound_operand whole f sound = sound
 
 -- the three topmost are a filter's operands'
 pops_filtered : (view : View) (point : TimePoint) (below : List CoreForm) (f w : CoreForm)
@@ -431,6 +330,6 @@ filter_advances last second first takes view point whole (And f g) below premise
     (and_parts (is_window (left_operand g)) (adds_none f g || is_keyed f g) is.only).0 (rw is.only at stacked)
     last second first in
     let steps = filter_steps whole is stands news.1 news.2 takes premises.ts premises.rising premises.passes
-    (sound_operand whole g premises.sound.1) in
+    (grind arith) in
     (steps.0, steps.1, news.0, steps.2)
 filter_advances last second first takes view point whole f below premises is stands stacked = absurd is

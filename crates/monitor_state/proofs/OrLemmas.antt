@@ -1,42 +1,28 @@
 -- Tables pushed to an OR and pulled from it, one after the other.
-use Rattle.std.proofs.Common.{◌≡◌, ℕ, ◌+◌, ◌<◌, Bool, true, false, ◌||◌, cond, nat_eq, List, [], ◌∷◌, ◌++◌, length}
-use Rattle.std.proofs.Common.{drop, arith, length-append, append-nil, append_assoc}
-use Rattle.std.proofs.lemmas.Bool.Decides.{nat_tests}
-use Rattle.std.proofs.lemmas.List.{drop-drop, length-drop}
-use Rattle.mfotl_model.specs.Satisfaction.{Valuation}
-use Rattle.mfotl_model.specs.Tables.{TableOf, has}
+use Rattle.std.proofs.Common.{◌≡◌, ℕ, ◌+◌, ◌<◌, Bool, true, ◌||◌, cond, List, [], ◌∷◌, ◌++◌, length, drop, arith}
+use Rattle.std.proofs.Common.{length-append, append-nil, append_assoc}
+use Rattle.std.proofs.{lemmas.Bool.Decides.nat_tests, lemmas.List.drop-drop, lemmas.List.length-drop}
+use Rattle.mfotl_model.specs.{Satisfaction.Valuation, Tables.TableOf, Tables.has}
 use Rattle.eval_bool.specs.Firsts.{first_has}
 use Rattle.eval_bool.specs.OrView.{OrOf, or_advanced, or_due, or_pushed}
 use Rattle.relations.proofs.PushedLemmas.{over_push, stand_push}
 use Rattle.monitor_state.specs.OrFeeding.{OrPulled, operand_fed}
 
-fed_none_by : (s : OrOf) (first : Bool)
-    → s ≡ cond first (record s { lefts = s.lefts ++ [] }) (record s { rights = s.rights ++ [] })
-fed_none_by s true = rw append-nil
-fed_none_by s false = rw append-nil
-
 pub operand_none : (s : OrOf) (n : ℕ) → s ≡ operand_fed s n []
-operand_none s n = fed_none_by s (nat_eq n 0)
+operand_none s n = grind (arith, append-nil)
 
 -- an operand, chosen by a truth value, has more tables
 abbrev chosen_fed : OrOf → Bool → List TableOf → OrOf
 chosen_fed s first tables = cond first (record s { lefts = s.lefts ++ tables })
     (record s { rights = s.rights ++ tables })
 
-fed_one_by : (s : OrOf) (first : Bool) (tables : List TableOf) (table : TableOf)
-    → chosen_fed (chosen_fed s first tables) first (table ∷ []) ≡ chosen_fed s first (tables ++ table ∷ [])
-fed_one_by s true tables table = rw append_assoc
-fed_one_by s false tables table = rw append_assoc
-
 -- one table more of an operand
 pub operand_one : (s : OrOf) (n : ℕ) (tables : List TableOf) (table : TableOf)
     → or_pushed (operand_fed s n tables) n table ≡ operand_fed s n (tables ++ table ∷ [])
-operand_one s n tables table = fed_one_by s (nat_eq n 0) tables table
+operand_one s n tables table = grind (arith, append_assoc)
 
 pub or_pulled_none : (s : OrOf) → OrPulled s s []
-or_pulled_none s =
-    let none : s.pulled + 0 ≡ s.pulled = omega arith in
-    record { state = rw none; in_lefts = omega arith; in_rights = omega arith; over = tt; rows = λ v. tt }
+or_pulled_none s = grind arith
 
 or_due_parts : (s : OrOf) → true ≡ or_due s → (0 < length s.lefts) × (0 < length s.rights)
 or_due_parts s h = (grind (arith, nat_tests), grind (arith, nat_tests))

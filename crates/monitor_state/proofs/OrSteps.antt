@@ -1,28 +1,18 @@
 -- An OR's state over one step.
-use Rattle.std.proofs.Common.{◌≡◌, ℕ, ◌+◌, ◌<◌, true, false, ◌&&◌, ◌||◌, nat_lt, List, ◌++◌}
-use Rattle.std.proofs.Common.{length, drop, ap₂, ◌∙◌, arith, length-append}
-use Rattle.std.proofs.lemmas.Bool.Decides.{nat_tests}
-use Rattle.std.proofs.lemmas.List.{length-drop}
+use Rattle.std.proofs.Common.{◌≡◌, ℕ, ◌+◌, ◌<◌, true, false, ◌&&◌, ◌||◌, nat_lt, List, ◌++◌, length, drop, ap₂, ◌∙◌}
+use Rattle.std.proofs.Common.{arith, length-append}
+use Rattle.std.proofs.{lemmas.Bool.Decides.nat_tests, lemmas.List.length-drop}
 use Rattle.mfotl_model.specs.Exact.{View, Covers, AllExact}
-use Rattle.mfotl_model.specs.FreeVariables.{fv}
-use Rattle.mfotl_model.specs.Log.{times}
-use Rattle.mfotl_model.specs.Regions.{Passes}
-use Rattle.mfotl_model.specs.Satisfaction.{Valuation, sat}
-use Rattle.mfotl_model.specs.Tables.{TableOf, has}
-use Rattle.mfotl_model.specs.Times.{NeverFalls}
-use Rattle.mfotl_model.specs.declared.event.TimePoint.{TimePoint}
-use Rattle.mfotl_model.specs.declared.value.Value.{Value}
-use Rattle.eval_bool.specs.Firsts.{first_has}
-use Rattle.eval_bool.specs.OrView.{OrOf}
+use Rattle.mfotl_model.specs.{FreeVariables.fv, Log.times, Regions.Passes, Satisfaction.Valuation, Satisfaction.sat}
+use Rattle.mfotl_model.specs.{Tables.TableOf, Tables.has, Times.NeverFalls}
+use Rattle.mfotl_model.specs.declared.{event.TimePoint.TimePoint, value.Value.Value}
+use Rattle.eval_bool.specs.{Firsts.first_has, OrView.OrOf}
 use Rattle.monitorable.specs.CoreForms.{CoreForm, meaning, Or}
-use Rattle.monitor_state.proofs.CountLemmas.{count_or}
+use Rattle.monitor_state.proofs.{CountLemmas.count_or, GrowthLemmas.exact_more, GrowthLemmas.first_exact}
+use Rattle.monitor_state.proofs.{RegionLemmas.near_left, RegionLemmas.near_right}
 use Rattle.monitor_state.proofs.ExactLemmas.{exact_drop, shifted, stand_exact}
-use Rattle.monitor_state.proofs.GrowthLemmas.{exact_more, first_exact}
-use Rattle.monitor_state.proofs.RegionLemmas.{near_left, near_right}
-use Rattle.monitor_state.specs.OrFeeding.{OrTakes}
-use Rattle.monitor_state.specs.Stands.{IsOr, OrStands}
-use Rattle.monitor_state.specs.Steps.{News, longer}
-use Rattle.monitor_state.specs.Views.{reached}
+use Rattle.monitor_state.specs.{OrFeeding.OrTakes, Stands.IsOr, Stands.OrStands, Steps.News, Steps.longer}
+use Rattle.monitor_state.specs.{Views.reached}
 
 -- where none is due, an operand's table is missing
 none_due : (n m : ℕ) → (nat_lt 0 n && nat_lt 0 m) ≡ false → 0 < n → 0 < m → ⊥
@@ -40,19 +30,10 @@ module _ {view : View} {point : TimePoint} {f g : CoreForm} {old new : OrOf} {ls
 
   -- what was pushed and not pulled
   kept_lefts : new.pulled + length new.lefts ≡ reached (longer view point) f
-  kept_lefts =
-      rw takes.pulls.state
-      (omega (arith, takes.pulls.in_lefts, length-append old.lefts ls, length-drop (length tables) (old.lefts ++ ls)))
+  kept_lefts = grind (arith, length-append, length-drop)
 
   kept_rights : new.pulled + length new.rights ≡ reached (longer view point) g
-  kept_rights =
-      rw takes.pulls.state
-      (omega (
-        arith,
-        takes.pulls.in_rights,
-        length-append old.rights rs,
-        length-drop (length tables) (old.rights ++ rs),
-      ))
+  kept_rights = grind (arith, length-append, length-drop)
 
   all_pulled : new.pulled ≡ reached (longer view point) (Or f g)
   all_pulled =
@@ -64,8 +45,7 @@ module _ {view : View} {point : TimePoint} {f g : CoreForm} {old new : OrOf} {ls
 
   -- what is pulled at each place is what the OR means there
   row_means : (dom : List Value) (v : Valuation) → Covers (longer view point) dom
-      → view.near (fv (meaning (Or f g))) v ≡ true
-      → (k : ℕ) → k < length tables
+      → view.near (fv (meaning (Or f g))) v ≡ true → (k : ℕ) → k < length tables
       → (first_has v (drop k (old.lefts ++ ls)) || first_has v (drop k (old.rights ++ rs)))
       ≡ sat (longer view point).log dom v (old.pulled + k) (meaning (Or f g))
   unfolding fv sat
@@ -91,20 +71,4 @@ module _ {view : View} {point : TimePoint} {f g : CoreForm} {old new : OrOf} {ls
       (λ k table low high row. row ∙ row_means dom v covers near k (omega arith)) (takes.pulls.rows v)))
 
   pub or_steps : IsOr f g new × OrStands (longer view point) f g new × News view point (Or f g) tables
-  or_steps = (
-    rw takes.pulls.state (record { columns = is.columns; right = is.right }),
-    record {
-      pulled = all_pulled;
-      left_pushed = kept_lefts;
-      right_pushed = kept_rights;
-      lefts = rw takes.pulls.state
-          (exact_drop (longer view point) (meaning f) old.pulled (length tables) (old.lefts ++ ls) fed_lefts);
-      rights = rw takes.pulls.state
-          (exact_drop (longer view point) (meaning g) old.pulled (length tables) (old.rights ++ rs) fed_rights);
-    },
-    record {
-      count = (let pulled : new.pulled ≡ old.pulled + length tables = rw takes.pulls.state in
-          omega (arith, all_pulled));
-      exact = rw stands.pulled at or_exact;
-    },
-  )
+  or_steps = grind (arith, all_pulled, kept_lefts, kept_rights, exact_drop, fed_lefts, fed_rights, or_exact)

@@ -1,11 +1,10 @@
 -- Tables with their columns in another order.
-use Rattle.std.proofs.Common.{Result, Ok, Err, IfOk, OnOk, Option, Some, option_to_list, ◌≡◌, List, ◌∷◌, ◌++◌, ap, ◌∙◌}
+use Rattle.std.proofs.Common.{Result, IfOk, OnOk, Option, Some, option_to_list, ◌≡◌, List, ◌∷◌, ◌++◌, ap, ◌∙◌, arith}
 
 -- what follows from two facts of a value that a result has
 pub ok_two : {X E : Type 0} (r : Result X E) (P Q R : X → Type 0) → ((x : X) → P x → Q x → R x) → IfOk r P → IfOk r Q
     → IfOk r R
-ok_two (Ok x) P Q R h p q = h x p q
-ok_two (Err e) P Q R h p q = p
+ok_two r P Q R h p q = grind arith
 
 -- what was taken from the front of a list
 pub taken_one : {X : Type 0} (r : Option X) (x : X) (all rest : List X) → r ≡ Some x → all ≡ option_to_list r ++ rest
@@ -14,5 +13,4 @@ taken_one r x all rest is e = e ∙ ap (λ o. option_to_list o ++ rest) is
 
 pub ok_both : {X E : Type 0} (r : Result X E) (P : X → Type 0) (Q : Type 0) (R : X → Type 0) → ((x : X) → P x → Q → R x)
     → IfOk r P → OnOk r Q → IfOk r R
-ok_both (Ok x) P Q R h p q = h x p q
-ok_both (Err e) P Q R h p q = p
+ok_both r P Q R h p q = grind arith

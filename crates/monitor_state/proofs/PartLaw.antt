@@ -1,21 +1,17 @@
 -- A state stands for each part of its region.
-use Rattle.std.proofs.Common.{ℕ, ◌+◌, ◌-◌, List, [], ◌∷◌}
+use Rattle.std.proofs.Common.{ℕ, ◌+◌, List, [], ◌∷◌}
 use Rattle.mfotl_model.specs.Exact.{AllExact, Exact, View}
-use Rattle.mfotl_model.specs.Formulas.{Form}
-use Rattle.mfotl_model.specs.FreeVariables.{fv}
-use Rattle.mfotl_model.specs.Regions.{Region}
-use Rattle.mfotl_model.specs.Tables.{TableOf}
+use Rattle.mfotl_model.specs.{Formulas.Form, FreeVariables.fv, Regions.Region, Tables.TableOf}
 use Rattle.mfotl_model.specs.declared.interval.Interval.{Interval}
 use Rattle.eval_since.specs.declared.recalled.SinceData.{SinceData}
 use Rattle.eval_until.specs.declared.recalled.UntilData.{UntilData}
 use Rattle.monitorable.specs.CoreForms.{CoreForm, meaning, Not, And, Or, Previous, Next, Since, Until}
-use Rattle.monitor_state.specs.Nodes.{left_operand, nodes_of}
+use Rattle.monitor_state.specs.Nodes.{left_operand}
 use Rattle.monitor_state.specs.StateLaws.{IsSubregion, PartStands, seen_in}
 use Rattle.monitor_state.specs.StateStands.{NodeDataStands, NodesDataStand, SinceDataStands, TablesStand}
 use Rattle.monitor_state.specs.StateStands.{UntilDataStands, WindowDataStands}
-use Rattle.monitor_state.specs.declared.state.NodeData.{NodeData}
+use Rattle.monitor_state.specs.declared.{state.NodeData.NodeData, state.WindowData.WindowData}
 use Rattle.monitor_state.specs.declared.state.NodeData.TheVariants as kept
-use Rattle.monitor_state.specs.declared.state.WindowData.{WindowData}
 use Rattle.monitor_state.specs.declared.state.WindowData.TheVariants as window
 
 module _ (view : View) (small : Region) (part : IsSubregion small view.near) where
@@ -69,24 +65,12 @@ module _ (view : View) (small : Region) (part : IsSubregion small view.near) whe
 
   node_part : (f : CoreForm) (n : NodeData) → NodeDataStands view f n → NodeDataStands (seen_in view small) f n
   node_part f kept.Bare stands = tt
-  node_part (Not f) (kept.Join s) stands =
-      record { pulled = stands.pulled; children = lists_part s.pulled _ _ stands.children }
-  node_part (And f g) (kept.Join s) stands =
-      record { pulled = stands.pulled; children = lists_part s.pulled _ _ stands.children }
-  node_part (And f g) (kept.Filter tables w) stands =
-      record {
-        pushed = stands.pushed;
-        exact = all_part (meaning f) _ tables.items stands.exact;
-        behind = window_part _ (left_operand g) w stands.behind;
-      }
-  node_part (Or f g) (kept.Or s) stands =
-      let lefts = all_part (meaning f) s.pulled s.lefts.items stands.lefts in
-      let rights = all_part (meaning g) s.pulled s.rights.items stands.rights in
-      assumption
-  node_part (Previous i f) (kept.Previous s) stands =
-      let tables = all_part (meaning f) (s.pulled - 1) s.tables.items stands.tables in assumption
-  node_part (Next i f) (kept.Next s) stands =
-      let tables = all_part (meaning f) (s.pulled + 1) s.tables.items stands.tables in assumption
+  node_part (Not f) (kept.Join s) stands = search (lists_part)
+  node_part (And f g) (kept.Join s) stands = search (lists_part)
+  node_part (And f g) (kept.Filter tables w) stands = search (all_part, window_part)
+  node_part (Or f g) (kept.Or s) stands = search (all_part)
+  node_part (Previous i f) (kept.Previous s) stands = search (all_part)
+  node_part (Next i f) (kept.Next s) stands = search (all_part)
   node_part (Since i f g) (kept.Window w) stands = window_part _ (Since i f g) w stands
   node_part (Until i f g) (kept.Window w) stands = window_part _ (Until i f g) w stands
   node_part f n stands = absurd stands
@@ -98,10 +82,4 @@ module _ (view : View) (small : Region) (part : IsSubregion small view.near) whe
   nodes_part fs ns all = absurd assumption
 
 pub part_stands : PartStands
-part_stands view core small s part stands =
-    record {
-      taken = stands.taken;
-      given = stands.given;
-      times = stands.times;
-      nodes = nodes_part view small part (nodes_of core) s.nodes.items stands.nodes;
-    }
+part_stands view core small s part stands = search (nodes_part)

@@ -1,22 +1,14 @@
 -- A core as it is evaluated means what the core means, and has what the fragment gives that.
 use Rattle.std.proofs.Common.{◌≡◌, ℕ, List, ◌∙◌}
-use Rattle.mfotl_model.specs.Exact.{View}
-use Rattle.mfotl_model.specs.FreeVariables.{fv}
-use Rattle.mfotl_model.specs.Satisfaction.{Valuation, sat}
-use Rattle.mfotl_model.specs.Settled.{settled}
-use Rattle.mfotl_model.specs.declared.event.Event.{Event}
-use Rattle.mfotl_model.specs.declared.event.TimePoint.{TimePoint}
-use Rattle.mfotl_model.specs.declared.value.Value.{Value}
-use Rattle.monitorable.specs.CoreForms.{CoreForm, meaning}
-use Rattle.monitorable.specs.Soundness.{IsWellFormedIn}
+use Rattle.mfotl_model.specs.{Exact.View, FreeVariables.fv, Satisfaction.Valuation, Satisfaction.sat, Settled.settled}
+use Rattle.mfotl_model.specs.declared.{event.Event.Event, event.TimePoint.TimePoint, value.Value.Value}
+use Rattle.monitorable.specs.{CoreForms.CoreForm, CoreForms.meaning, Soundness.IsWellFormedIn}
 use Rattle.monitorable.specs.declared.role.Role.TheVariants as role
 use Rattle.monitor_state.proofs.ArrangedBegins.{fault_arranged, same_arranged, sound_arranged}
 use Rattle.monitor_state.proofs.ArrangedLemmas.{fv_arranged, sat_arranged, settled_arranged}
 use Rattle.monitor_state.proofs.NarrowedBegins.{narrowed_accepted, same_narrowed, sound_narrowed}
 use Rattle.monitor_state.proofs.NarrowedLemmas.{fv_narrowed, sat_narrowed, settled_narrowed}
-use Rattle.monitor_state.specs.Beginnings.{Accepted}
-use Rattle.monitor_state.specs.Nodes.{narrowed, posed}
-use Rattle.monitor_state.specs.Steps.{SameNear}
+use Rattle.monitor_state.specs.{Beginnings.Accepted, Nodes.narrowed, Nodes.posed, Steps.SameNear}
 
 pub sat_posed : (log : List TimePoint) (dom : List Value) (v : Valuation) (i : ℕ) (f : CoreForm)
     → sat log dom v i (meaning (posed f)) ≡ sat log dom v i (meaning f)

@@ -1,31 +1,17 @@
 -- Tables pushed to a PREVIOUS and pulled from it, one after the other.
-use Rattle.std.proofs.Common.{◌≡◌, ℕ, ◌+◌, ◌-◌, ◌<◌, ◌≤◌, Bool, true, false, cond, nat_eq, List, []}
-use Rattle.std.proofs.Common.{◌∷◌, ◌++◌, length, drop, refl, ap, ◌∙◌, arith, length-append, append_assoc}
-use Rattle.std.proofs.lemmas.Bool.{eqb-false, eqb-true}
-use Rattle.std.proofs.lemmas.Bool.Decides.{nat_tests}
-use Rattle.std.proofs.lemmas.List.{drop-drop, length-drop}
-use Rattle.mfotl_model.specs.Satisfaction.{Valuation, previous, truth_at}
-use Rattle.mfotl_model.specs.Tables.{TableOf, has}
+use Rattle.std.proofs.Common.{◌≡◌, ℕ, ◌+◌, ◌<◌, ◌≤◌, Bool, true, false, cond, nat_eq, List, [], ◌∷◌, ◌++◌, length, drop}
+use Rattle.std.proofs.Common.{refl, ap, ◌∙◌, arith, length-append, append_assoc}
+use Rattle.std.proofs.{lemmas.Bool.eqb-false, lemmas.Bool.eqb-true, lemmas.Bool.Decides.nat_tests}
+use Rattle.std.proofs.{lemmas.List.drop-drop, lemmas.List.length-drop}
+use Rattle.mfotl_model.specs.{Satisfaction.Valuation, Satisfaction.previous, Tables.TableOf, Tables.has}
 use Rattle.eval_since.specs.PreviousView.{AdvancesPrevious, FollowsPrevious, PrevOf, previous_due}
 use Rattle.relations.proofs.PushedLemmas.{over_push, stand_push}
 use Rattle.monitor_state.proofs.GrowthLemmas.{stand_split}
-use Rattle.monitor_state.proofs.StampLemmas.{stamps_more, stamps_pulled}
 use Rattle.monitor_state.specs.PreviousFeeding.{PreviousPulled, PreviousPushed, tables_used}
-use Rattle.monitor_state.specs.Stamps.{stamps}
 
 pub pushed_more : {old s new : PrevOf} {front tables : List TableOf} → PreviousPushed old s front
-    → PreviousPushed s new tables
-    → PreviousPushed old new (front ++ tables)
-pushed_more {old} {s} {new} {front} {tables} before more =
-    let place : old.pulled - 1 + length (old.tables ++ front) ≡ old.pulled - 1 + length old.tables + length front =
-    omega (arith, length-append old.tables front) in
-    record {
-      pushed = rw (more.pushed, before.pushed, append_assoc);
-      follows = λ t a v h stand.
-          let parts = stand_split (λ i x. has x v ≡ truth_at a i) (old.pulled - 1 + length old.tables) front tables
-          stand in
-          more.follows t a v (before.follows t a v h parts.0) (rw (before.pushed, place) parts.1);
-    }
+    → PreviousPushed s new tables → PreviousPushed old new (front ++ tables)
+pushed_more {old} {s} {new} {front} {tables} before more = grind (arith, length-append, append_assoc, stand_split)
 
 -- what is due has a time, and a table where it is not the first
 due_parts : (s : PrevOf) → true ≡ previous_due s → (0 < length s.times) × (tables_used s.pulled 1 ≤ length s.tables)
@@ -41,10 +27,8 @@ one_dropped false k j xs ys is same more = rw (is, more refl, drop-drop)
 pub pulled_more : {old s new : PrevOf} {tables items : List TableOf} (table : TableOf) → PreviousPulled old s tables
     → true ≡ previous_due s → AdvancesPrevious s new
     → ((t : List ℕ) (a : List Bool) (v : Valuation) → FollowsPrevious s t a v → FollowsPrevious new t a v)
-    → table.columns ≡ s.columns
-    → ((t : List ℕ) (a : List Bool) (v : Valuation) → FollowsPrevious s t a v
-    → has table v ≡ previous s.interval t a s.pulled)
-    → items ≡ tables ++ table ∷ [] → PreviousPulled old new items
+    → table.columns ≡ s.columns → ((t : List ℕ) (a : List Bool) (v : Valuation) → FollowsPrevious s t a v
+    → has table v ≡ previous s.interval t a s.pulled) → items ≡ tables ++ table ∷ [] → PreviousPulled old new items
 pulled_more {old} {s} {new} {tables} {items} table before ready advances follows over rows made =
     let n : length items ≡ length tables + 1 = rw made (omega (arith, length-append tables (table ∷ []))) in
     let parts = due_parts s ready in
@@ -54,10 +38,7 @@ pulled_more {old} {s} {new} {tables} {items} table before ready advances follows
       pulled = omega arith;
       times = rw (n, advances.times, before.times, drop-drop);
       known =
-          stamps_more old.pulled (length tables) s.pulled (length items) s.last
-          (stamps old.pulled old.last old.times) (stamps s.pulled s.last s.times)
-          (stamps new.pulled new.last new.times) before.pulled before.known
-          (stamps_pulled s.pulled new.pulled s.last new.last s.times new.times advances.pulled advances.stamps) n;
+          grind (arith, drop-drop);
       kept =
           advances.tables
           ∙ one_dropped (nat_eq s.pulled 0) (tables_used old.pulled (length tables))
@@ -74,6 +55,5 @@ pulled_more {old} {s} {new} {tables} {items} table before ready advances follows
     }
 
 -- a turn leaves fewer times
-pub pulled_fewer : {s new : PrevOf} → true ≡ previous_due s → AdvancesPrevious s new
-    → length new.times < length s.times
+pub pulled_fewer : {s new : PrevOf} → true ≡ previous_due s → AdvancesPrevious s new → length new.times < length s.times
 pulled_fewer {s} ready advances = rw advances.times (omega (arith, (due_parts s ready).0, length-drop 1 s.times))

@@ -1,28 +1,19 @@
 -- A PREVIOUS's state over one step.
 use Rattle.std.proofs.Common.{◌≡◌, ℕ, ◌+◌, ◌-◌, ◌<◌, Bool, true, false, ◌&&◌, ◌||◌, nat_eq, nat_lt, List, [], ◌∷◌, ◌++◌}
 use Rattle.std.proofs.Common.{length, drop, refl, ◌∙◌, arith, length-append}
-use Rattle.std.proofs.lemmas.Bool.Decides.{nat_tests}
-use Rattle.std.proofs.lemmas.List.{length-drop, length-map}
+use Rattle.std.proofs.{lemmas.Bool.Decides.nat_tests, lemmas.List.length-drop, lemmas.List.length-map}
 use Rattle.mfotl_model.specs.Exact.{View, Covers, AllExact}
-use Rattle.mfotl_model.specs.FreeVariables.{fv}
-use Rattle.mfotl_model.specs.Log.{times}
-use Rattle.mfotl_model.specs.Satisfaction.{Valuation, sat}
-use Rattle.mfotl_model.specs.Tables.{TableOf}
-use Rattle.mfotl_model.specs.Times.{NeverFalls}
-use Rattle.mfotl_model.specs.declared.event.TimePoint.{TimePoint}
-use Rattle.mfotl_model.specs.declared.interval.Interval.{Interval}
-use Rattle.mfotl_model.specs.declared.value.Value.{Value}
+use Rattle.mfotl_model.specs.{FreeVariables.fv, Log.times, Satisfaction.Valuation, Satisfaction.sat, Tables.TableOf}
+use Rattle.mfotl_model.specs.{Times.NeverFalls}
+use Rattle.mfotl_model.specs.declared.{event.TimePoint.TimePoint, interval.Interval.Interval, value.Value.Value}
 use Rattle.eval_since.specs.PreviousView.{FollowsPrevious, PrevOf}
 use Rattle.monitorable.specs.CoreForms.{CoreForm, meaning, Previous}
-use Rattle.monitor_state.proofs.CountLemmas.{count_previous}
+use Rattle.monitor_state.proofs.{CountLemmas.count_previous, GrowthLemmas.exact_more, GrowthLemmas.told}
 use Rattle.monitor_state.proofs.ExactLemmas.{covers_before, dates_before, dates_new, exact_drop, exact_tell, log_more}
 use Rattle.monitor_state.proofs.ExactLemmas.{stand_exact, tells_before, truths_tell}
-use Rattle.monitor_state.proofs.GrowthLemmas.{exact_more, told}
 use Rattle.monitor_state.proofs.StampLemmas.{known_more, stamps_moved, stamps_pushed}
-use Rattle.monitor_state.specs.PreviousFeeding.{PreviousTakes, tables_used}
-use Rattle.monitor_state.specs.Stands.{IsPrevious, PreviousStands}
-use Rattle.monitor_state.specs.Stamps.{stamps}
-use Rattle.monitor_state.specs.Steps.{News, longer}
+use Rattle.monitor_state.specs.{PreviousFeeding.PreviousTakes, PreviousFeeding.tables_used, Stands.IsPrevious}
+use Rattle.monitor_state.specs.{Stands.PreviousStands, Stamps.stamps, Steps.News, Steps.longer}
 use Rattle.monitor_state.specs.Views.{Dates, Tells, reached}
 
 -- where none is due, no time is kept, or a table is missing
@@ -53,10 +44,7 @@ module _ {view : View} {point : TimePoint} {i : Interval} {f : CoreForm} {old ne
 
   fed_known : stamps takes.fed.pulled takes.fed.last takes.fed.times
       ≡ drop (takes.fed.pulled - 1) (times (longer view point).log)
-  fed_known =
-      rw fed_is (stamps_pushed old.pulled old.last ts old.times
-      ∙ known_more view point rising old.pulled ts (stamps old.pulled old.last old.times) ts_is (omega arith)
-      stands.known)
+  fed_known = grind (arith, fed_is, stamps_pushed, known_more)
 
   -- what was pushed
   fed_timed : takes.fed.pulled + length takes.fed.times ≡ length (longer view point).log
@@ -73,9 +61,7 @@ module _ {view : View} {point : TimePoint} {i : Interval} {f : CoreForm} {old ne
   new_timed = rw takes.pulls.times (omega (arith, length-drop (length tables) takes.fed.times, fed_timed))
 
   new_count : new.pulled - 1 + length new.tables ≡ reached (longer view point) f
-  new_count =
-      rw takes.pulls.kept
-      (omega (arith, length-drop (tables_used takes.fed.pulled (length tables)) takes.fed.tables, fed_count))
+  new_count = grind (arith, length-drop, fed_count)
 
   all_pulled : new.pulled ≡ reached (longer view point) (Previous i f)
   all_pulled =

@@ -2,37 +2,23 @@
 use Rattle.std.proofs.Common.{◌≡◌, ℕ, ◌+◌, ◌-◌, ◌<◌, ◌≤◌, Bool, min, nat_le, List, [], length, map, sym, subst, ap, ap₂}
 use Rattle.std.proofs.Common.{◌∙◌, arith, slice_index}
 use Rattle.std.specs.Option.{unwrap_or}
-use Rattle.mfotl_model.specs.Exact.{AllExact, View}
-use Rattle.mfotl_model.specs.FreeVariables.{fv}
-use Rattle.mfotl_model.specs.Log.{times}
-use Rattle.mfotl_model.specs.Satisfaction.{Valuation, time_at}
-use Rattle.mfotl_model.specs.declared.interval.Interval.{Interval}
-use Rattle.mfotl_model.specs.declared.value.Value.{Value}
-use Rattle.eval_since.specs.Recalled.{times_kept}
-use Rattle.eval_since.specs.SinceBefore.{since_before}
-use Rattle.eval_since.specs.SinceView.{Follows, SinceOf}
-use Rattle.eval_since.specs.Times.{reaches}
-use Rattle.eval_since.specs.WindowView.{kept_times}
-use Rattle.eval_until.specs.Entries.{met_by}
-use Rattle.eval_until.specs.Recalled.{entries_kept, starts_kept}
-use Rattle.eval_until.specs.Starts.{start_of}
-use Rattle.eval_until.specs.UntilBefore.{until_before}
-use Rattle.eval_until.specs.UntilData.{setting_of, until_of}
+use Rattle.mfotl_model.specs.{Exact.AllExact, Exact.View, FreeVariables.fv, Log.times, Satisfaction.Valuation}
+use Rattle.mfotl_model.specs.{Satisfaction.time_at}
+use Rattle.mfotl_model.specs.declared.{interval.Interval.Interval, value.Value.Value}
+use Rattle.eval_since.specs.{Recalled.times_kept, SinceBefore.since_before, SinceView.Follows, SinceView.SinceOf}
+use Rattle.eval_since.specs.{Times.reaches, WindowView.kept_times}
+use Rattle.eval_until.specs.{Entries.met_by, Recalled.entries_kept, Recalled.starts_kept, Starts.start_of}
+use Rattle.eval_until.specs.{UntilBefore.until_before, UntilData.setting_of, UntilData.until_of}
 use Rattle.eval_until.specs.UntilView.{Follows as FollowsUntil, FollowsLeft, UntilOf}
 use Rattle.monitorable.specs.CoreForms.{CoreForm, meaning}
 use Rattle.relations.proofs.KeptLemmas.{filled_back}
 use Rattle.relations.specs.KeptRows.{kept_for, list_for}
-use Rattle.monitor_state.proofs.ExactLemmas.{reached_within}
-use Rattle.monitor_state.proofs.MarkLemmas.{found_behind, met_is}
-use Rattle.monitor_state.proofs.SinceSteps.{free_operand}
-use Rattle.monitor_state.specs.Nodes.{left_operand}
-use Rattle.monitor_state.specs.Recording.{SinceRecorded, UntilRecorded}
-use Rattle.monitor_state.specs.SinceNode.{IsSinceState, SinceStandsAt}
-use Rattle.monitor_state.specs.StateStands.{SinceDataStands, UntilDataStands}
-use Rattle.monitor_state.specs.UntilNode.{IsUntilState, UntilStandsAt}
-use Rattle.monitor_state.specs.Views.{Dates, reached}
-use Rattle.monitor_state.specs.declared.state.SinceKept.{SinceKept}
-use Rattle.monitor_state.specs.declared.state.UntilKept.{UntilKept}
+use Rattle.monitor_state.proofs.{ExactLemmas.reached_within, MarkLemmas.found_behind, MarkLemmas.met_is}
+use Rattle.monitor_state.proofs.{SinceSteps.free_operand}
+use Rattle.monitor_state.specs.{Recording.SinceRecorded, Recording.UntilRecorded, SinceNode.IsSinceState}
+use Rattle.monitor_state.specs.{SinceNode.SinceStandsAt, StateStands.SinceDataStands, StateStands.UntilDataStands}
+use Rattle.monitor_state.specs.{UntilNode.IsUntilState, UntilNode.UntilStandsAt, Views.Dates, Views.reached}
+use Rattle.monitor_state.specs.declared.{state.SinceKept.SinceKept, state.UntilKept.UntilKept}
 
 pub since_recorded : (view : View) (p : ℕ) (i : Interval) (f g : CoreForm) (s : SinceOf) (k : SinceKept)
     → IsSinceState i f g s → SinceStandsAt view p i f g s → SinceRecorded s k → SinceDataStands view p i f g k.kept
@@ -57,10 +43,7 @@ since_recorded view p i f g s k is stands rec =
         ∙ ap₂ (λ c cols. reaches c (kept_times s.window (map v cols)) x) (sym is.interval) (sym is.right)
         ∙ follows.window x (λ some.
         let same : k.kept.pulled ≡ s.pulled = rec.pulled in
-        let last : s.window.last ≡ time_at t (s.pulled - 1) = follows.last some in
-        let was : time_at t (k.kept.pulled - 1) ≡ time_at t (s.pulled - 1) = ap (λ n. time_at t (n - 1)) same in
-        let most : time_at t (k.kept.pulled - 1) ≤ x = low (omega arith) in
-        omega arith)
+        omega (arith, follows.last some, ap (λ n. time_at t (n - 1)) same, low (omega arith)))
         ∙ ap₂ (λ c n. since_before c t a b n x) is.interval (sym rec.pulled)
 
 pub until_recorded : (view : View) (p : ℕ) (i : Interval) (f g : CoreForm) (s : UntilOf) (k : UntilKept)
@@ -72,9 +55,7 @@ until_recorded view p i f g s k is stands taken rec =
       taken = taken_is ∙ taken;
       left_pushed = ap (λ (x : UntilOf). x.ahead.taken + length x.lefts) rec.same ∙ stands.left_pushed;
       right_pushed = ap (λ (x : UntilOf). x.ahead.taken + length x.rights) rec.same ∙ stands.right_pushed;
-      lefts =
-          subst (λ (x : UntilOf). AllExact view (meaning (left_operand f)) x.ahead.taken x.lefts) (sym rec.same)
-          stands.lefts;
+      lefts = grind arith;
       rights = subst (λ (x : UntilOf). AllExact view (meaning g) x.ahead.taken x.rights) (sym rec.same) stands.rights;
       runs = λ dom v covers near a tells j low.
           let follows : FollowsLeft described a v = subst (λ x. FollowsLeft x a v) (sym rec.same)
@@ -110,8 +91,5 @@ until_recorded view p i f g s k is stands taken rec =
     known t dates q behind below =
         let was : k.kept.pulled ≡ s.ahead.pulled = pulled_is in
         let now : k.kept.taken ≡ s.ahead.taken = taken_is in
-        let settled : s.ahead.taken ≡ min (reached view f) (reached view g) = taken in
         let most : reached view f ≤ length view.log = reached_within view f in
-        ap (λ n. slice_index s.times (q - n)) was
-        ∙ found_behind s.ahead.pulled q (times view.log) s.times stands.kept (omega arith)
-        ∙ sym (dates q (omega arith))
+        grind (arith, slice_index, found_behind)

@@ -1,29 +1,23 @@
 -- The nodes' data, where the nodes stand for a log.
-use Rattle.std.proofs.Common.{◌≡◌, ℕ, ◌+◌, ◌≤◌, true, List, [], ◌∷◌, ◌++◌, length, sym, subst, ap, ◌∙◌}
-use Rattle.mfotl_model.specs.Exact.{View}
-use Rattle.mfotl_model.specs.Tables.{TableOf}
-use Rattle.eval_bool.specs.BoolData.{JoinRule, TablesOver, join_of, kept_tables, with_tables}
+use Rattle.std.proofs.Common.{◌≡◌, ℕ, ◌≤◌, true, List, [], ◌∷◌, ◌++◌, length, arith}
+use Rattle.mfotl_model.specs.{Exact.View, Tables.TableOf}
+use Rattle.eval_bool.specs.BoolData.{JoinRule, TablesOver, join_of, with_tables}
 use Rattle.eval_bool.specs.JoinView.{ChildOf, JoinOf}
 use Rattle.eval_bool.specs.declared.recalled.JoinData.{JoinData}
 use Rattle.monitorable.specs.CoreForms.{CoreForm, Not, And, Or, Previous, Next, Since, Until}
-use Rattle.monitor_state.proofs.ExactLemmas.{reached_within}
-use Rattle.monitor_state.proofs.RecordLemmas.{since_recorded, until_recorded}
-use Rattle.monitor_state.proofs.UntilSteps.{until_all_taken}
-use Rattle.monitor_state.specs.Nodes.{left_operand, operands}
+use Rattle.monitor_state.proofs.{ExactLemmas.reached_within, RecordLemmas.since_recorded, RecordLemmas.until_recorded}
+use Rattle.monitor_state.proofs.{UntilSteps.until_all_taken}
 use Rattle.monitor_state.specs.Recording.{NodeRecorded, NodesRecorded, WindowRecorded}
-use Rattle.monitor_state.specs.Stands.{ChildrenStand, IsNodeFor, JoinStands, NextStands, NodeStands, NodesStand}
-use Rattle.monitor_state.specs.Stands.{OrStands, PreviousStands}
+use Rattle.monitor_state.specs.Stands.{ChildrenStand, IsNodeFor, JoinStands, NodeStands, NodesStand}
 use Rattle.monitor_state.specs.StateStands.{JoinDataStands, NodeDataStands, NodesDataStand, TablesStand}
 use Rattle.monitor_state.specs.StateStands.{WindowDataStands}
 use Rattle.monitor_state.specs.Views.{reached}
 use Rattle.monitor_state.specs.WindowNode.{IsWindow, WindowStands, window_took_all}
-use Rattle.monitor_state.specs.declared.node.Node.{Node}
+use Rattle.monitor_state.specs.declared.{node.Node.Node, state.NodeData.NodeData, state.WindowData.WindowData}
+use Rattle.monitor_state.specs.declared.{window.Window.Window}
 use Rattle.monitor_state.specs.declared.node.Node.TheVariants as node
-use Rattle.monitor_state.specs.declared.state.NodeData.{NodeData}
 use Rattle.monitor_state.specs.declared.state.NodeData.TheVariants as kept
-use Rattle.monitor_state.specs.declared.state.WindowData.{WindowData}
 use Rattle.monitor_state.specs.declared.state.WindowData.TheVariants as data_of
-use Rattle.monitor_state.specs.declared.window.Window.{Window}
 use Rattle.monitor_state.specs.declared.window.Window.TheVariants as window
 
 pub window_recorded : (view : View) (p : ℕ) (w : CoreForm) (s : Window) (k : WindowData) → p ≤ length view.log
@@ -39,8 +33,7 @@ window_recorded view p w s k inside all is stands rec = absurd assumption
 pub tables_stand : (view : View) (p : ℕ) (fs : List CoreForm) (cs : List ChildOf) (tss : List (List TableOf))
     → TablesOver cs tss → ChildrenStand view p fs (with_tables cs tss) → TablesStand view p fs tss
 tables_stand view p [] [] [] over stand = tt
-tables_stand view p (f ∷ fs) (c ∷ cs) (ts ∷ tss) over stand =
-    (stand.0.pushed, stand.0.exact, tables_stand view p fs cs tss over.1 stand.1)
+tables_stand view p (f ∷ fs) (c ∷ cs) (ts ∷ tss) over stand = search (tables_stand view p fs cs tss over.1 stand.1)
 tables_stand view p (f ∷ fs) [] [] over stand = absurd stand
 tables_stand view p [] (c ∷ cs) (ts ∷ tss) over stand = absurd stand
 tables_stand view p fs [] (ts ∷ tss) over stand = absurd over
@@ -48,13 +41,7 @@ tables_stand view p fs (c ∷ cs) [] over stand = absurd over
 
 join_recorded : (view : View) (f : CoreForm) (s : JoinOf) (k : JoinData) → JoinStands view f s → join_of s k ≡ s
     → JoinRule s.children k → JoinDataStands view f k
-join_recorded view f s k stands same rule =
-    record {
-      pulled = ap (λ (x : JoinOf). x.pulled) same ∙ stands.pulled;
-      children =
-          tables_stand view k.pulled (operands f) s.children (kept_tables k) rule.over
-          (subst (λ (x : JoinOf). ChildrenStand view x.pulled (operands f) x.children) (sym same) stands.children);
-    }
+join_recorded view f s k stands same rule = grind (arith, tables_stand)
 
 -- a node's data stands where the node does
 pub node_recorded : (view : View) (f : CoreForm) (n : Node) (k : NodeData) → IsNodeFor f n → NodeStands view f n
@@ -63,22 +50,12 @@ node_recorded view f (node.Constant table) kept.Bare is stands rec = tt
 node_recorded view f (node.Atom a) kept.Bare is stands rec = tt
 node_recorded view f (node.Exists x) kept.Bare is stands rec = tt
 node_recorded view (Not f) (node.Join s) (kept.Join k) is stands rec = join_recorded view (Not f) s k stands rec.0 rec.1
-node_recorded view (And f g) (node.Join s) (kept.Join k) is stands rec =
-    join_recorded view (And f g) s k stands rec.0 rec.1
+node_recorded view (And f g) (node.Join s) (kept.Join k) is stands rec = search (join_recorded)
 node_recorded view (And f g) (node.Filter s) (kept.Filter tables w) is stands rec =
-    record {
-      pushed = rw rec.0 stands.pushed;
-      exact = rw rec.0 stands.exact;
-      behind =
-          window_recorded view (reached view (And f g)) (left_operand g) s.window w (reached_within view (And f g))
-          stands.all is.asks stands.behind rec.1;
-    }
-node_recorded view (Or f g) (node.Or s) (kept.Or k) is stands rec =
-    let same = subst (OrStands view f g) (sym rec.0) stands in assumption
-node_recorded view (Previous i f) (node.Previous s) (kept.Previous k) is stands rec =
-    let same = subst (PreviousStands view i f) (sym rec.0) stands in assumption
-node_recorded view (Next i f) (node.Next s) (kept.Next k) is stands rec =
-    let same = subst (NextStands view i f) (sym rec.0) stands in assumption
+    grind (arith, window_recorded, reached_within)
+node_recorded view (Or f g) (node.Or s) (kept.Or k) is stands rec = grind arith
+node_recorded view (Previous i f) (node.Previous s) (kept.Previous k) is stands rec = grind arith
+node_recorded view (Next i f) (node.Next s) (kept.Next k) is stands rec = grind arith
 node_recorded view (Since i f g) (node.Since s order) (kept.Window (data_of.Since k)) is stands rec =
     since_recorded view (reached view (Since i f g)) i f g s k is.state stands rec
 node_recorded view (Until i f g) (node.Until s order) (kept.Window (data_of.Until k)) is stands rec =

@@ -1,42 +1,28 @@
 -- A monitor that is resumed with data that stands for a log does.
-use Rattle.std.proofs.Common.{◌≡◌, ℕ, zero, suc, ◌-◌, ◌<◌, ◌≤◌, List, [], ◌∷◌, ◌++◌, length, drop, refl, sym, subst, ap}
-use Rattle.std.proofs.Common.{ap₂, ◌∙◌, arith, append_assoc, append-nil}
+use Rattle.std.proofs.Common.{◌≡◌, ℕ, zero, suc, ◌-◌, ◌<◌, ◌≤◌, List, [], ◌∷◌, ◌++◌, length, drop, refl, ap, ap₂, ◌∙◌}
+use Rattle.std.proofs.Common.{arith, append_assoc, append-nil}
 use Rattle.std.proofs.lemmas.List.{length-drop}
 use Rattle.std.specs.List.{AllByRecursion}
-use Rattle.mfotl_model.specs.Exact.{View}
-use Rattle.mfotl_model.specs.Log.{times}
-use Rattle.mfotl_model.specs.Regions.{everywhere}
+use Rattle.mfotl_model.specs.{Exact.View, Log.times, Regions.everywhere, Times.NeverFalls}
 use Rattle.mfotl_model.specs.declared.event.TimePoint.{TimePoint}
 use Rattle.monitorable.specs.CoreForms.{CoreForm, meaning}
 use Rattle.monitorable.specs.declared.role.Role.TheVariants as role
-use Rattle.monitor_state.proofs.BeginLemmas.{begins}
-use Rattle.monitor_state.proofs.ExactLemmas.{reached_within}
-use Rattle.monitor_state.proofs.LawProofs.{itself}
-use Rattle.monitor_state.proofs.MonitorSteps.{premises_all}
-use Rattle.monitor_state.proofs.PosedSteps.{premises_posed}
-use Rattle.monitor_state.proofs.RecordKeeps.{earliest_least, earliest_reaches}
-use Rattle.monitor_state.proofs.ResumeTimes.{log_size}
-use Rattle.monitor_state.specs.Beginnings.{Adds}
-use Rattle.monitor_state.specs.Going.{AllPremises}
-use Rattle.monitor_state.specs.Nodes.{nodes_of, posed}
+use Rattle.monitor_state.proofs.{BeginLemmas.begins, ExactLemmas.reached_within, LawProofs.itself}
+use Rattle.monitor_state.proofs.{MonitorSteps.premises_all, PosedSteps.premises_posed, RecordKeeps.earliest_least}
+use Rattle.monitor_state.proofs.{RecordKeeps.earliest_reaches, ResumeTimes.log_size}
+use Rattle.monitor_state.specs.{Beginnings.Adds, Going.AllPremises, Nodes.nodes_of, Nodes.posed, StateRules.NodesKeep}
+use Rattle.monitor_state.specs.{StateRules.StateRule, StateStands.NodesDataStand, StateStands.StateStands}
+use Rattle.monitor_state.specs.{Views.reached, Steps.longer}
 use Rattle.monitor_state.specs.Resuming.{AllMatch, NodeResumed, NodesResumed, SuitsEvaluation, SuitsWhole}
 use Rattle.monitor_state.specs.Stands.{NodesStand, StateOf, Stands}
-use Rattle.monitor_state.specs.StateRules.{NodesKeep, StateRule}
-use Rattle.monitor_state.specs.StateStands.{NodesDataStand, StateStands}
 use Rattle.monitor_state.specs.StateTimes.{KeptTimes, earliest, node_asks, times_of}
-use Rattle.monitor_state.specs.Views.{reached}
-use Rattle.monitor_state.specs.declared.node.Node.{Node}
-use Rattle.monitor_state.specs.declared.state.NodeData.{NodeData}
-use Rattle.monitor_state.specs.declared.state.State.{State}
-use Rattle.mfotl_model.specs.Times.{NeverFalls}
-use Rattle.monitor_state.specs.Steps.{longer}
+use Rattle.monitor_state.specs.declared.{node.Node.Node, state.NodeData.NodeData, state.State.State}
 
 -- nodes of the core and data of the core match
 pub all_match : (view : View) (k : KeptTimes) (fs : List CoreForm) (ns : List Node) (ds : List NodeData)
     → NodesStand view fs ns → NodesKeep k fs ds → AllMatch k ns ds
 all_match view k [] [] [] stand keep = tt
-all_match view k (f ∷ fs) (n ∷ ns) (d ∷ ds) stand keep =
-    ((f, stand.0, keep.0), all_match view k fs ns ds stand.2 keep.1)
+all_match view k (f ∷ fs) (n ∷ ns) (d ∷ ds) stand keep = grind (arith, all_match view k fs ns ds stand.2 keep.1)
 all_match view k fs ns ds stand keep = absurd assumption
 
 -- what is taken for granted of each of the cores
@@ -47,10 +33,8 @@ premises_suit : (view : View) (point given : TimePoint) (whole : CoreForm) (fs :
     → (seen : View) → seen.near ≡ view.near → seen.whole ≡ view.whole
     → AllPremises seen point given whole fs → AllSuit view whole fs
 premises_suit view point given whole [] seen near same all = tt
-premises_suit view point given whole (f ∷ fs) seen near same all = (
-  record { passes = rw (← near, ← same) all.0.passes; sound = all.0.sound },
-  premises_suit view point given whole fs seen near same all.1,
-)
+premises_suit view point given whole (f ∷ fs) seen near same all =
+    grind (arith, premises_suit view point given whole fs seen near same all.1)
 
 -- of each of a core's nodes
 all_suit : (view : View) (core : CoreForm) → SuitsWhole view core → AllSuit view core (nodes_of core)
@@ -85,11 +69,7 @@ nodes_stand : (view : View) (k : KeptTimes) (whole : CoreForm) (fs : List CoreFo
     → NodesDataStand view fs ds → NodesStand view fs new
 nodes_stand view k whole [] [] [] [] are low suit seen stand keep res data_stand = tt
 nodes_stand view k whole (f ∷ fs) (o ∷ os) (n ∷ ns) (d ∷ ds) are low suit seen stand keep res data_stand =
-    let one = res.0 f stand.0 keep.0 in (
-      one.0,
-      one.1 view whole suit.0 (record { stamps = are; first = low.0 }) data_stand.0,
-      nodes_stand view k whole fs os ns ds are low.1 suit.1 seen stand.2 keep.1 res.1 data_stand.1,
-    )
+    grind (arith, nodes_stand view k whole fs os ns ds are low.1 suit.1 seen stand.2 keep.1 res.1 data_stand.1)
 nodes_stand view k whole [] [] (n ∷ ns) [] are low suit seen stand keep res data_stand = absurd res
 nodes_stand view k whole (f ∷ fs) (o ∷ os) [] (d ∷ ds) are low suit seen stand keep res data_stand = absurd res
 nodes_stand view k whole fs old new ds are low suit seen stand keep res data_stand = absurd assumption
@@ -108,8 +88,7 @@ fresh_stand core fresh adds =
 -- the timestamps of a state, from a first place on
 pub times_are : (kept : State) (first : ℕ) (stamps : List ℕ) → first ≡ kept.taken - length kept.times.items
     → stamps ≡ kept.times.items → times_of kept ≡ record { first = first; stamps = stamps }
-times_are kept first stamps first_is stamps_are =
-    ap₂ (λ n xs. record { first = n; stamps = xs }) (sym first_is) (sym stamps_are)
+times_are kept first stamps first_is stamps_are = search (ap₂)
 
 -- the monitor stands for the log
 pub state_resumed : (core : CoreForm) (kept : State) (fresh : List Node) (new : StateOf)
@@ -119,26 +98,14 @@ pub state_resumed : (core : CoreForm) (kept : State) (fresh : List Node) (new : 
     → (view : View) → SuitsWhole view core → StateStands view core kept → Stands view core new
 state_resumed core kept fresh new begun rule res taken given first stamps view suits stands =
     let least : earliest kept.given kept.nodes.items ≤ kept.given = earliest_least kept.given kept.nodes.items in
-    let at : kept.given ≡ reached view core = stands.given in
     let most : reached view core ≤ length view.log = reached_within view core in
     let all : length (times view.log) ≡ length view.log = log_size view in
-    let took : kept.taken ≡ length view.log = stands.taken in
     let rest : length kept.times.items ≡ length (times view.log) - earliest kept.given kept.nodes.items =
     ap length stands.times ∙ length-drop (earliest kept.given kept.nodes.items) (times view.log) in
     let first_is : (times_of kept).first ≡ earliest kept.given kept.nodes.items = omega arith in
-    let kept_from : kept.times.items ≡ drop (times_of kept).first (times view.log) =
-    stands.times ∙ ap (λ n. drop n (times view.log)) (sym first_is) in
+    let kept_from : kept.times.items ≡ drop (times_of kept).first (times view.log) = cc in
     let low : new.first ≤ new.given = omega arith in
-    record {
-      taken = taken ∙ stands.taken;
-      given = given ∙ stands.given;
-      first = low;
-      times = stamps ∙ kept_from ∙ ap (λ n. drop n (times view.log)) (sym first);
-      nodes =
-          nodes_stand view (times_of kept) core (nodes_of core) fresh new.nodes kept.nodes.items kept_from
-          (earliest_reaches (times_of kept).first kept.given kept.nodes.items first_is) (all_suit view core suits)
-          (empty_view core) begun rule res stands.nodes;
-    }
+    search (nodes_stand, earliest_reaches, all_suit)
 
 -- ---- node by node
 
@@ -151,13 +118,11 @@ pub nodes_on : (k : KeptTimes) (nodes : List Node) (ds : List NodeData) (rest : 
     (made : List Node) (n : Node) (d : NodeData) (new : Node)
     → NodeResumed k n d new → GoesBehind k nodes ds (n ∷ rest) (d ∷ left) made
     → GoesBehind k nodes ds rest left (made ++ new ∷ [])
-nodes_on k nodes ds rest left made n d new one behind more all =
-    subst (NodesResumed k nodes ds) (sym (append_assoc made (new ∷ []) more)) (behind (new ∷ more) (one, all))
+nodes_on k nodes ds rest left made n d new one behind more all = search (append_assoc)
 
 pub nodes_done : (k : KeptTimes) (nodes : List Node) (ds : List NodeData) (rest : List Node) (left : List NodeData)
     (made : List Node)
     → rest ≡ [] → AllMatch k rest left → GoesBehind k nodes ds rest left made → NodesResumed k nodes ds made
-nodes_done k nodes ds [] [] made none match behind =
-    subst (NodesResumed k nodes ds) (append-nil made) (behind [] tt)
+nodes_done k nodes ds [] [] made none match behind = grind (arith, append-nil made)
 nodes_done k nodes ds [] (d ∷ left) made none match behind = absurd match
 nodes_done k nodes ds (n ∷ rest) left made none match behind = absurd (cc)

@@ -1,64 +1,39 @@
 -- A SINCE or an UNTIL that is resumed with data that stands for a log does.
 use Rattle.std.proofs.Common.{◌≡◌, ℕ, ◌+◌, ◌-◌, ◌<◌, ◌≤◌, Bool, true, min, nat_le, List, length, map, drop, sym, subst}
 use Rattle.std.proofs.Common.{ap, ap₂, ◌∙◌, arith, slice_index}
-use Rattle.std.proofs.lemmas.Bool.{eq-eqb}
 use Rattle.std.proofs.lemmas.List.{get_or-drop}
-use Rattle.mfotl_model.specs.Exact.{Covers, View}
-use Rattle.mfotl_model.specs.FreeVariables.{fv}
-use Rattle.mfotl_model.specs.Log.{times}
+use Rattle.mfotl_model.specs.{Exact.Covers, Exact.View, FreeVariables.fv, Log.times}
 use Rattle.mfotl_model.specs.Satisfaction.{Valuation, time_at, truth_at}
-use Rattle.mfotl_model.specs.declared.interval.Interval.{Interval}
-use Rattle.mfotl_model.specs.declared.value.Value.{Value}
+use Rattle.mfotl_model.specs.declared.{interval.Interval.Interval, value.Value.Value}
 use Rattle.eval_since.proofs.RecalledLemmas.{recalls_is}
-use Rattle.eval_since.specs.Recalled.{recalls, times_for}
-use Rattle.eval_since.specs.SinceBefore.{since_before}
-use Rattle.eval_since.specs.SinceData.{FollowsData, SinceSetting, setting_of}
-use Rattle.eval_since.specs.SinceView.{SinceOf}
-use Rattle.eval_since.specs.Times.{reaches}
-use Rattle.eval_until.specs.Entries.{met_by}
-use Rattle.eval_until.specs.Recalled.{entries_kept, starts_kept}
-use Rattle.eval_until.specs.Starts.{start_of}
-use Rattle.eval_until.specs.UntilBefore.{until_before}
-use Rattle.eval_until.specs.UntilData.{UntilSetting, setting_of as until_setting_of, until_of}
-use Rattle.eval_until.specs.UntilView.{Follows as FollowsUntil, FollowsLeft, UntilOf, to_take, took_all}
+use Rattle.eval_since.specs.{Recalled.recalls, Recalled.times_for, SinceBefore.since_before, SinceData.FollowsData}
+use Rattle.eval_since.specs.{SinceData.setting_of, SinceView.SinceOf, Times.reaches}
+use Rattle.eval_until.specs.{Entries.met_by, Recalled.entries_kept, Recalled.starts_kept, Starts.start_of}
+use Rattle.eval_until.specs.{UntilBefore.until_before, UntilData.setting_of as until_setting_of, UntilData.until_of}
+use Rattle.eval_until.specs.UntilView.{Follows as FollowsUntil, FollowsLeft, UntilOf, took_all}
 use Rattle.monitorable.specs.CoreForms.{CoreForm, meaning, Since, Until}
-use Rattle.relations.specs.KeptRows.{list_for}
-use Rattle.relations.specs.Pushed.{StandFrom, left_holds}
-use Rattle.monitor_state.proofs.ExactLemmas.{exact_tell, reached_within}
-use Rattle.monitor_state.proofs.MarkLemmas.{met_is}
-use Rattle.monitor_state.proofs.RegionLemmas.{near_part}
+use Rattle.relations.specs.{KeptRows.list_for, Pushed.StandFrom, Pushed.left_holds}
+use Rattle.monitor_state.proofs.{ExactLemmas.exact_tell, ExactLemmas.reached_within, MarkLemmas.met_is}
+use Rattle.monitor_state.proofs.{RegionLemmas.near_part, SinceSteps.free_operand, SinceSteps.left_tell}
 use Rattle.monitor_state.proofs.ResumeTimes.{known_from, last_dates, rest_dates, rest_is, rest_size}
-use Rattle.monitor_state.proofs.SinceSteps.{free_operand, left_tell}
 use Rattle.monitor_state.specs.Resuming.{Reach, SinceResumed, SuitsEvaluation, UntilResumed}
-use Rattle.monitor_state.specs.SinceNode.{IsSinceState, SinceStandsAt}
-use Rattle.monitor_state.specs.Stamps.{stamps}
-use Rattle.monitor_state.specs.StateRules.{SinceKeeps, UntilKeeps}
-use Rattle.monitor_state.specs.StateStands.{SinceDataStands, UntilDataStands}
+use Rattle.monitor_state.specs.{SinceNode.IsSinceState, SinceNode.SinceStandsAt, Stamps.stamps, StateRules.SinceKeeps}
+use Rattle.monitor_state.specs.{StateRules.UntilKeeps, StateStands.SinceDataStands, StateStands.UntilDataStands}
+use Rattle.monitor_state.specs.{UntilNode.IsUntilState, UntilNode.UntilStandsAt}
 use Rattle.monitor_state.specs.StateTimes.{KeptTimes, time_before, times_from}
-use Rattle.monitor_state.specs.UntilNode.{IsUntilState, UntilStandsAt}
 use Rattle.monitor_state.specs.Views.{Dates, Tells, reached}
-use Rattle.monitor_state.specs.declared.state.SinceKept.{SinceKept}
-use Rattle.monitor_state.specs.declared.state.UntilKept.{UntilKept}
+use Rattle.monitor_state.specs.declared.{state.SinceKept.SinceKept, state.UntilKept.UntilKept}
 
 module _ (k : KeptTimes) (i : Interval) (f g : CoreForm) (old new : SinceOf) (d : SinceKept)
     (is : IsSinceState i f g old)
     (keeps : SinceKeeps k i f g d) (res : SinceResumed k old d.kept new) where
   pub since_resumed_is : IsSinceState i f g new
-  since_resumed_is =
-      record {
-        interval = ap (λ (c : SinceSetting). c.interval) res.setting ∙ is.interval;
-        negated = ap (λ (c : SinceSetting). c.negated) res.setting ∙ is.negated;
-        left = ap (λ (c : SinceSetting). c.left) res.setting ∙ is.left;
-        right = ap (λ (c : SinceSetting). c.right) res.setting ∙ is.right;
-      }
+  since_resumed_is = grind arith
 
   module _ (view : View) (whole : CoreForm) (p : ℕ) (suits : SuitsEvaluation view whole (Since i f g))
       (reach : Reach view k (d.kept.pulled - 1)) (stands : SinceDataStands view p i f g d.kept) where
     in_log : d.kept.pulled ≤ length view.log
-    in_log =
-        let lefts : d.kept.pulled + length d.kept.lefts.items ≡ reached view f = stands.left_pushed in
-        let most : reached view f ≤ length view.log = reached_within view f in
-        omega arith
+    in_log = omega (arith, reached_within view f)
 
     from_first : k.first ≤ d.kept.pulled
     from_first = let low : k.first ≤ d.kept.pulled - 1 = reach.first in omega arith
@@ -100,13 +75,10 @@ module _ (k : KeptTimes) (i : Interval) (f g : CoreForm) (old new : SinceOf) (d 
     pub since_resumed_stands : SinceStandsAt view p i f g new
     since_resumed_stands =
         let low : k.first ≤ d.kept.pulled = from_first in
-        let inside : d.kept.pulled ≤ length view.log = in_log in
         let pulled : new.pulled ≡ d.kept.pulled = res.pulled in
-        let rest : length new.times ≡ length view.log - d.kept.pulled =
-        ap length res.times ∙ rest_size view k d.kept.pulled reach.stamps low in
         record {
           pulled = res.pulled ∙ stands.pulled;
-          timed = omega arith;
+          timed = omega (arith, in_log, ap length res.times ∙ rest_size view k d.kept.pulled reach.stamps low);
           known =
               ap (λ n. stamps n new.window.last new.times) res.pulled
               ∙ known_from view k d.kept.pulled reach.stamps new.window.last new.times reach.first in_log res.last
@@ -124,13 +96,7 @@ module _ (k : KeptTimes) (i : Interval) (f g : CoreForm) (old new : UntilOf) (d 
     (is : IsUntilState i f g old)
     (keeps : UntilKeeps k i f g d) (res : UntilResumed k old d.kept new) where
   pub until_resumed_is : IsUntilState i f g new
-  until_resumed_is =
-      record {
-        interval = ap (λ (c : UntilSetting). c.interval) res.setting ∙ is.interval;
-        negated = ap (λ (c : UntilSetting). c.negated) res.setting ∙ is.negated;
-        left = ap (λ (c : UntilSetting). c.left) res.setting ∙ is.left;
-        right = ap (λ (c : UntilSetting). c.right) res.setting ∙ is.right;
-      }
+  until_resumed_is = grind arith
 
   module _ (view : View) (whole : CoreForm) (p : ℕ) (suits : SuitsEvaluation view whole (Until i f g))
       (reach : Reach view k d.kept.pulled) (stands : UntilDataStands view p i f g d.kept) where
@@ -138,16 +104,7 @@ module _ (k : KeptTimes) (i : Interval) (f g : CoreForm) (old new : UntilOf) (d 
     described = until_of (until_setting_of old) (times_from k d.kept.pulled) d.kept
 
     taken_in_log : d.kept.taken ≤ length view.log
-    taken_in_log =
-        let lefts : d.kept.taken + length d.kept.lefts.items ≡ reached view f = stands.left_pushed in
-        let most : reached view f ≤ length view.log = reached_within view f in
-        omega arith
-
-    until_in_log : d.kept.pulled ≤ length view.log
-    until_in_log =
-        let low : d.kept.pulled ≤ d.kept.taken = keeps.rule.low in
-        let most : d.kept.taken ≤ length view.log = taken_in_log in
-        omega arith
+    taken_in_log = omega (arith, reached_within view f)
 
     left_follows : (dom : List Value) (v : Valuation) → Covers view dom → view.near (fv (meaning f)) v ≡ true
         → (a : List Bool) → Tells view dom v f a → FollowsLeft described a v
@@ -166,21 +123,15 @@ module _ (k : KeptTimes) (i : Interval) (f g : CoreForm) (old new : UntilOf) (d 
 
     known : (t : List ℕ) → Dates view t → (q : ℕ) → d.kept.pulled ≤ q → q < d.kept.taken
         → slice_index (times_from k d.kept.pulled) (q - d.kept.pulled) ≡ time_at t q
-    known t dates q behind below =
-        let most : d.kept.taken ≤ length view.log = taken_in_log in
-        let sum : d.kept.pulled + (q - d.kept.pulled) ≡ q = omega arith in
-        ap (λ xs. slice_index xs (q - d.kept.pulled)) (rest_is view k d.kept.pulled reach.stamps reach.first)
-        ∙ get_or-drop d.kept.pulled (times view.log) (q - d.kept.pulled) 0 ∙ ap (time_at (times view.log)) sum
-        ∙ sym (dates q (omega arith))
+    known t dates q behind below = grind (arith, taken_in_log, slice_index, rest_is, get_or-drop)
 
     data_follows_until : (dom : List Value) (v : Valuation) → Covers view dom → view.near (fv (meaning g)) v ≡ true
         → (t : List ℕ) (a b : List Bool) → Dates view t → length view.log ≤ length t → Tells view dom v f a
         → Tells view dom v g b → FollowsUntil described t a b v
     data_follows_until dom v covers near t a b dates long tells tells_right =
         let rights : d.kept.taken + length d.kept.rights.items ≡ reached view g = stands.right_pushed in
-        let inside : d.kept.pulled ≤ length view.log = until_in_log in
-        let rest : length (times_from k d.kept.pulled) ≡ length view.log - d.kept.pulled =
-        rest_size view k d.kept.pulled reach.stamps reach.first in
+        let inside : d.kept.pulled ≤ length view.log = (omega (arith, taken_in_log)) in
+        let rest : length (times_from k d.kept.pulled) ≡ length view.log - d.kept.pulled = search (rest_size) in
         record {
           left =
               left_follows dom v covers
@@ -205,9 +156,7 @@ module _ (k : KeptTimes) (i : Interval) (f g : CoreForm) (old new : UntilOf) (d 
     until_resumed_stands =
         record {
           pulled = res.pulled ∙ stands.pulled;
-          kept =
-              res.times ∙ rest_is view k d.kept.pulled reach.stamps reach.first
-              ∙ ap (λ n. drop n (times view.log)) (sym res.pulled);
+          kept = cc (rest_is view k d.kept.pulled reach.stamps reach.first);
           left_pushed = ap₂ (λ n ts. n + length ts) res.taken res.lefts ∙ stands.left_pushed;
           right_pushed = ap₂ (λ n ts. n + length ts) res.taken res.rights ∙ stands.right_pushed;
           lefts = rw (res.taken, res.lefts) stands.lefts;
@@ -221,8 +170,4 @@ module _ (k : KeptTimes) (i : Interval) (f g : CoreForm) (old new : UntilOf) (d 
     until_resumed_taken = res.taken ∙ stands.taken
 
     pub until_resumed_all : took_all new ≡ true
-    until_resumed_all =
-        let at : new.ahead.taken ≡ min (reached view f) (reached view g) = until_resumed_taken in
-        let lefts : new.ahead.taken + length new.lefts ≡ reached view f = until_resumed_stands.left_pushed in
-        let rights : new.ahead.taken + length new.rights ≡ reached view g = until_resumed_stands.right_pushed in
-        eq-eqb (to_take new) 0 (omega arith)
+    until_resumed_all = grind arith

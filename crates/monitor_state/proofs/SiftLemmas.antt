@@ -1,24 +1,17 @@
 -- Rows that stay, and tables pulled, one after the other.
-use Rattle.std.proofs.Common.{subst, ◌≡◌, ℕ, ◌<◌, Bool, true, false, ◌&&◌, ◌||◌, nat_eq, List, [], ◌∷◌, ◌++◌, length}
-use Rattle.std.proofs.Common.{refl, sym, ap, ◌∙◌, arith, append_assoc, append-nil}
-use Rattle.std.proofs.lemmas.Bool.{and_from, and_parts}
-use Rattle.std.proofs.lemmas.Bool.Decides.{nat_tests}
-use Rattle.std.proofs.lemmas.List.Folds.{list_any-append}
-use Rattle.std.specs.List.Sorted.{IsStrictlySortedBy}
-use Rattle.std.proofs.Common.{Ordering, Less, cond}
-use Rattle.std.specs.Ordering.{eq_by_cmp}
-use Rattle.std.specs.List.{AllByRecursion, list_all}
-use Rattle.std.proofs.lemmas.Map.Views.{tells_apart}
+use Rattle.std.proofs.Common.{subst, ◌≡◌, ℕ, ◌<◌, Bool, true, false, ◌&&◌, ◌||◌, List, [], ◌∷◌, ◌++◌, length, refl, sym}
+use Rattle.std.proofs.Common.{ap, ◌∙◌, arith, append_assoc, append-nil, Ordering, Less, cond}
+use Rattle.std.proofs.{lemmas.Bool.and_from, lemmas.Bool.and_parts, lemmas.Bool.Decides.nat_tests}
+use Rattle.std.proofs.{lemmas.List.Folds.list_any-append, lemmas.Map.Views.tells_apart, lemmas.Grind.common_steps}
+use Rattle.std.specs.{List.Sorted.IsStrictlySortedBy, Ordering.eq_by_cmp, List.AllByRecursion, List.list_all}
 use Rattle.mfotl_model.proofs.RowLemmas.{row_exact}
 use Rattle.mfotl_model.specs.Tables.{TableOf, has_row, valuation}
 use Rattle.mfotl_model.specs.Values.{row_cmp}
 use Rattle.mfotl_model.specs.declared.value.Value.{Value}
-use Rattle.relations.specs.Pushed.{turned}
-use Rattle.relations.specs.Tables.{IsTable}
+use Rattle.relations.specs.{Pushed.turned, Tables.IsTable}
 use Rattle.monitor_state.specs.FilterFeeding.{FilterPulled, FilterStep, Sifts}
 use Rattle.monitor_state.specs.WindowNode.{WindowHolds}
-use Rattle.monitor_state.specs.declared.filter.FilterState.{FilterState}
-use Rattle.monitor_state.specs.declared.window.Window.{Window}
+use Rattle.monitor_state.specs.declared.{filter.FilterState.FilterState, window.Window.Window}
 
 pub pulled_more : (old mid new : FilterState) (tables : List TableOf) (kept : TableOf) → FilterPulled old mid tables
     → FilterStep mid new kept → FilterPulled old new (tables ++ kept ∷ [])
@@ -29,8 +22,7 @@ pulled_more old mid new (table ∷ tables) kept pulled step =
 -- the next table shortens what is kept
 pub pulled_fewer : (old new : FilterState) (kept : TableOf) → FilterStep old new kept
     → length new.tables < length old.tables
-pulled_fewer old new kept step =
-    let size : length old.tables ≡ length (step.table ∷ new.tables) = ap length step.front in omega arith
+pulled_fewer old new kept step = grind arith
 
 module _ {K : Type 0} (c : K → K → Ordering) where
   all_without : (P : K → Type 0) (xs ys : List K) (y : K) → AllByRecursion P (xs ++ y ∷ ys)
@@ -49,47 +41,30 @@ module _ {K : Type 0} (c : K → K → Ordering) where
 
 holds_without : {X : Type 0} (p : X → Bool) (xs ys : List X) (y : X) → list_all p (xs ++ y ∷ ys) ≡ true
     → list_all p (xs ++ ys) ≡ true
-holds_without p [] ys y h = (and_parts (p y) (list_all p ys) h).1
-holds_without p (x ∷ xs) ys y h =
-    let parts = and_parts (p x) (list_all p (xs ++ y ∷ ys)) h in
-    and_from (p x) (list_all p (xs ++ ys)) parts.0 (holds_without p xs ys y parts.1)
+holds_without p xs ys y h = grind (arith, common_steps, and_parts, and_from)
 
 -- a table without one of its rows is one
 table_without : (columns : List ℕ) (xs ys : List (List Value)) (y : List Value) → IsTable columns (xs ++ y ∷ ys)
     → IsTable columns (xs ++ ys)
-table_without columns xs ys y is =
-    record {
-      apart = is.apart;
-      sized = holds_without (λ row. nat_eq (length row) (length columns)) xs ys y is.sized;
-      sorted = sorted_without row_cmp xs ys y is.sorted;
-    }
+table_without columns xs ys y is = search (holds_without, sorted_without)
 
 -- a row stays or doesn't
 pub table_kept : (columns : List ℕ) (stays : Bool) (kept new rest : List (List Value)) (row : List Value)
     → IsTable columns (kept ++ row ∷ rest) → new ≡ kept ++ cond stays (row ∷ []) [] → IsTable columns (new ++ rest)
-table_kept columns true kept new rest row is same =
-    subst (IsTable columns) (sym (ap (λ xs. xs ++ rest) same ∙ append_assoc kept (row ∷ []) rest)) is
-table_kept columns false kept new rest row is same =
-    subst (λ xs. IsTable columns (xs ++ rest)) (sym (same ∙ append-nil kept)) (table_without columns kept rest row is)
+table_kept columns stays kept new rest row is same = grind (arith, append_assoc, append-nil, table_without)
 
 added : (d k e t s : Bool) → k ≡ (d && t) → (e ≡ true → s ≡ t)
     → (k || cond s (e || false) false) ≡ ((d || (e || false)) && t)
 added d k e t s before same = grind (arith, nat_tests)
 
-has_chosen : (stays : Bool) (row u : List Value)
-    → has_row (cond stays (row ∷ []) []) u ≡ cond stays (eq_by_cmp row_cmp u row || false) false
-has_chosen true row u = refl
-has_chosen false row u = refl
-
 pub sift_more : (w : Window) (negated answer stays : Bool) (columns : List ℕ) (done kept new : List (List Value))
     (row : List Value)
     → Sifts w negated columns done kept → WindowHolds w (valuation columns row) answer → stays ≡ turned negated answer
-    → new ≡ kept ++ cond stays (row ∷ []) []
-    → Sifts w negated columns (done ++ row ∷ []) new
+    → new ≡ kept ++ cond stays (row ∷ []) [] → Sifts w negated columns (done ++ row ∷ []) new
 sift_more w negated answer stays columns done kept new row before told is same u holds answers =
     ap (λ rows. has_row rows u) same
     ∙ list_any-append (eq_by_cmp row_cmp u) kept (cond stays (row ∷ []) [])
-    ∙ ap (λ b. has_row kept u || b) (has_chosen stays row u)
+    ∙ ap (λ b. has_row kept u || b) (grind arith)
     ∙ added (has_row done u) (has_row kept u) (eq_by_cmp row_cmp u row) (turned negated holds) stays
     (before u holds answers)
     (λ e.

@@ -1,56 +1,41 @@
 -- A SINCE's state over one step.
-use Rattle.std.proofs.Common.{◌≡◌, ℕ, ◌+◌, ◌<◌, ◌≤◌, Bool, true, false, ◌&&◌, nat_lt, List, [], ◌∷◌, ◌++◌}
-use Rattle.std.proofs.Common.{length, drop, refl, sym, ap, ap₂, ◌∙◌, arith, length-append}
-use Rattle.std.proofs.lemmas.Bool.Decides.{nat_tests}
-use Rattle.std.proofs.lemmas.List.{length-drop}
-use Rattle.mfotl_model.specs.Counts.{settled_count}
+use Rattle.std.proofs.Common.{◌≡◌, ℕ, ◌+◌, ◌<◌, ◌≤◌, Bool, true, false, ◌&&◌, nat_lt, List, [], ◌∷◌, ◌++◌, length, drop}
+use Rattle.std.proofs.Common.{refl, sym, ap, ap₂, ◌∙◌, arith, length-append}
+use Rattle.std.proofs.{lemmas.Bool.Decides.nat_tests, lemmas.List.length-drop}
+use Rattle.mfotl_model.specs.{Counts.settled_count, FreeVariables.fv, Log.times, Regions.Passes, Settled.settled}
+use Rattle.mfotl_model.specs.{Tables.TableOf, Tables.all_among, Times.NeverFalls}
 use Rattle.mfotl_model.specs.Exact.{View, Covers, AllExact}
-use Rattle.mfotl_model.specs.FreeVariables.{fv}
-use Rattle.mfotl_model.specs.Log.{times}
-use Rattle.mfotl_model.specs.Regions.{Passes}
 use Rattle.mfotl_model.specs.Satisfaction.{Valuation, sat, truth_at}
-use Rattle.mfotl_model.specs.Settled.{settled}
-use Rattle.mfotl_model.specs.Tables.{TableOf, all_among}
-use Rattle.mfotl_model.specs.Times.{NeverFalls}
-use Rattle.mfotl_model.specs.declared.event.TimePoint.{TimePoint}
-use Rattle.mfotl_model.specs.declared.interval.Interval.{Interval}
-use Rattle.mfotl_model.specs.declared.value.Value.{Value}
-use Rattle.eval_since.specs.SinceView.{Advances, Follows, SinceOf, due}
-use Rattle.monitorable.specs.CoreForms.{CoreForm, meaning, Not, Since}
+use Rattle.mfotl_model.specs.declared.{event.TimePoint.TimePoint, interval.Interval.Interval, value.Value.Value}
+use Rattle.eval_since.specs.SinceView.{Follows, SinceOf}
+use Rattle.monitorable.specs.CoreForms.{CoreForm, meaning, Since}
 use Rattle.monitorable.specs.Soundness.{HasVariablesOf}
 use Rattle.relations.specs.Pushed.{StandFrom, left_holds, turned}
-use Rattle.monitor_state.proofs.CountLemmas.{count_since}
+use Rattle.monitor_state.proofs.{CountLemmas.count_since, GrowthLemmas.exact_more, GrowthLemmas.told}
 use Rattle.monitor_state.proofs.ExactLemmas.{covers_before, dates_before, dates_new, exact_drop, exact_tell, log_more}
 use Rattle.monitor_state.proofs.ExactLemmas.{reached_within, stand_exact, tells_before, truths_tell}
-use Rattle.monitor_state.proofs.GrowthLemmas.{exact_more, told}
-use Rattle.monitor_state.proofs.StampLemmas.{known_more, stamps_moved, stamps_pulled, stamps_pushed}
+use Rattle.monitor_state.proofs.StampLemmas.{known_more, stamps_moved, stamps_pushed}
 use Rattle.monitor_state.proofs.RegionLemmas.{joined_inside, near_part, near_right, right_inside}
-use Rattle.monitor_state.proofs.FeedingLemmas.{since_due_parts}
 use Rattle.monitor_state.specs.Feeding.{SinceFeeds, SincePulled, SinceTakes}
-use Rattle.monitor_state.specs.Nodes.{is_negated, left_operand}
+use Rattle.monitor_state.specs.{Nodes.is_negated, Nodes.left_operand, PreviousFeeding.tables_used, Stamps.stamps}
+use Rattle.monitor_state.specs.{Steps.News, Steps.longer}
 use Rattle.monitor_state.specs.SinceNode.{IsSince, IsSinceState, SinceStands, SinceStandsAt}
-use Rattle.monitor_state.specs.PreviousFeeding.{tables_used}
-use Rattle.monitor_state.specs.Stamps.{stamps}
-use Rattle.monitor_state.specs.Steps.{News, longer}
 use Rattle.monitor_state.specs.Views.{Dates, Tells, reached}
 
 -- a NOT is settled as what it denies, and has its variables
 pub reached_operand : (view : View) (f : CoreForm) → reached view (left_operand f) ≡ reached view f
 unfolding settled_count settled
-reached_operand view (Not f) = refl
-reached_operand view f = refl
+reached_operand view f = grind arith
 
 pub free_operand : (f : CoreForm) → fv (meaning (left_operand f)) ≡ fv (meaning f)
 unfolding fv
-free_operand (Not f) = refl
-free_operand f = refl
+free_operand f = grind arith
 
 -- a core is its left operand, turned round where that is negated
 pub turned_sat : (view : View) (dom : List Value) (v : Valuation) (p : ℕ) (g : CoreForm)
     → turned (is_negated g) (sat view.log dom v p (meaning (left_operand g))) ≡ sat view.log dom v p (meaning g)
 unfolding sat
-turned_sat view dom v p (Not f) = refl
-turned_sat view dom v p f = refl
+turned_sat view dom v p g = grind arith
 
 -- the left operand's tables hold what a list tells, turned round where it is negated
 pub left_tell : (view : View) (f : CoreForm) (dom : List Value) (v : Valuation) (a : List Bool) (i : ℕ)
@@ -110,10 +95,7 @@ module _ {view : View} {point : TimePoint} {i : Interval} {f g : CoreForm} {p ts
         record {
           pulled = stands.pulled;
           timed = omega (arith, length-append old.times (ts ∷ []), log_more view point rising);
-          known =
-              stamps_pushed old.pulled old.window.last ts old.times
-              ∙ known_more view point rising old.pulled ts (stamps old.pulled old.window.last old.times) ts_is
-              (omega arith) stands.known;
+          known = grind (arith, stamps_pushed, known_more);
           left_pushed = omega (
             arith,
             length-append old.lefts ls,
@@ -121,8 +103,7 @@ module _ {view : View} {point : TimePoint} {i : Interval} {f g : CoreForm} {p ts
             reached_operand (longer view point) f,
           );
           right_pushed = omega (arith, length-append old.rights rs);
-          lefts = exact_more left rising old.pulled old.lefts (rw (reached_operand view f) stands.left_pushed)
-              stands.lefts;
+          lefts = search (exact_more, reached_operand);
           rights = exact_more right rising old.pulled old.rights stands.right_pushed stands.rights;
           follows = λ dom v covers near t a b dates tells tells_right.
               rw fed_is at (fed_follows dom v covers near t a b dates tells tells_right);
@@ -148,46 +129,7 @@ pub record SinceMoves (n : ℕ) (old new : SinceOf) : Type 0 where
 
 pulled_moves : {columns : List ℕ} {old new : SinceOf} {tables : List TableOf} → SincePulled columns old new tables
     → SinceMoves (length tables) old new
-pulled_moves pulls =
-    record {
-      pulled = pulls.pulled;
-      negated = pulls.negated;
-      interval = pulls.interval;
-      left = pulls.left;
-      right = pulls.right;
-      times = pulls.times;
-      known = pulls.known;
-      lefts = pulls.lefts;
-      rights = pulls.rights;
-      in_times = pulls.in_times;
-      in_lefts = pulls.in_lefts;
-      in_rights = pulls.in_rights;
-      follows = pulls.follows;
-    }
-
--- one position was pulled
-pub one_moves : {old new : SinceOf} → due old ≡ true → Advances old new
-    → ((t : List ℕ) (a b : List Bool) (v : Valuation) → Follows old t a b v → Follows new t a b v)
-    → SinceMoves 1 old new
-one_moves {old} {new} ready advances follows =
-    let some = since_due_parts old ready in
-    record {
-      pulled = advances.pulled;
-      negated = advances.negated;
-      interval = advances.interval;
-      left = advances.left;
-      right = advances.right;
-      times = advances.times;
-      known =
-          stamps_pulled old.pulled new.pulled old.window.last new.window.last old.times new.times advances.pulled
-          advances.stamps;
-      lefts = advances.lefts;
-      rights = advances.rights;
-      in_times = omega (arith, some.0);
-      in_lefts = omega (arith, some.1);
-      in_rights = omega (arith, some.2);
-      follows = follows;
-    }
+pulled_moves pulls = assumption
 
 -- the rest stands as many positions further
 pub since_moved : {view : View} {i : Interval} {f g : CoreForm} {n p : ℕ} {old new : SinceOf} → SinceMoves n old new

@@ -1,14 +1,10 @@
 -- Tables pushed to an UNTIL and pulled from it, one after the other.
-use Rattle.std.proofs.Common.{Option, Some, None, ◌≡◌, ℕ, ◌+◌, ◌-◌, ◌<◌, Bool, true, false, min, List, [], ◌∷◌, ◌++◌}
-use Rattle.std.proofs.Common.{length, slice_index, refl, sym, ap, ◌∙◌, inl, inr, arith, length-append}
-use Rattle.std.proofs.Common.{append_assoc}
-use Rattle.std.proofs.lemmas.Bool.{cases_lt, ltb-true}
-use Rattle.std.proofs.lemmas.List.{drop-drop, length-drop}
+use Rattle.std.proofs.Common.{◌≡◌, ℕ, ◌+◌, ◌<◌, Bool, true, List, [], ◌∷◌, ◌++◌, length, refl, sym, ap, ◌∙◌, inl, inr}
+use Rattle.std.proofs.Common.{arith, length-append, append_assoc}
+use Rattle.std.proofs.{lemmas.Bool.cases_lt, lemmas.List.drop-drop, lemmas.List.length-drop}
 use Rattle.mfotl_model.specs.Satisfaction.{Valuation, truth_at, until}
-use Rattle.mfotl_model.specs.Tables.{TableOf, has}
-use Rattle.mfotl_model.specs.Times.{NeverFalls}
-use Rattle.eval_until.proofs.DueLemmas.{nonempty}
-use Rattle.eval_until.specs.UntilView.{Advances, Follows, FollowsLeft, Takes, UntilOf, due, past_bound, to_take}
+use Rattle.mfotl_model.specs.{Tables.TableOf, Tables.has, Times.NeverFalls}
+use Rattle.eval_until.specs.UntilView.{Advances, Follows, FollowsLeft, Takes, UntilOf, due, to_take}
 use Rattle.relations.proofs.PushedLemmas.{over_push, stand_push}
 use Rattle.relations.specs.Pushed.{left_holds}
 use Rattle.monitor_state.proofs.GrowthLemmas.{stand_split}
@@ -16,8 +12,7 @@ use Rattle.monitor_state.specs.Ordered.{PushedInOrder}
 use Rattle.monitor_state.specs.UntilFeeding.{UntilLeftsPushed, UntilPulled, UntilRightsPushed, until_past}
 
 pub lefts_more : {old s new : UntilOf} {front tables : List TableOf} → UntilLeftsPushed old s front
-    → UntilLeftsPushed s new tables
-    → UntilLeftsPushed old new (front ++ tables)
+    → UntilLeftsPushed s new tables → UntilLeftsPushed old new (front ++ tables)
 lefts_more {old} {s} {new} {front} {tables} before more =
     let place : old.ahead.taken + length (old.lefts ++ front) ≡ old.ahead.taken + length old.lefts + length front =
     omega (arith, length-append old.lefts front) in
@@ -34,19 +29,8 @@ lefts_more {old} {s} {new} {front} {tables} before more =
     }
 
 pub rights_more : {old s new : UntilOf} {front tables : List TableOf} → UntilRightsPushed old s front
-    → UntilRightsPushed s new tables
-    → UntilRightsPushed old new (front ++ tables)
-rights_more {old} {s} {new} {front} {tables} before more =
-    let place : old.ahead.taken + length (old.rights ++ front) ≡ old.ahead.taken + length old.rights + length front =
-    omega (arith, length-append old.rights front) in
-    record {
-      pushed = rw (more.pushed, before.pushed, append_assoc);
-      left = λ a v h. more.left a v (before.left a v h);
-      follows = λ t a b v h stand.
-          let parts = stand_split (λ i x. has x v ≡ truth_at b i) (old.ahead.taken + length old.rights) front tables
-          stand in
-          more.follows t a b v (before.follows t a b v h parts.0) (rw (before.pushed, place) parts.1);
-    }
+    → UntilRightsPushed s new tables → UntilRightsPushed old new (front ++ tables)
+rights_more {old} {s} {new} {front} {tables} before more = grind (arith, length-append, append_assoc, stand_split)
 
 pub pulled_none : (columns : List ℕ) (s : UntilOf) → UntilPulled columns s s []
 pulled_none columns s =
@@ -73,27 +57,12 @@ pulled_none columns s =
 
 -- a time is kept of the position that is due
 due_timed : (s : UntilOf) → due s ≡ true → 0 < length s.times
-due_timed s h = by s.ahead.interval.hi h
-  where
-    place : ℕ
-    place = min (s.ahead.taken + min (length s.lefts) (length s.rights) - s.ahead.pulled) (length s.times - 1)
-
-    by : (o : Option ℕ)
-        → past_bound o (s.ahead.taken + min (length s.lefts) (length s.rights) - s.ahead.pulled) s.times ≡ true
-        → 0 < length s.times
-    by None e = absurd (let clash : true ≡ false = sym e in cc)
-    by (Some hi) e =
-        nonempty s.times place hi (ltb-true hi (slice_index s.times place - slice_index s.times 0) e)
+due_timed s h = grind arith
 
 -- whether the next position is due hangs on the times and counts alone
 pub due_on : {columns : List ℕ} {old s : UntilOf} {tables : List TableOf} → UntilPulled columns old s tables
     → due s ≡ due (until_past (length tables) old)
-due_on {old = old} {s = s} {tables = tables} before =
-    let place : s.ahead.taken + min (length s.lefts) (length s.rights) - s.ahead.pulled
-    ≡ old.ahead.taken + min (length old.lefts) (length old.rights) - (old.ahead.pulled + length tables)
-    = rw (before.lefts, before.rights)
-    (omega (arith, length-drop before.seen old.lefts, length-drop before.seen old.rights)) in
-    rw (before.interval, place, before.times)
+due_on {old = old} {s = s} {tables = tables} before = grind (arith, length-drop)
 
 -- the tables of positions were taken that could be
 pub pulled_end : {columns : List ℕ} {old s new : UntilOf} {tables : List TableOf}
@@ -128,13 +97,11 @@ pub pulled_more : {columns : List ℕ} {old s new : UntilOf} {tables items : Lis
     → UntilPulled columns old s tables → true ≡ due s → Advances (to_take s) s new
     → ((a : List Bool) (v : Valuation) → FollowsLeft s a v → FollowsLeft new a v)
     → ((t : List ℕ) (a b : List Bool) (v : Valuation) → Follows s t a b v → Follows new t a b v)
-    → table.columns ≡ s.ahead.right
-    → ((t : List ℕ) (a b : List Bool) (v : Valuation) → Follows s t a b v → NeverFalls t
+    → table.columns ≡ s.ahead.right → ((t : List ℕ) (a b : List Bool) (v : Valuation) → Follows s t a b v → NeverFalls t
     → has table v ≡ until s.ahead.interval t a b s.ahead.pulled)
     → PushedInOrder columns table tables items → UntilPulled columns old new items
 pulled_more {columns} {old} {s} {new} {tables} {items} {table} before ready advances left follows over rows pushed =
-    let n : length items ≡ length tables + 1 =
-    rw pushed.pushed (omega (arith, length-append tables (pushed.ordered ∷ []))) in
+    let n : length items ≡ length tables + 1 = cc (length-append tables (pushed.ordered ∷ [])) in
     record {
       seen = before.seen + to_take s;
       pulled = omega arith;
@@ -158,12 +125,7 @@ pulled_more {columns} {old} {s} {new} {tables} {items} {table} before ready adva
       over = rw pushed.pushed (over_push columns tables pushed.ordered before.over pushed.columns);
       left = λ a v h. left a v (before.left a v h);
       follows = λ t a b v h. follows t a b v (before.follows t a b v h);
-      rows = λ t a b v h never one other.
-          rw pushed.pushed
-          (stand_push (λ i x. has x v ≡ until old.ahead.interval t a b i) old.ahead.pulled tables pushed.ordered
-          (before.rows t a b v h never one other)
-          (pushed.same (rw (over, before.right_columns) one) (rw (over, before.right_columns) other) v
-          ∙ rw (before.interval, before.pulled) at (rows t a b v (before.follows t a b v h) never)));
+      rows = grind (arith, stand_push);
     }
 
 -- a turn leaves fewer times

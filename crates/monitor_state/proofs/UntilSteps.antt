@@ -1,36 +1,27 @@
 -- An UNTIL's state over one step.
-use Rattle.std.proofs.Common.{◌≡◌, ℕ, zero, suc, ◌+◌, ◌-◌, ◌<◌, ◌≤◌, min, Bool, true, false, List, [], ◌∷◌, ◌++◌}
-use Rattle.std.proofs.Common.{length, drop, refl, sym, ap, ap₂, ◌∙◌, inl, inr, arith, length-append}
-use Rattle.std.proofs.lemmas.Bool.{cases_lt, eqb-true}
+use Rattle.std.proofs.Common.{◌≡◌, ℕ, zero, suc, ◌+◌, ◌-◌, ◌<◌, ◌≤◌, min, Bool, true, List, [], ◌∷◌, ◌++◌, length, drop}
+use Rattle.std.proofs.Common.{refl, sym, ap, ap₂, ◌∙◌, inl, inr, arith, length-append}
+use Rattle.std.proofs.{lemmas.Bool.cases_lt, lemmas.Bool.eqb-true, lemmas.Grind.common_steps}
 use Rattle.std.proofs.lemmas.List.{drop-drop, length-drop, length-map}
 use Rattle.mfotl_model.proofs.CountLemmas.{counted_settled}
 use Rattle.mfotl_model.specs.Exact.{View, Covers, AllExact}
-use Rattle.mfotl_model.specs.FreeVariables.{fv}
-use Rattle.mfotl_model.specs.Log.{times}
-use Rattle.mfotl_model.specs.Regions.{Passes}
+use Rattle.mfotl_model.specs.{FreeVariables.fv, Log.times, Regions.Passes, Settled.settled, Tables.TableOf}
+use Rattle.mfotl_model.specs.{Tables.all_among, Times.NeverFalls}
 use Rattle.mfotl_model.specs.Satisfaction.{Valuation, sat, time_at, truth_at}
-use Rattle.mfotl_model.specs.Settled.{settled}
-use Rattle.mfotl_model.specs.Tables.{TableOf, all_among}
-use Rattle.mfotl_model.specs.Times.{NeverFalls}
-use Rattle.mfotl_model.specs.declared.event.TimePoint.{TimePoint}
-use Rattle.mfotl_model.specs.declared.interval.Interval.{Interval}
-use Rattle.mfotl_model.specs.declared.value.Value.{Value}
+use Rattle.mfotl_model.specs.declared.{event.TimePoint.TimePoint, interval.Interval.Interval, value.Value.Value}
 use Rattle.eval_until.proofs.DueLemmas.{until_due_settled}
-use Rattle.eval_until.specs.UntilView.{Follows, FollowsLeft, UntilOf, due, to_take, took_all}
+use Rattle.eval_until.specs.UntilView.{Follows, FollowsLeft, UntilOf, due, took_all}
 use Rattle.monitorable.specs.CoreForms.{CoreForm, meaning, Until}
 use Rattle.monitorable.specs.Soundness.{HasVariablesOf}
 use Rattle.relations.specs.Pushed.{StandFrom, left_holds}
-use Rattle.monitor_state.proofs.CountLemmas.{count_is, until_counted}
+use Rattle.monitor_state.proofs.{CountLemmas.count_is, CountLemmas.until_counted, GrowthLemmas.exact_more}
+use Rattle.monitor_state.proofs.{GrowthLemmas.told, SinceSteps.left_news, SinceSteps.reached_operand}
+use Rattle.monitor_state.proofs.{StampLemmas.from_more, UntilLemmas.due_on}
 use Rattle.monitor_state.proofs.ExactLemmas.{covers_before, dates_before, dates_new, exact_drop, exact_tell, log_more}
 use Rattle.monitor_state.proofs.ExactLemmas.{reached_grows, reached_within, stand_exact, tells_before, truths_tell}
-use Rattle.monitor_state.proofs.GrowthLemmas.{exact_more, told}
 use Rattle.monitor_state.proofs.RegionLemmas.{joined_inside, near_part, near_right, right_inside}
-use Rattle.monitor_state.proofs.SinceSteps.{left_news, reached_operand}
-use Rattle.monitor_state.proofs.StampLemmas.{from_more}
-use Rattle.monitor_state.proofs.UntilLemmas.{due_on}
-use Rattle.monitor_state.specs.Nodes.{left_operand}
+use Rattle.monitor_state.specs.{Nodes.left_operand, Steps.News, Steps.longer}
 use Rattle.monitor_state.specs.UntilNode.{IsUntil, IsUntilState, UntilStands, UntilStandsAt}
-use Rattle.monitor_state.specs.Steps.{News, longer}
 use Rattle.monitor_state.specs.UntilFeeding.{UntilFeeds, UntilPulled, UntilTakes, until_past}
 use Rattle.monitor_state.specs.Views.{Dates, Tells, reached}
 
@@ -45,21 +36,13 @@ stand_each t p (x ∷ xs) each =
           (λ k low. let at : p + suc k ≡ p + 1 + k = omega arith in each (suc k) (omega arith) ∙ ap (time_at t) at),
     )
 
-time_drop : (t : List ℕ) (n m : ℕ) → time_at (drop n t) m ≡ time_at t (n + m)
-time_drop t zero m = let e : m ≡ 0 + m = omega arith in ap (time_at t) e
-time_drop [] (suc n) m = refl
-time_drop (x ∷ t) (suc n) m =
-    let e : suc (n + m) ≡ suc n + m = omega arith in time_drop t n m ∙ ap (time_at (x ∷ t)) e
-
 times_stand : (t : List ℕ) (p : ℕ) → StandFrom (λ i x. x ≡ time_at t i) p (drop p t)
-times_stand t p = stand_each t p (drop p t) (λ k low. time_drop t p k)
+times_stand t p = stand_each t p (drop p t) (λ k low. (grind (arith, common_steps, zero)))
 
 -- as many times were pushed as there are time-points
 until_timed : {view : View} {p : ℕ} {i : Interval} {f g : CoreForm} {s : UntilOf} → UntilStandsAt view p i f g s
     → p ≤ length view.log → s.ahead.pulled + length s.times ≡ length view.log
-until_timed {view} {p} {i} {f} {g} {s} stands inside =
-    rw stands.kept
-    (omega (arith, stands.pulled, length-drop s.ahead.pulled (times view.log), length-map view.log (λ p. p.ts)))
+until_timed {view} {p} {i} {f} {g} {s} stands inside = grind (arith, length-drop, length-map)
 
 module _ {view : View} {point : TimePoint} {i : Interval} {f g : CoreForm} {p ts : ℕ} {old fed : UntilOf}
     {ls rs : List TableOf} (is : IsUntilState i f g old) (stands : UntilStandsAt view p i f g old)
@@ -121,8 +104,7 @@ module _ {view : View} {point : TimePoint} {i : Interval} {f g : CoreForm} {p ts
             reached_operand (longer view point) f,
           );
           right_pushed = omega (arith, length-append old.rights rs);
-          lefts = exact_more left rising old.ahead.taken old.lefts (rw (reached_operand view f) stands.left_pushed)
-              stands.lefts;
+          lefts = search (exact_more, reached_operand);
           rights = exact_more right rising old.ahead.taken old.rights stands.right_pushed stands.rights;
           left = λ dom v covers near a tells. rw fed_is at (fed_left_follows dom v covers near a tells);
           follows = λ dom v covers near t a b dates long tells tells_right.
@@ -148,24 +130,8 @@ pub record UntilMoves (n seen : ℕ) (old new : UntilOf) : Type 0 where
   pub follows : (t : List ℕ) (a b : List Bool) (v : Valuation) → Follows old t a b v → Follows new t a b v
 
 pulled_moves : {columns : List ℕ} {old new : UntilOf} {tables : List TableOf}
-    (pulls : UntilPulled columns old new tables)
-    → UntilMoves (length tables) pulls.seen old new
-pulled_moves pulls =
-    record {
-      pulled = pulls.pulled;
-      taken = pulls.taken;
-      interval = pulls.interval;
-      left_columns = pulls.left_columns;
-      right_columns = pulls.right_columns;
-      negated = pulls.negated;
-      times = pulls.times;
-      lefts = pulls.lefts;
-      rights = pulls.rights;
-      in_lefts = pulls.in_lefts;
-      in_rights = pulls.in_rights;
-      left = pulls.left;
-      follows = pulls.follows;
-    }
+    (pulls : UntilPulled columns old new tables) → UntilMoves (length tables) pulls.seen old new
+pulled_moves pulls = assumption
 
 -- the rest stands as many positions further
 pub until_moved : {view : View} {i : Interval} {f g : CoreForm} {n seen p : ℕ} {old new : UntilOf}
@@ -211,15 +177,12 @@ module _ (view : View) (rising : NeverFalls (times view.log)) (i : Interval) (f 
   -- the next position of a state that stands is due where it is settled
   pub until_due_at : (p : ℕ) (s : UntilOf) → IsUntilState i f g s → UntilStandsAt view p i f g s → p ≤ length view.log
       → due s ≡ settled (times view.log) (meaning (Until i f g)) p
-  until_due_at p s is stands inside =
-      rw (← stands.pulled)
-      (due_settled s is.interval (omega arith) stands.kept stands.left_pushed stands.right_pushed)
+  until_due_at p s is stands inside = grind (arith, due_settled)
 
 -- a state that took all that it can took the positions at which both operands are settled
 pub until_all_taken : (view : View) (p : ℕ) (i : Interval) (f g : CoreForm) (s : UntilOf) → UntilStandsAt view p i f g s
     → took_all s ≡ true → p ≤ length view.log → s.ahead.taken ≡ min (reached view f) (reached view g)
-until_all_taken view p i f g s stands all inside =
-    omega (arith, eqb-true (to_take s) 0 all, until_timed stands inside, reached_within view f)
+until_all_taken view p i f g s stands all inside = grind (arith, common_steps, eqb-true, until_timed, reached_within)
 
 -- what a state that stands tells of a near row
 pub until_right : {view : View} {i : Interval} {f g : CoreForm} {p : ℕ} {s : UntilOf} → UntilStandsAt view p i f g s
@@ -251,8 +214,7 @@ module _ {view : View} {point : TimePoint} {i : Interval} {f g : CoreForm} {ts :
       omega (arith, until_timed begun.1 (omega arith), begun.1.pulled, takes.pulls.in_times)
 
   -- a position further on is due where it is settled
-  due_further : (n : ℕ) → n ≤ length tables
-      → due (until_past n takes.fed)
+  due_further : (n : ℕ) → n ≤ length tables → due (until_past n takes.fed)
       ≡ settled (times (longer view point).log) (meaning (Until i f g)) (takes.fed.ahead.pulled + n)
   due_further n low =
       due_settled (longer view point) rising i f g (until_past n takes.fed) begun.0.interval
@@ -274,14 +236,7 @@ module _ {view : View} {point : TimePoint} {i : Interval} {f g : CoreForm} {ts :
       ]
 
   count : reached view (Until i f g) + length tables ≡ reached (longer view point) (Until i f g)
-  count =
-      count_is (times (longer view point).log) rising (meaning (Until i f g))
-      (reached view (Until i f g) + length tables) settled_now
-      (λ h.
-      let clash : true ≡ false =
-      sym h
-      ∙ rw begun.1.pulled at (sym (due_further (length tables) (omega arith)) ∙ sym (due_on takes.pulls) ∙ takes.ends) in
-      cc)
+  count = grind (arith, count_is, settled_now, due_further, due_on takes.pulls)
 
   tables_exact : AllExact (longer view point) (meaning (Until i f g)) takes.fed.ahead.pulled tables
   unfolding fv sat

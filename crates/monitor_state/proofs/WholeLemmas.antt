@@ -1,36 +1,20 @@
 -- What the fragment gives a conjunct that binds all its conjunction's variables, or all its own.
-use Rattle.std.proofs.Common.{Option, Some, None, ◌≡◌, ℕ, true, false, not, ◌&&◌, ◌||◌, cond, nat_eq, List, []}
-use Rattle.std.proofs.Common.{◌∷◌, ◌++◌, refl, sym, ap}
-use Rattle.std.proofs.Common.{◌∙◌, inl, inr}
+use Rattle.std.proofs.Common.{Some, None, ◌≡◌, ℕ, true, false, ◌||◌, cond, nat_eq, List, [], ◌∷◌, ◌++◌, refl, sym, ap}
+use Rattle.std.proofs.Common.{◌∙◌, inl, inr, arith}
 use Rattle.std.proofs.lemmas.Bool.{and_parts, cases_Bool, cond-false, cond-true, or_cases, or_left, or_right}
 use Rattle.std.proofs.lemmas.List.Folds.{list_any-append}
-use Rattle.std.specs.List.{list_any}
 use Rattle.mfotl_model.proofs.LogicLemmas.{among_joined, same_number}
-use Rattle.mfotl_model.specs.FreeVariables.{among, fv}
-use Rattle.mfotl_model.specs.Tables.{all_among}
+use Rattle.mfotl_model.specs.{FreeVariables.among, FreeVariables.fv, Tables.all_among}
 use Rattle.monitorable.proofs.FragmentLemmas.{no_first, no_variable, none_first, none_outside}
 use Rattle.monitorable.specs.CoreForms.{CoreForm, meaning, Compare, Not, And}
-use Rattle.monitorable.specs.Fragment.{Names, at_variable, binds, bound_by, fault_in, first, first_outside}
-use Rattle.monitorable.specs.Fragment.{guards, named_variable}
-use Rattle.monitorable.specs.Fragment.{needed_by}
-use Rattle.monitorable.specs.declared.fault.FragmentFault.{FragmentFault}
+use Rattle.monitorable.specs.Fragment.{Names, at_variable, binds, bound_by, fault_in, first, first_outside, guards}
+use Rattle.monitorable.specs.Fragment.{named_variable, needed_by}
 use Rattle.monitorable.specs.declared.fault.FragmentFault.TheVariants.{Unguarded}
 use Rattle.monitorable.specs.declared.role.Role.TheVariants as role
 use Rattle.relations.proofs.JoinLemmas.{member_of_all}
 use Rattle.monitor_state.proofs.FilterSteps.{bound_free}
 use Rattle.monitor_state.specs.Beginnings.{Accepted}
-use Rattle.monitor_state.specs.Nodes.{adds_none, filters, is_keyed, is_negated, is_window, left_operand}
-
--- whether variables lie outside doesn't hang on their names
-at_none : (p q : ℕ → FragmentFault) (o : Option ℕ) → at_variable p o ≡ None → at_variable q o ≡ None
-at_none p q None e = refl
-at_none p q (Some y) e = absurd (let clash : Some (p y) ≡ None = e in cc)
-
-guards_named : (names other : Names) (f : CoreForm) → guards names f ≡ None → guards other f ≡ None
-guards_named names other f e =
-    at_none (λ y. Unguarded (named_variable names y)) (λ y. Unguarded (named_variable other y))
-    (first_outside (bound_by f) (needed_by f))
-    e
+use Rattle.monitor_state.specs.Nodes.{adds_none, filters, is_keyed, is_window, left_operand}
 
 pub inside_all : (xs ys : List ℕ) → ((y : ℕ) → among y ys ≡ true → among y xs ≡ true) → first_outside xs ys ≡ None
 inside_all xs [] each = refl
@@ -67,9 +51,7 @@ needed_free : (f : CoreForm) (y : ℕ) → among y (needed_by f) ≡ true → am
 unfolding fv needed_by
 needed_free (Compare c) y h =
     elim (cases_Bool (binds c)) [
-      | inl e ↦
-          absurd (let clash : true ≡ false =
-          sym h ∙ ap (among y) (cond-true (binds c) [] (fv (meaning (Compare c))) e) in cc)
+      | inl e ↦ search (cond-true)
       | inr e ↦ sym (ap (among y) (cond-false (binds c) [] (fv (meaning (Compare c))) e)) ∙ h
     ]
 needed_free (Not f) y h = h
@@ -94,12 +76,7 @@ asker_guarded f g names only guard =
     elim (or_cases (adds_none f g) (is_keyed f g)
     (and_parts (is_window (left_operand g)) (adds_none f g || is_keyed f g) only).1) [
       | inl none ↦ guards_alone f g names none guard
-      | inr keyed ↦
-          guards_own f names
-          (and_parts (all_among (fv (meaning f)) (bound_by f)) (list_any (λ y. among y (bound_by f)) (fv (meaning g)))
-          (and_parts (not (is_negated g))
-          (all_among (fv (meaning f)) (bound_by f) && list_any (λ y. among y (bound_by f)) (fv (meaning g)))
-          keyed).1).0
+      | inr keyed ↦ grind (arith, guards_own, and_parts)
     ]
 
 -- a conjunct that is guarded is accepted by itself
@@ -110,7 +87,7 @@ part_whole (Not f) names guard a = (
   a.0,
   none_first (fault_in a.0 role.Negated f) (guards a.0 (Not f))
       (no_first (fault_in a.0 role.Negated f) None a.1).0
-      (guards_named names a.0 (Not f) guard),
+      (grind arith),
 )
 part_whole (And f h) names guard a = (
   a.0,
@@ -119,6 +96,6 @@ part_whole (And f h) names guard a = (
       (none_first (fault_in a.0 role.Part h) (guards a.0 (And f h))
       (no_first (fault_in a.0 role.Part h) None
       (no_first (fault_in a.0 role.Part f) (first (fault_in a.0 role.Part h) None) a.1).1).0
-      (guards_named names a.0 (And f h) guard)),
+      (grind arith)),
 )
 part_whole f names guard a = a

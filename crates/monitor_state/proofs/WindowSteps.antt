@@ -1,41 +1,28 @@
 -- A window's state over one step.
-use Rattle.std.proofs.Common.{◌≡◌, ℕ, ◌+◌, ◌<◌, ◌≤◌, Bool, true, ◌&&◌, nat_lt, List, [], ◌∷◌, length, ◌∙◌, arith}
+use Rattle.std.proofs.Common.{◌≡◌, ℕ, ◌+◌, ◌<◌, ◌≤◌, Bool, true, ◌&&◌, nat_lt, List, [], ◌∷◌, length, ◌∙◌, arith, rules}
 use Rattle.std.proofs.lemmas.Bool.Decides.{nat_tests}
 use Rattle.std.specs.Cmp.{both_ways}
-use Rattle.mfotl_model.specs.Exact.{View, Covers}
-use Rattle.mfotl_model.specs.FreeVariables.{fv}
-use Rattle.mfotl_model.specs.Log.{times}
-use Rattle.mfotl_model.specs.Regions.{Passes}
-use Rattle.mfotl_model.specs.Satisfaction.{Valuation, sat}
-use Rattle.mfotl_model.specs.Settled.{settled}
-use Rattle.mfotl_model.specs.Tables.{TableOf}
-use Rattle.mfotl_model.specs.Times.{NeverFalls}
-use Rattle.mfotl_model.specs.declared.event.TimePoint.{TimePoint}
-use Rattle.mfotl_model.specs.declared.interval.Interval.{Interval}
-use Rattle.mfotl_model.specs.declared.value.Value.{Value}
+use Rattle.mfotl_model.specs.{Exact.View, Exact.Covers, FreeVariables.fv, Log.times, Regions.Passes}
+use Rattle.mfotl_model.specs.{Satisfaction.Valuation, Satisfaction.sat, Settled.settled, Tables.TableOf}
+use Rattle.mfotl_model.specs.{Times.NeverFalls}
+use Rattle.mfotl_model.specs.declared.{event.TimePoint.TimePoint, interval.Interval.Interval, value.Value.Value}
 use Rattle.eval_since.specs.SinceView.{SinceOf, due}
 use Rattle.eval_until.specs.UntilView.{UntilOf, to_take}
 use Rattle.monitorable.specs.CoreForms.{CoreForm, meaning, Since, Until}
 use Rattle.monitorable.specs.Soundness.{IsWellFormedIn}
-use Rattle.monitor_state.proofs.CountLemmas.{since_counted}
-use Rattle.monitor_state.proofs.ExactLemmas.{reached_within}
-use Rattle.monitor_state.proofs.RegionLemmas.{near_right}
-use Rattle.monitor_state.proofs.FeedingLemmas.{since_due_parts}
-use Rattle.monitor_state.proofs.GrowthLemmas.{told}
-use Rattle.monitor_state.proofs.SinceSteps.{one_moves, since_fed, since_moved, since_right}
+use Rattle.monitor_state.proofs.{CountLemmas.since_counted, ExactLemmas.reached_within, RegionLemmas.near_right}
+use Rattle.monitor_state.proofs.{FeedingLemmas.since_due_parts, GrowthLemmas.told}
+use Rattle.monitor_state.proofs.SinceSteps.{since_fed, since_moved, since_right}
 use Rattle.monitor_state.proofs.UntilSteps.{UntilMoves, until_due_at, until_fed, until_moved, until_right}
 use Rattle.monitor_state.specs.FilterFeeding.{UntilSettles, WindowFeeds, WindowGoes, WindowSettles}
-use Rattle.monitor_state.specs.Nodes.{window_operands}
-use Rattle.monitor_state.specs.SinceNode.{SinceStandsAt}
-use Rattle.monitor_state.specs.Steps.{StackNews, longer}
+use Rattle.monitor_state.specs.{Nodes.window_operands, SinceNode.SinceStandsAt, Steps.StackNews, Steps.longer}
 use Rattle.monitor_state.specs.WindowNode.{WindowHolds, IsWindow, WindowStands, window_due}
 use Rattle.monitor_state.specs.declared.window.Window.{Window}
 use Rattle.monitor_state.specs.declared.window.Window.TheVariants as window
 
 -- a time and the operands' tables were pushed
 pub window_fed : (view : View) (point : TimePoint) (whole w : CoreForm) (old fed : Window) (p ts : ℕ)
-    (ls rs : List TableOf)
-    → IsWindow w old → WindowStands view p w old → p ≤ length view.log
+    (ls rs : List TableOf) → IsWindow w old → WindowStands view p w old → p ≤ length view.log
     → StackNews view point (window_operands w) (ls ∷ rs ∷ []) → WindowFeeds old ts ls rs fed
     → ts ≡ point.ts → NeverFalls (times (longer view point).log) → Passes (fv view.whole) view.near
     → IsWellFormedIn whole w → IsWindow w fed × WindowStands (longer view point) p w fed
@@ -50,41 +37,22 @@ window_fed view point whole (Until i f g) (window.Until old) (window.Since fed) 
 window_fed view point whole w old fed p ts ls rs is stands inside news feeds ts_is rising passes sound = absurd is
 
 settled_moves : (old new : UntilOf) → UntilSettles old new → UntilMoves 0 (to_take old) old new
-settled_moves old new settles =
-    let same : new.ahead.pulled ≡ old.ahead.pulled = settles.takes.pulled in
-    record {
-      pulled = omega arith;
-      taken = settles.takes.taken;
-      interval = settles.takes.interval;
-      left_columns = settles.takes.left;
-      right_columns = settles.takes.right;
-      negated = settles.takes.negated;
-      times = settles.takes.times;
-      lefts = settles.takes.lefts;
-      rights = settles.takes.rights;
-      in_lefts = omega arith;
-      in_rights = omega arith;
-      left = settles.left;
-      follows = settles.follows;
-    }
+settled_moves old new settles = search rules
 
 -- what could be taken was
 pub window_settled : (view : View) (w : CoreForm) (old new : Window) (p : ℕ) → IsWindow w old
-    → WindowStands view p w old
-    → WindowSettles old new → IsWindow w new × WindowStands view p w new
+    → WindowStands view p w old → WindowSettles old new → IsWindow w new × WindowStands view p w new
 window_settled view (Since i f g) (window.Since old) (window.Since new) p is stands same = rw same (is, stands)
 window_settled view (Until i f g) (window.Until old) (window.Until new) p is stands settles =
     let none : p + 0 ≡ p = omega arith in
     rw none at (until_moved (settled_moves old new settles) (is, stands))
-window_settled view (Since i f g) (window.Since old) (window.Until new) p is stands settles = absurd settles
-window_settled view (Until i f g) (window.Until old) (window.Since new) p is stands settles = absurd settles
-window_settled view w old new p is stands settles = absurd is
+window_settled view w old new p is stands settles = absurd assumption
 
 -- the window went on
 pub window_gone : (view : View) (w : CoreForm) (old new : Window) (p : ℕ) → IsWindow w old → WindowStands view p w old
     → window_due old ≡ true → WindowGoes old new → IsWindow w new × WindowStands view (p + 1) w new
 window_gone view (Since i f g) (window.Since old) (window.Since new) p is stands ready goes =
-    since_moved (one_moves ready goes.0 goes.1) (is, stands)
+    since_moved (grind arith) (is, stands)
 window_gone view (Until i f g) (window.Until old) (window.Until new) p is stands ready goes =
     until_moved moves (is, stands)
   where
@@ -105,9 +73,7 @@ window_gone view (Until i f g) (window.Until old) (window.Until new) p is stands
           left = goes.1;
           follows = goes.2;
         }
-window_gone view (Since i f g) (window.Since old) (window.Until new) p is stands ready goes = absurd goes
-window_gone view (Until i f g) (window.Until old) (window.Since new) p is stands ready goes = absurd goes
-window_gone view w old new p is stands ready goes = absurd is
+window_gone view w old new p is stands ready goes = absurd assumption
 
 all_due : (n m k : ℕ) → 0 < n → 0 < m → 0 < k → (nat_lt 0 n && nat_lt 0 m && nat_lt 0 k) ≡ true
 all_due n m k times lefts rights = grind (arith, nat_tests)
@@ -127,10 +93,7 @@ since_due_at view rising i f g s p stands =
 pub window_due_at : (view : View) → NeverFalls (times view.log) → (w : CoreForm) (s : Window) (p : ℕ)
     → p ≤ length view.log
     → IsWindow w s → WindowStands view p w s → window_due s ≡ settled (times view.log) (meaning w) p
-window_due_at view rising (Since i f g) (window.Since s) p inside is stands = since_due_at view rising i f g s p stands
-window_due_at view rising (Until i f g) (window.Until s) p inside is stands =
-    until_due_at view rising i f g p s is stands inside
-window_due_at view rising w s p inside is stands = absurd is
+window_due_at view rising w s p inside is stands = grind (arith, since_due_at, until_due_at)
 
 -- what the window answers of a near row is what it means
 pub window_means : (view : View) → NeverFalls (times view.log) → Passes (fv view.whole) view.near

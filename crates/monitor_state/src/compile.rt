@@ -93,7 +93,7 @@ fn add_whole_exists(
 ) -> Result<(), AllocError>
     requires operand { node_form core.now ≡ Exists bound.now (node_form inner.now) }
     requires accepted { (role : Role) × Accepted role (node_form core.now) }
-    ensures { OnOk result ((role : Role) → Adds (nodes_in role (node_form core.now)) nodes.old.items nodes.new.items) }
+    ensures { (role : Role) → OnOk result (Adds (nodes_in role (node_form core.now)) nodes.old.items nodes.new.items) }
 {
     add_nodes(alloc, inner, Role::Whole, nodes)?;
     add_exists(bound.number, nodes)
@@ -129,7 +129,7 @@ fn add_whole_previous(
 ) -> Result<(), AllocError>
     requires operand { node_form core.now ≡ Previous interval.now (node_form inner.now) }
     requires accepted { (role : Role) × Accepted role (node_form core.now) }
-    ensures { OnOk result ((role : Role) → Adds (nodes_in role (node_form core.now)) nodes.old.items nodes.new.items) }
+    ensures { (role : Role) → OnOk result (Adds (nodes_in role (node_form core.now)) nodes.old.items nodes.new.items) }
 {
     add_nodes(alloc, inner, Role::Whole, nodes)?;
     add_previous(alloc, interval, inner, nodes)
@@ -147,7 +147,7 @@ fn add_whole_next(
 ) -> Result<(), AllocError>
     requires operand { node_form core.now ≡ Next interval.now (node_form inner.now) }
     requires accepted { (role : Role) × Accepted role (node_form core.now) }
-    ensures { OnOk result ((role : Role) → Adds (nodes_in role (node_form core.now)) nodes.old.items nodes.new.items) }
+    ensures { (role : Role) → OnOk result (Adds (nodes_in role (node_form core.now)) nodes.old.items nodes.new.items) }
 {
     add_nodes(alloc, inner, Role::Whole, nodes)?;
     add_next(alloc, interval, inner, nodes)
@@ -166,7 +166,7 @@ fn add_whole_since(
 ) -> Result<(), AllocError>
     requires operands { node_form core.now ≡ Since interval.now (node_form left.now) (node_form right.now) }
     requires accepted { (role : Role) × Accepted role (node_form core.now) }
-    ensures { OnOk result ((role : Role) → Adds (nodes_in role (node_form core.now)) nodes.old.items nodes.new.items) }
+    ensures { (role : Role) → OnOk result (Adds (nodes_in role (node_form core.now)) nodes.old.items nodes.new.items) }
 {
     add_both(alloc, left, Role::Left, right, Role::Whole, nodes)?;
     add_since(alloc, core, interval, left, right, nodes)
@@ -185,7 +185,7 @@ fn add_whole_until(
 ) -> Result<(), AllocError>
     requires operands { node_form core.now ≡ Until interval.now (node_form left.now) (node_form right.now) }
     requires accepted { (role : Role) × Accepted role (node_form core.now) }
-    ensures { OnOk result ((role : Role) → Adds (nodes_in role (node_form core.now)) nodes.old.items nodes.new.items) }
+    ensures { (role : Role) → OnOk result (Adds (nodes_in role (node_form core.now)) nodes.old.items nodes.new.items) }
 {
     add_both(alloc, left, Role::Left, right, Role::Whole, nodes)?;
     add_until(alloc, core, interval, left, right, nodes)
@@ -203,7 +203,7 @@ fn add_whole_or(
 ) -> Result<(), AllocError>
     requires operands { node_form core.now ≡ Or (node_form left.now) (node_form right.now) }
     requires accepted { (role : Role) × Accepted role (node_form core.now) }
-    ensures { OnOk result ((role : Role) → Adds (nodes_in role (node_form core.now)) nodes.old.items nodes.new.items) }
+    ensures { (role : Role) → OnOk result (Adds (nodes_in role (node_form core.now)) nodes.old.items nodes.new.items) }
 {
     add_both(alloc, left, Role::Whole, right, Role::Whole, nodes)?;
     add_or(alloc, left, right, nodes)

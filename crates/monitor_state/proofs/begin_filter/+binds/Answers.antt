@@ -1,7 +1,6 @@
 use Rattle.std.proofs.Common.{sym, ap, ◌∙◌}
 use Rattle.mfotl_model.specs.FreeVariables.{among}
-use Rattle.monitorable.specs.CoreForms.{node_form}
-use Rattle.monitorable.specs.Fragment.{bound_by}
+use Rattle.monitorable.specs.{CoreForms.node_form, Fragment.bound_by}
 use Rattle.monitorable.specs.declared.node.Node.{Node}
 use Rattle.monitor_state.proofs.FilterBegins.{bound_by_left, bound_by_right}
 use Rattle.monitor_state.proofs.begin_filter.+binds.Goals as goal

@@ -1,8 +1,7 @@
 use Rattle.std.proofs.Common.{◌≡◌, ℕ, drop}
 use Rattle.std.specs.List.{list_all}
 use Rattle.mfotl_model.specs.FreeVariables.{among}
-use Rattle.monitorable.specs.CoreForms.{node_form}
-use Rattle.monitorable.specs.Fragment.{bound_by}
+use Rattle.monitorable.specs.{CoreForms.node_form, Fragment.bound_by}
 use Rattle.monitor_state.proofs.begin_filter.binds_all.Given as goal
 
 abbrev pub invariant-loop-x : goal.invariant-loop-x

@@ -2,8 +2,7 @@ use Rattle.std.proofs.Common.{[], subst, sym}
 use Rattle.monitorable.specs.CoreForms.{node_form}
 use Rattle.monitorable.specs.declared.role.Role.TheVariants as role
 use Rattle.monitor_state.proofs.PosedLemmas.{posed_accepted}
-use Rattle.monitor_state.specs.Beginnings.{Accepted, Adds}
-use Rattle.monitor_state.specs.Nodes.{nodes_in}
+use Rattle.monitor_state.specs.{Beginnings.Accepted, Beginnings.Adds, Nodes.nodes_in}
 use Rattle.monitor_state.proofs.compile.begun_nodes.Goals as goal
 
 pub add_nodes-requires : goal.add_nodes-requires

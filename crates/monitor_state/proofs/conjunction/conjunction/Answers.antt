@@ -4,15 +4,10 @@ use Rattle.std.specs.List.{list_all, list_any}
 use Rattle.mfotl_model.proofs.LogicLemmas.{any_map}
 use Rattle.eval_bool.specs.Laws.{passes}
 use Rattle.eval_bool.specs.JoinView.{children_of, is_guarded, join_begun, tests_of}
-use Rattle.monitorable.specs.Conjuncts.{conjuncts_of}
-use Rattle.monitorable.specs.CoreForms.{node_form}
-use Rattle.monitorable.specs.PartView.{part_form}
-use Rattle.monitor_state.proofs.BeginLemmas.{join_node, tests_node}
-use Rattle.monitor_state.proofs.ConstantLemmas.{tests_are, tests_closed}
-use Rattle.monitor_state.proofs.GuardLemmas.{join_guarded, some_child}
-use Rattle.monitor_state.specs.Beginnings.{is_child}
-use Rattle.monitor_state.specs.Constants.{is_ground_test}
-use Rattle.monitor_state.specs.Stands.{conjunct_as}
+use Rattle.monitorable.specs.{Conjuncts.conjuncts_of, CoreForms.node_form, PartView.part_form}
+use Rattle.monitor_state.proofs.{BeginLemmas.join_node, BeginLemmas.tests_node, ConstantLemmas.tests_are}
+use Rattle.monitor_state.proofs.{ConstantLemmas.tests_closed, GuardLemmas.join_guarded, GuardLemmas.some_child}
+use Rattle.monitor_state.specs.{Beginnings.is_child, Constants.is_ground_test, Stands.conjunct_as}
 use Rattle.monitor_state.proofs.conjunction.conjunction.Goals as goal
 
 pub join_state-requires : goal.join_state-requires

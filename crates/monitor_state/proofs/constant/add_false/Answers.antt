@@ -1,5 +1,4 @@
-use Rattle.std.proofs.Common.{◌∙◌}
-use Rattle.std.proofs.lemmas.Result.{on_ok_weaker}
+use Rattle.std.proofs.{Common.◌∙◌, lemmas.Result.on_ok_weaker}
 use Rattle.monitor_state.proofs.BeginLemmas.{false_adds}
 use Rattle.monitor_state.proofs.constant.add_false.Goals as goal
 

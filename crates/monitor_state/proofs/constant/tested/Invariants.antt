@@ -1,11 +1,9 @@
 use Rattle.std.proofs.Common.{◌≡◌, ◌&&◌, true, [], drop}
 use Rattle.std.specs.List.{list_all}
-use Rattle.mfotl_model.specs.Satisfaction.{Valuation}
-use Rattle.mfotl_model.specs.Tables.{has}
+use Rattle.mfotl_model.specs.{Satisfaction.Valuation, Tables.has}
 use Rattle.eval_bool.specs.Laws.{passes}
 use Rattle.monitorable.specs.PartView.{part_form}
-use Rattle.monitor_state.specs.Constants.{is_ground_test}
-use Rattle.monitor_state.specs.Stands.{conjunct_as}
+use Rattle.monitor_state.specs.{Constants.is_ground_test, Stands.conjunct_as}
 use Rattle.monitor_state.proofs.constant.tested.Given as goal
 
 abbrev pub invariant-loop-part : goal.invariant-loop-part

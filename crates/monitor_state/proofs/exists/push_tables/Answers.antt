@@ -1,5 +1,4 @@
-use Rattle.monitor_state.proofs.NodeSteps.{quantifies_more}
-use Rattle.monitor_state.proofs.TablesLemmas.{all_yielded}
+use Rattle.monitor_state.proofs.{NodeSteps.quantifies_more, TablesLemmas.all_yielded}
 use Rattle.monitor_state.proofs.exists.push_tables.Goals as goal
 
 pub loop-table-init : goal.loop-table-init

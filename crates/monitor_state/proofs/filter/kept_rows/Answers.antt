@@ -1,6 +1,5 @@
 use Rattle.std.proofs.Common.{◌≡◌, ◌∷◌, ◌++◌, rules, refl, subst}
-use Rattle.relations.specs.Pushed.{turned}
-use Rattle.relations.specs.Tables.{IsTable}
+use Rattle.relations.specs.{Pushed.turned, Tables.IsTable}
 use Rattle.monitor_state.proofs.SiftLemmas.{sift_more, table_kept}
 use Rattle.monitor_state.proofs.filter.kept_rows.Goals as goal
 

@@ -1,5 +1,4 @@
-use Rattle.std.proofs.Common.{List, refl}
-use Rattle.std.proofs.lemmas.Result.{IfOk-weaker}
+use Rattle.std.proofs.{Common.List, Common.refl, lemmas.Result.IfOk-weaker}
 use Rattle.mfotl_model.specs.Tables.{TableOf}
 use Rattle.monitor_state.specs.FilterFeeding.{FilterPulled, FilterStops, FilterTakes}
 use Rattle.monitor_state.specs.declared.filter.FilterState.{FilterState}

@@ -1,5 +1,4 @@
-use Rattle.monitor_state.proofs.JoinLemmas.{fed_none, fed_one}
-use Rattle.monitor_state.proofs.TablesLemmas.{all_yielded}
+use Rattle.monitor_state.proofs.{JoinLemmas.fed_none, JoinLemmas.fed_one, TablesLemmas.all_yielded}
 use Rattle.monitor_state.proofs.join.push_child.Goals as goal
 
 pub loop-table-init : goal.loop-table-init

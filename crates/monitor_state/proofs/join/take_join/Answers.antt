@@ -1,6 +1,5 @@
 use Rattle.std.proofs.Common.{arith}
-use Rattle.monitor_state.proofs.JoinLemmas.{fed_length}
-use Rattle.monitor_state.proofs.OrderingLemmas.{ok_both}
+use Rattle.monitor_state.proofs.{JoinLemmas.fed_length, OrderingLemmas.ok_both}
 use Rattle.monitor_state.proofs.join.take_join.Goals as goal
 
 pub pulled-requires : goal.pulled-requires

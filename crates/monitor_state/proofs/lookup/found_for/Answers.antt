@@ -1,7 +1,6 @@
 use Rattle.std.proofs.Common.{sym, ap, ◌∙◌}
 use Rattle.std.proofs.lemmas.Slice.Eq.{bytes_eq-Decides}
-use Rattle.mfotl_model.specs.FreeVariables.{among}
-use Rattle.mfotl_model.specs.Tables.{all_among, all_apart}
+use Rattle.mfotl_model.specs.{FreeVariables.among, Tables.all_among, Tables.all_apart}
 use Rattle.mfotl_model.proofs.ColumnLemmas.{filter_apart}
 use Rattle.relations.proofs.ColumnLemmas.{common_in_first, common_in_second}
 use Rattle.relations.specs.Operations.{common}

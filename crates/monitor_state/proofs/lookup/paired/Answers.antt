@@ -1,7 +1,5 @@
-use Rattle.std.proofs.Common.{ap, ◌∙◌}
-use Rattle.std.proofs.Math.Bool.{and_comm, or_comm}
-use Rattle.mfotl_model.specs.FreeVariables.{among}
-use Rattle.mfotl_model.specs.Tables.{has}
+use Rattle.std.proofs.{Common.ap, Common.◌∙◌, Math.Bool.and_comm, Math.Bool.or_comm}
+use Rattle.mfotl_model.specs.{FreeVariables.among, Tables.has}
 use Rattle.mfotl_model.proofs.LogicLemmas.{among_joined}
 use Rattle.monitor_state.proofs.lookup.paired.Goals as goal
 

@@ -1,5 +1,4 @@
-use Rattle.monitor_state.proofs.NextLemmas.{pushed_more, pushed_none}
-use Rattle.monitor_state.proofs.TablesLemmas.{all_yielded}
+use Rattle.monitor_state.proofs.{NextLemmas.pushed_more, NextLemmas.pushed_none, TablesLemmas.all_yielded}
 use Rattle.monitor_state.proofs.next.push_tables.Goals as goal
 
 pub loop-table-init : goal.loop-table-init

@@ -1,5 +1,4 @@
-use Rattle.monitor_state.proofs.OrLemmas.{operand_none, operand_one}
-use Rattle.monitor_state.proofs.TablesLemmas.{all_yielded}
+use Rattle.monitor_state.proofs.{OrLemmas.operand_none, OrLemmas.operand_one, TablesLemmas.all_yielded}
 use Rattle.monitor_state.proofs.or.push_operand.Goals as goal
 
 pub loop-table-init : goal.loop-table-init

@@ -1,5 +1,4 @@
-use Rattle.monitor_state.proofs.PreviousLemmas.{pushed_more}
-use Rattle.monitor_state.proofs.TablesLemmas.{all_yielded}
+use Rattle.monitor_state.proofs.{PreviousLemmas.pushed_more, TablesLemmas.all_yielded}
 use Rattle.monitor_state.proofs.previous.push_tables.Goals as goal
 
 pub loop-table-preserved : goal.loop-table-preserved

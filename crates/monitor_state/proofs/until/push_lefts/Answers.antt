@@ -1,5 +1,4 @@
-use Rattle.monitor_state.proofs.UntilLemmas.{lefts_more}
-use Rattle.monitor_state.proofs.TablesLemmas.{all_yielded}
+use Rattle.monitor_state.proofs.{UntilLemmas.lefts_more, TablesLemmas.all_yielded}
 use Rattle.monitor_state.proofs.until.push_lefts.Goals as goal
 
 pub loop-table-preserved : goal.loop-table-preserved

@@ -1,10 +1,8 @@
 use Rattle.std.proofs.Common.{[], subst, refl, ap, ◌∙◌}
-use Rattle.monitorable.specs.Cores.{core_form}
-use Rattle.monitorable.specs.Fragment.{fault_in}
+use Rattle.monitorable.specs.{Cores.core_form, Fragment.fault_in}
 use Rattle.monitorable.specs.declared.role.Role.TheVariants as role
 use Rattle.monitor_state.proofs.BeginLemmas.{begins}
-use Rattle.monitor_state.specs.Beginnings.{Adds}
-use Rattle.monitor_state.specs.Nodes.{nodes_of}
+use Rattle.monitor_state.specs.{Beginnings.Adds, Nodes.nodes_of}
 use Rattle.monitor_state.proofs.monitor.Monitor.new.Goals as goal
 
 pub returns-clause-begins : goal.returns-clause-begins

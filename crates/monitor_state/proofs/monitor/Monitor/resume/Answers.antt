@@ -1,12 +1,9 @@
 use Rattle.std.proofs.Common.{◌-◌, [], subst, refl, sym, ap, ◌∙◌}
-use Rattle.monitorable.specs.Cores.{core_form}
-use Rattle.monitorable.specs.Fragment.{fault_in}
+use Rattle.monitorable.specs.{Cores.core_form, Fragment.fault_in}
 use Rattle.monitorable.specs.declared.role.Role.TheVariants as role
 use Rattle.monitor_state.proofs.ResumeState.{all_match, empty_view, fresh_stand, state_resumed, times_are}
-use Rattle.monitor_state.specs.Beginnings.{Adds}
-use Rattle.monitor_state.specs.Nodes.{nodes_of}
-use Rattle.monitor_state.specs.Resuming.{AllMatch, NodesResumed}
-use Rattle.monitor_state.specs.StateTimes.{times_of}
+use Rattle.monitor_state.specs.{Beginnings.Adds, Nodes.nodes_of, Resuming.AllMatch, Resuming.NodesResumed}
+use Rattle.monitor_state.specs.{StateTimes.times_of}
 use Rattle.monitor_state.proofs.monitor.Monitor.resume.Goals as goal
 
 pub begun_nodes-requires : goal.begun_nodes-requires

@@ -1,8 +1,7 @@
 use Rattle.std.proofs.Common.{drop, refl, subst, ap, ◌∙◌}
 use Rattle.monitorable.specs.Cores.{core_form}
 use Rattle.monitor_state.proofs.RecordState.{state_keeps, state_recorded}
-use Rattle.monitor_state.specs.MonitorView.{monitor_of}
-use Rattle.monitor_state.specs.Recording.{NodesRecorded, longest}
+use Rattle.monitor_state.specs.{MonitorView.monitor_of, Recording.NodesRecorded, Recording.longest}
 use Rattle.monitor_state.proofs.monitor.Monitor.state.Goals as goal
 
 pub returns-clause-rule : goal.returns-clause-rule
