@@ -3,8 +3,7 @@ use Rattle.std.proofs.Common.{◌≡◌, ℕ, ◌+◌, ◌-◌, ◌<◌, Bool, c
 use Rattle.std.proofs.lemmas.List.Sums.{sum_by-cons}
 use Rattle.std.specs.List.{count_by, range_with_len}
 use Rattle.mfotl_plain.proofs.SettlingLemmas.{range_cons}
-use Rattle.mfotl_model.specs.Formulas.{Form}
-use Rattle.mfotl_model.specs.Violations.{viol}
+use Rattle.mfotl_model.specs.{Formulas.Form, Violations.viol}
 use Rattle.mfotl_model.specs.declared.event.TimePoint.{TimePoint}
 use Rattle.definitions_check.specs.Answers.{rows_line, violation_lines}
 

@@ -3,17 +3,13 @@ use Rattle.std.proofs.Common.{◌≡◌, ◌∙◌, ℕ, zero, suc, ◌+◌, ◌
 use Rattle.std.proofs.Common.{arith, length-append}
 use Rattle.std.proofs.lemmas.List.{map-append}
 use Rattle.mfotl_model.proofs.TimeLemmas.{climbs_push}
-use Rattle.mfotl_model.specs.Log.{times}
-use Rattle.mfotl_model.specs.Satisfaction.{time_at}
-use Rattle.mfotl_model.specs.Strategies.{Strategy}
-use Rattle.mfotl_model.specs.Times.{Climbs, NeverFalls}
+use Rattle.mfotl_model.specs.{Log.times, Satisfaction.time_at, Strategies.Strategy, Times.Climbs, Times.NeverFalls}
 use Rattle.mfotl_model.specs.declared.event.TimePoint.{TimePoint}
 use Rattle.monitorable.specs.CoreForms.{CoreForm}
 use Rattle.rescale_core.proofs.WorldLemmas.{sound_more, spot_more}
 use Rattle.rescale_core.specs.Lines.{Spot, first_spot, spot_after}
 use Rattle.rescale_core.specs.Workers.{IsFor}
-use Rattle.rescale_core.specs.declared.item.Entry.{Entry}
-use Rattle.rescale_core.specs.declared.item.Entry.TheVariants.{Point, Change}
+use Rattle.rescale_core.specs.declared.{item.Entry.Entry, item.Entry.TheVariants.Point, item.Entry.TheVariants.Change}
 use Rattle.machine_cases.specs.Scripts.{AreReadable}
 
 lowest : (least : ℕ) (ts : List ℕ) (last : ℕ) → Climbs least ts last → (j : ℕ) → j < length ts → least ≤ time_at ts j

@@ -1,16 +1,11 @@
 -- That a policy's core, and a strategy over its variables, are as a machine asks for.
 use Rattle.std.proofs.Common.{◌≡◌, ◌∙◌, ap, sym, true, List, length, ◌++◌}
 use Rattle.std.specs.List.{range_with_len}
-use Rattle.mfotl_model.specs.Formulas.{Form}
-use Rattle.mfotl_model.specs.FreeVariables.{fv}
-use Rattle.mfotl_model.specs.Strategies.{Strategy}
-use Rattle.mfotl_model.specs.Tables.{all_apart}
+use Rattle.mfotl_model.specs.{Formulas.Form, FreeVariables.fv, Strategies.Strategy, Tables.all_apart}
 use Rattle.mfotl_model.specs.declared.policy.Var.{Var}
 use Rattle.mfotl_parse.specs.WellSorted.{IsWellSorted}
 use Rattle.mfotl_sig.specs.Preds.{PredOf}
-use Rattle.monitorable.specs.CoreForms.{CoreForm, meaning}
-use Rattle.monitorable.specs.Fragment.{IsMonitorable}
-use Rattle.monitorable.specs.Renaming.{binders}
+use Rattle.monitorable.specs.{CoreForms.CoreForm, CoreForms.meaning, Fragment.IsMonitorable, Renaming.binders}
 use Rattle.rescale_core.specs.Workers.{IsFor}
 use Rattle.slice_strategy.specs.Entries.{HasWorkers}
 

@@ -1,22 +1,13 @@
 -- Values put one after another, and their ascending order.
 use Rattle.std.proofs.Common.{◌≡◌, ℕ, ◌+◌, ◌<◌, Bool, length, take, get_or, List, [], ◌++◌, ◌||◌, refl, ap, sym, ◌∙◌}
-use Rattle.std.proofs.lemmas.List.Filters.{dedup_is}
-use Rattle.std.proofs.lemmas.List.Folds.{list_any-append}
-use Rattle.std.specs.List.{flat_map, list_any}
-use Rattle.std.specs.List.Retain.{DiffersFromLast, IsFiltered}
-use Rattle.std.specs.List.Sorted.{IsPermutation, IsSorted}
-use Rattle.std.specs.Ordering.{eq_by_cmp}
-use Rattle.mfotl_model.specs.ActiveDomain.{log_values}
-use Rattle.mfotl_model.specs.Ascending.{ascending}
-use Rattle.mfotl_model.specs.Events.{event_cmp, event_total}
-use Rattle.mfotl_model.specs.Values.{value_cmp, value_total}
-use Rattle.mfotl_model.specs.declared.event.Event.{Event}
-use Rattle.mfotl_model.specs.declared.event.TimePoint.{TimePoint}
-use Rattle.mfotl_model.specs.declared.value.Value.{Value}
-use Rattle.mfotl_model.proofs.AscendingLemmas.{any_ascending, same_ascending}
-use Rattle.mfotl_model.proofs.LogicLemmas.{any_flat_map}
-use Rattle.mfotl_model.proofs.RowLemmas.{event_exact, value_exact}
-use Rattle.mfotl_model.proofs.SortedLemmas.{sorted_ascends}
+use Rattle.std.proofs.{lemmas.List.Filters.dedup_is, lemmas.List.Folds.list_any-append}
+use Rattle.std.specs.{List.flat_map, List.list_any, List.Retain.DiffersFromLast, List.Retain.IsFiltered}
+use Rattle.std.specs.{List.Sorted.IsPermutation, List.Sorted.IsSorted, Ordering.eq_by_cmp}
+use Rattle.mfotl_model.specs.{ActiveDomain.log_values, Ascending.ascending, Events.event_cmp, Events.event_total}
+use Rattle.mfotl_model.specs.{Values.value_cmp, Values.value_total}
+use Rattle.mfotl_model.specs.declared.{event.Event.Event, event.TimePoint.TimePoint, value.Value.Value}
+use Rattle.mfotl_model.proofs.{AscendingLemmas.any_ascending, AscendingLemmas.same_ascending, LogicLemmas.any_flat_map}
+use Rattle.mfotl_model.proofs.{RowLemmas.event_exact, RowLemmas.value_exact, SortedLemmas.sorted_ascends}
 use Rattle.mfotl_plain.proofs.PlainRowLemmas.{flat_map_more}
 
 -- values that were sorted and have no equal neighbours, from what the calls say

@@ -1,12 +1,9 @@
 -- The lines of a log, one after another.
-use Rattle.std.proofs.Common.{◌≡◌, ℕ, ◌+◌, ◌-◌, ◌<◌, ◌≤◌, Bool, true, false, append-nil, List, ◌∷◌, ◌++◌, length}
-use Rattle.std.proofs.Common.{map, take, suc, arith, cond, ap, sym, ◌∙◌, append_assoc}
+use Rattle.std.proofs.Common.{◌≡◌, ℕ, ◌+◌, ◌-◌, ◌<◌, ◌≤◌, Bool, true, false, append-nil, List, ◌∷◌, ◌++◌, length, map}
+use Rattle.std.proofs.Common.{take, suc, arith, cond, ap, sym, ◌∙◌, append_assoc}
 use Rattle.std.specs.List.{flat_map, prefix_len, range_with_len, take_while}
 use Rattle.mfotl_model.specs.declared.event.TimePoint.{TimePoint}
-use Rattle.mfotl_model.specs.Formulas.{Form}
-use Rattle.mfotl_model.specs.Log.{times}
-use Rattle.mfotl_model.specs.Settled.{settled}
-use Rattle.mfotl_model.specs.VerdictText.{line_of, verdict_at}
+use Rattle.mfotl_model.specs.{Formulas.Form, Log.times, Settled.settled, VerdictText.line_of, VerdictText.verdict_at}
 use Rattle.mfotl_plain.proofs.SettlingLemmas.{range_cons}
 
 -- the lines of the positions from one on, as far as they are settled

@@ -1,8 +1,6 @@
 -- Lists of rows that grow by one element behind.
-use Rattle.std.proofs.Common.{◌≡◌, ℕ, ◌+◌, ◌<◌, List, [], ◌∷◌, ◌++◌, length, take, get_or, ap}
-use Rattle.std.proofs.Common.{sym, ◌∙◌, append-nil}
-use Rattle.std.proofs.lemmas.Grind.{flat_map-append}
-use Rattle.std.proofs.lemmas.List.{take_more}
+use Rattle.std.proofs.Common.{◌≡◌, ℕ, ◌+◌, ◌<◌, List, [], ◌∷◌, ◌++◌, length, take, get_or, ap, sym, ◌∙◌, append-nil}
+use Rattle.std.proofs.{lemmas.Grind.flat_map-append, lemmas.List.take_more}
 use Rattle.std.specs.List.{flat_map}
 
 -- what the elements up to one more give

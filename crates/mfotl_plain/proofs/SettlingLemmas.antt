@@ -1,10 +1,9 @@
 -- Positions one after another, and two operands: they are settled where each of them is.
-use Rattle.std.proofs.Common.{◌≡◌, ℕ, ◌+◌, ◌-◌, Bool, true, false, ◌&&◌, ◌||◌, List, [], ◌∷◌, length, suc, ◌<◌}
-use Rattle.std.proofs.Common.{arith, refl, ap, sym, ◌∙◌, Option, Some, None}
+use Rattle.std.proofs.Common.{◌≡◌, ℕ, ◌+◌, ◌-◌, Bool, true, false, ◌&&◌, ◌||◌, List, [], ◌∷◌, length, suc, ◌<◌, arith}
+use Rattle.std.proofs.Common.{refl, ap, sym, ◌∙◌, Option, Some, None}
 use Rattle.std.specs.Prelude.{nat_lt}
 use Rattle.std.specs.List.{list_all, list_any, range_with_len}
-use Rattle.mfotl_model.specs.Satisfaction.{time_at}
-use Rattle.mfotl_model.specs.Settled.{since_settled, until_settled}
+use Rattle.mfotl_model.specs.{Satisfaction.time_at, Settled.since_settled, Settled.until_settled}
 
 -- a range from j on begins with j
 pub range_cons : (j end : ℕ) → j < end

@@ -1,7 +1,6 @@
 use Rattle.std.proofs.Common.{◌≡◌, ◌+◌, ◌-◌, ◌≤◌, length}
 use Rattle.std.specs.List.{count_by, range_with_len}
-use Rattle.mfotl_model.specs.Formulas.{form}
-use Rattle.mfotl_model.specs.Settled.{settled}
+use Rattle.mfotl_model.specs.{Formulas.form, Settled.settled}
 use Rattle.definitions_check.specs.Answers.{settled_count}
 use Rattle.definitions_check.proofs.answers.settled_count.Given as goal
 

@@ -1,7 +1,5 @@
 use Rattle.std.proofs.Common.{◌≡◌, take}
-use Rattle.mfotl_model.specs.ActiveDomain.{log_values}
-use Rattle.mfotl_model.specs.Ascending.{ascending}
-use Rattle.mfotl_model.specs.Values.{value_cmp}
+use Rattle.mfotl_model.specs.{ActiveDomain.log_values, Ascending.ascending, Values.value_cmp}
 use Rattle.mfotl_plain.proofs.domain.values_of_log.Given as goal
 
 abbrev pub invariant-loop-point : goal.invariant-loop-point

@@ -1,6 +1,5 @@
 use Rattle.std.proofs.Common.{◌∙◌, ap, sym}
-use Rattle.mfotl_model.specs.Formulas.{form}
-use Rattle.mfotl_model.specs.Settled.{settled}
+use Rattle.mfotl_model.specs.{Formulas.form, Settled.settled}
 use Rattle.mfotl_plain.proofs.LineLemmas.{line_written, text_finished, text_stopped}
 use Rattle.mfotl_plain.proofs.lines.log_text.Goals as goal
 

@@ -1,8 +1,6 @@
 use Rattle.std.proofs.Common.{◌≡◌, ◌++◌, ◌-◌, length, map}
 use Rattle.std.specs.List.{flat_map, range_with_len, take_while}
-use Rattle.mfotl_model.specs.Formulas.{form}
-use Rattle.mfotl_model.specs.Log.{times}
-use Rattle.mfotl_model.specs.Settled.{settled}
+use Rattle.mfotl_model.specs.{Formulas.form, Log.times, Settled.settled}
 use Rattle.mfotl_model.specs.VerdictText.{line_of, text, verdict_at}
 use Rattle.mfotl_plain.proofs.lines.log_text.Given as goal
 

@@ -1,10 +1,7 @@
 use Rattle.std.proofs.Common.{◌≡◌, ◌+◌, ◌*◌, ◌-◌, ◌||◌, ℕ, length, max}
-use Rattle.std.specs.Prelude.{nat_lt}
-use Rattle.std.specs.List.{list_all, range_with_len}
+use Rattle.std.specs.{Prelude.nat_lt, List.list_all, List.range_with_len}
 use Rattle.mfotl_model.specs.declared.formula.Formula.{size-Formula}
-use Rattle.mfotl_model.specs.Formulas.{form}
-use Rattle.mfotl_model.specs.Satisfaction.{time_at}
-use Rattle.mfotl_model.specs.Settled.{settled}
+use Rattle.mfotl_model.specs.{Formulas.form, Satisfaction.time_at, Settled.settled}
 use Rattle.mfotl_plain.proofs.settling.+settling.Given as goal
 
 abbrev pub decreases-is_settled : goal.decreases-is_settled

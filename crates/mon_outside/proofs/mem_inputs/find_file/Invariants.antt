@@ -1,6 +1,5 @@
 use Rattle.std.proofs.Common.{◌≡◌, drop}
-use Rattle.mon_outside.specs.Files.{find_file}
-use Rattle.mon_outside.specs.Memory.{as_files}
+use Rattle.mon_outside.specs.{Files.find_file, Memory.as_files}
 use Rattle.mon_outside.proofs.mem_inputs.find_file.Given as goal
 
 abbrev pub invariant-loop-file : goal.invariant-loop-file

@@ -1,8 +1,7 @@
 use Rattle.std.proofs.Common.{◌≡◌, ◌+◌, ◌*◌, drop, max}
 use Rattle.std.specs.List.{list_all, list_any}
 use Rattle.mfotl_plain.specs.Bindings.{valuation_of}
-use Rattle.mfotl_model.specs.declared.formula.Formula.{size-Formula}
-use Rattle.mfotl_model.specs.declared.value.Value.{Value}
+use Rattle.mfotl_model.specs.declared.{formula.Formula.size-Formula, value.Value.Value}
 use Rattle.mfotl_model.specs.Formulas.{form}
 use Rattle.mfotl_model.specs.Satisfaction.{sat, truths, with_value}
 use Rattle.mfotl_plain.proofs.satisfaction.Interpretation.+satisfaction.Given as goal

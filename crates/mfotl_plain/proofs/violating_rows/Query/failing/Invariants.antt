@@ -1,8 +1,6 @@
 use Rattle.std.proofs.Common.{◌≡◌, not}
 use Rattle.std.specs.List.{filter}
-use Rattle.mfotl_model.specs.Formulas.{form}
-use Rattle.mfotl_model.specs.Satisfaction.{sat}
-use Rattle.mfotl_model.specs.Violations.{valuation}
+use Rattle.mfotl_model.specs.{Formulas.form, Satisfaction.sat, Violations.valuation}
 use Rattle.mfotl_plain.proofs.violating_rows.Query.failing.Given as goal
 
 abbrev pub invariant-loop-row : goal.invariant-loop-row
