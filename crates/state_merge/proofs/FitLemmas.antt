@@ -1,25 +1,19 @@
 -- States that stand for one log fit.
-use Rattle.std.proofs.Common.{◌≡◌, ℕ, ◌+◌, ◌*◌, ◌<◌, Bool, true, false, cond, List, [], ◌∷◌, ◌++◌, length}
-use Rattle.std.proofs.Common.{refl, sym, ap, ◌∙◌, arith}
+use Rattle.std.proofs.Common.{◌≡◌, ℕ, ◌+◌, ◌*◌, ◌<◌, Bool, true, false, cond, List, [], ◌∷◌, ◌++◌, length, refl, sym}
+use Rattle.std.proofs.Common.{ap, ◌∙◌, arith}
 use Rattle.std.specs.List.{AllByRecursion}
-use Rattle.mfotl_model.specs.Exact.{AllExact, View}
-use Rattle.mfotl_model.specs.Formulas.{Form}
+use Rattle.mfotl_model.specs.{Exact.AllExact, Exact.View, Formulas.Form, Tables.TableOf}
 use Rattle.mfotl_model.specs.Regions.{Region, in_both, near_of}
-use Rattle.mfotl_model.specs.Tables.{TableOf}
-use Rattle.mfotl_model.specs.declared.interval.Interval.{Interval}
-use Rattle.mfotl_model.specs.declared.value.Value.{Value}
+use Rattle.mfotl_model.specs.declared.{interval.Interval.Interval, value.Value.Value}
 use Rattle.eval_bool.specs.BoolData.{kept_tables}
 use Rattle.eval_bool.specs.declared.recalled.JoinData.{JoinData}
 use Rattle.eval_since.proofs.RestoredLemmas.{each_ascends as times_rise}
-use Rattle.eval_until.specs.declared.recalled.KeptMarks.{KeptMarks}
-use Rattle.eval_until.specs.declared.recalled.Mark.{Mark}
-use Rattle.monitorable.specs.Conjuncts.{conjuncts_of}
+use Rattle.eval_until.specs.declared.{recalled.KeptMarks.KeptMarks, recalled.Mark.Mark}
+use Rattle.monitorable.specs.{Conjuncts.conjuncts_of, NodeCount.nodes}
 use Rattle.monitorable.specs.CoreForms.{CoreForm, meaning, Not, And, Or, Previous, Next, Since, Until}
-use Rattle.monitorable.specs.NodeCount.{nodes}
 use Rattle.relations.proofs.KeptLemmas.{each_kept}
-use Rattle.monitor_state.proofs.SizeLemmas.{since_both_smaller, until_both_smaller}
-use Rattle.monitor_state.proofs.MarkLemmas.{entries_are}
-use Rattle.monitor_state.proofs.MonitorSteps.{children_append}
+use Rattle.monitor_state.proofs.{SizeLemmas.since_both_smaller, SizeLemmas.until_both_smaller, MarkLemmas.entries_are}
+use Rattle.monitor_state.proofs.{MonitorSteps.children_append}
 use Rattle.monitor_state.specs.Nodes.{children, filters, left_operand, nodes_of, operands, window_operands}
 use Rattle.monitor_state.specs.Pieces.{PieceStands, near_some, view_of}
 use Rattle.monitor_state.specs.StateLaws.{seen_in}
@@ -27,16 +21,13 @@ use Rattle.monitor_state.specs.StateRules.{JoinKeeps, NodeKeeps, NodesKeep, Sinc
 use Rattle.monitor_state.specs.StateStands.{JoinDataStands, NodeDataStands, NodesDataStand, TablesStand}
 use Rattle.monitor_state.specs.StateStands.{WindowDataStands, marks_kept}
 use Rattle.monitor_state.specs.StateTimes.{KeptTimes, times_from, times_of}
-use Rattle.monitor_state.specs.declared.state.NodeData.{NodeData}
+use Rattle.monitor_state.specs.declared.{state.NodeData.NodeData, state.SinceKept.SinceKept, state.UntilKept.UntilKept}
+use Rattle.monitor_state.specs.declared.{state.WindowData.WindowData}
 use Rattle.monitor_state.specs.declared.state.NodeData.TheVariants as kept
-use Rattle.monitor_state.specs.declared.state.SinceKept.{SinceKept}
-use Rattle.monitor_state.specs.declared.state.UntilKept.{UntilKept}
-use Rattle.monitor_state.specs.declared.state.WindowData.{WindowData}
 use Rattle.monitor_state.specs.declared.state.WindowData.TheVariants as window
 use Rattle.state_merge.proofs.UntilRows.{marks_places, same_keys}
-use Rattle.state_merge.specs.Fitting.{PiecesFit, StatesFit}
+use Rattle.state_merge.specs.{Fitting.PiecesFit, Fitting.StatesFit, Pairs.MarksAscend}
 use Rattle.state_merge.specs.Fits.{AllAlike, ListsFit, NodesAlike, SinceOrdered, TablesFit, UntilOrdered, WindowsFit}
-use Rattle.state_merge.specs.Pairs.{MarksAscend}
 
 -- ---- a conjunction whose right side filters has no conjunct for each operand
 
@@ -50,8 +41,7 @@ last_there d [] w = refl
 last_there d (f ∷ fs) w = last_there f fs w
 
 opened : (f g : CoreForm) → filters f g ≡ true → operands (And f g) ≡ f ∷ window_operands (left_operand g)
-opened f g on =
-    ap (λ b. cond b (f ∷ window_operands (left_operand g)) (children (conjuncts_of (And f g)))) on
+opened f g on = ap (λ b. cond b (f ∷ window_operands (left_operand g)) (children (conjuncts_of (And f g)))) on
 
 -- the last operand would be the window itself
 itself : (f g l e w : CoreForm) → 2 * (nodes l + nodes e) < 2 * nodes w

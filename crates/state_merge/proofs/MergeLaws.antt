@@ -1,24 +1,19 @@
 -- What is adopted, and what is merged of all pieces.
-use Rattle.std.proofs.Common.{◌≡◌, ◌≢◌, ℕ, Bool, true, ◌&&◌, ◌||◌, List, [], ◌∷◌, Option, None}
-use Rattle.std.proofs.Common.{Some, sym, ap, arith, inl, inr}
-use Rattle.std.proofs.Math.Bool.{or-false}
-use Rattle.std.proofs.Math.Dec.{eqb}
+use Rattle.std.proofs.Common.{◌≡◌, ◌≢◌, ℕ, Bool, true, ◌&&◌, ◌||◌, List, [], ◌∷◌, Option, None, Some, sym, ap, arith}
+use Rattle.std.proofs.Common.{inl, inr}
+use Rattle.std.proofs.{Math.Bool.or-false, Math.Dec.eqb}
 use Rattle.std.proofs.lemmas.Bool.{and_from, eqb-true, or_cases, or_left, or_right}
 use Rattle.std.specs.List.{list_any}
 use Rattle.mfotl_model.proofs.NumberLemmas.{every_there}
 use Rattle.mfotl_model.specs.Regions.{Region, in_both, near_of}
-use Rattle.mfotl_model.specs.Satisfaction.{Valuation}
-use Rattle.mfotl_model.specs.Strategies.{Strategy, workers_of}
+use Rattle.mfotl_model.specs.{Satisfaction.Valuation, Strategies.Strategy, Strategies.workers_of}
 use Rattle.mfotl_model.specs.declared.event.TimePoint.{TimePoint}
 use Rattle.monitorable.specs.CoreForms.{CoreForm}
 use Rattle.monitor_state.specs.Pieces.{Adopts, Merges, PieceStands, near_some, view_of}
-use Rattle.monitor_state.specs.StateInside.{StandsInside}
-use Rattle.monitor_state.specs.StateLaws.{AdoptMerges, AllMerged}
-use Rattle.monitor_state.specs.StateRules.{StateRule}
-use Rattle.monitor_state.specs.StateStands.{StateStands}
+use Rattle.monitor_state.specs.{StateInside.StandsInside, StateLaws.AdoptMerges, StateLaws.AllMerged}
+use Rattle.monitor_state.specs.{StateRules.StateRule, StateStands.StateStands}
 use Rattle.monitor_state.specs.declared.state.State.{State}
-use Rattle.state_merge.specs.Finishing.{AllAdopted, IsWhole}
-use Rattle.state_merge.specs.MergingView.{MergingOf}
+use Rattle.state_merge.specs.{Finishing.AllAdopted, Finishing.IsWhole, MergingView.MergingOf}
 use Rattle.monitor_state.proofs.PartLaw.{part_stands}
 use Rattle.state_merge.proofs.UnionLaw.{union_stands}
 

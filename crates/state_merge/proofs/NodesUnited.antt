@@ -1,57 +1,36 @@
 -- The data of nodes united stands for both regions, has nothing outside them, and keeps its rule.
-use Rattle.std.proofs.Common.{◌≡◌, ℕ, ◌+◌, ◌-◌, ◌||◌, List, [], ◌∷◌, map, refl}
-use Rattle.std.proofs.Common.{sym, ap, ◌∙◌}
-use Rattle.std.specs.List.{AllByRecursion}
-use Rattle.std.specs.Prelude.{min}
-use Rattle.mfotl_model.specs.Exact.{View}
-use Rattle.mfotl_model.specs.Regions.{Region}
-use Rattle.mfotl_model.specs.Satisfaction.{Valuation}
-use Rattle.eval_bool.specs.BoolData.{kept_tables}
-use Rattle.eval_bool.specs.JoinView.{children_of}
+use Rattle.std.proofs.Common.{◌≡◌, ℕ, ◌+◌, ◌-◌, ◌||◌, List, [], ◌∷◌, map, refl, sym, ap, ◌∙◌, arith}
+use Rattle.std.specs.{List.AllByRecursion, Prelude.min}
+use Rattle.mfotl_model.specs.{Exact.View, Regions.Region, Satisfaction.Valuation}
+use Rattle.eval_bool.specs.{BoolData.kept_tables, JoinView.children_of}
 use Rattle.eval_bool.specs.declared.recalled.JoinData.{JoinData}
 use Rattle.monitorable.specs.Conjuncts.{conjuncts_of}
 use Rattle.monitorable.specs.CoreForms.{CoreForm, meaning, Not, And, Or, Previous, Next, Since, Until}
-use Rattle.monitor_state.specs.Nodes.{left_operand, operands}
-use Rattle.monitor_state.specs.Stands.{conjunct_as}
+use Rattle.monitor_state.specs.{Nodes.left_operand, Nodes.operands, Stands.conjunct_as, StateLaws.seen_in}
 use Rattle.monitor_state.specs.StateInside.{NodeInside, TablesInside, WindowInside}
-use Rattle.monitor_state.specs.StateLaws.{seen_in}
 use Rattle.monitor_state.specs.StateRules.{JoinKeeps, NodeKeeps, NodesKeep, WindowKeeps}
-use Rattle.monitor_state.specs.StateStands.{JoinDataStands, NodeDataStands, NodesDataStand}
-use Rattle.monitor_state.specs.StateStands.{WindowDataStands}
+use Rattle.monitor_state.specs.StateStands.{JoinDataStands, NodeDataStands, NodesDataStand, WindowDataStands}
 use Rattle.monitor_state.specs.StateTimes.{KeptTimes, earliest, node_asks, window_asks}
-use Rattle.monitor_state.specs.StateUnions.{JoinUnion, NodeUnion, NodesUnion}
-use Rattle.monitor_state.specs.StateUnions.{WindowUnion}
-use Rattle.monitor_state.specs.declared.state.NodeData.{NodeData}
+use Rattle.monitor_state.specs.StateUnions.{JoinUnion, NodeUnion, NodesUnion, WindowUnion}
+use Rattle.monitor_state.specs.declared.{state.NodeData.NodeData, state.WindowData.WindowData}
 use Rattle.monitor_state.specs.declared.state.NodeData.TheVariants as kept
-use Rattle.monitor_state.specs.declared.state.WindowData.{WindowData}
 use Rattle.monitor_state.specs.declared.state.WindowData.TheVariants as window
-use Rattle.state_merge.proofs.SinceUnited.{since_united}
+use Rattle.state_merge.proofs.{SinceUnited.since_united, UntilUnited.until_united}
 use Rattle.state_merge.proofs.TablesUnited.{lists_rule, lists_union, over_union, tables_at, tables_union, union_length}
-use Rattle.state_merge.proofs.UntilUnited.{until_united}
 
 -- ---- the places that are asked for
 
 window_same : (a b c : WindowData) → WindowUnion a b c → window_asks c ≡ window_asks a
-window_same (window.Since a) (window.Since b) (window.Since c) u = ap (λ n. n - 1) u.pulled
-window_same (window.Until a) (window.Until b) (window.Until c) u = u.pulled
-window_same a b c u = absurd u
+window_same a b c u = grind arith
 
 node_same : (given : ℕ) (a b c : NodeData) → NodeUnion a b c → node_asks given c ≡ node_asks given a
-node_same given kept.Bare kept.Bare kept.Bare u = refl
-node_same given (kept.Join a) (kept.Join b) (kept.Join c) u = refl
-node_same given (kept.Or a) (kept.Or b) (kept.Or c) u = refl
-node_same given (kept.Previous a) (kept.Previous b) (kept.Previous c) u = ap (λ n. n - 1) u.pulled
-node_same given (kept.Next a) (kept.Next b) (kept.Next c) u = u.pulled
-node_same given (kept.Window a) (kept.Window b) (kept.Window c) u = window_same a b c u
-node_same given (kept.Filter xs a) (kept.Filter ys b) (kept.Filter zs c) u = window_same a b c u.1
-node_same given a b c u = absurd u
+node_same given a b c u = grind arith
 
 -- united nodes ask for the same timestamps
 pub earliest_same : (given : ℕ) (xs ys zs : List NodeData) → NodesUnion xs ys zs → earliest given zs ≡ earliest given xs
 earliest_same given [] [] [] u = refl
 earliest_same given (x ∷ xs) (y ∷ ys) (z ∷ zs) u =
-    ap (λ n. earliest (min given n) zs) (node_same given x y z u.0)
-    ∙ earliest_same (min given (node_asks given x)) xs ys zs u.1
+    cc (node_same given x y z u.0, earliest_same (min given (node_asks given x)) xs ys zs u.1)
 earliest_same given xs ys zs u = absurd u
 
 -- ---- all nodes
@@ -90,8 +69,7 @@ module _ (view : View) (r q all : Region) (union : (vs : List ℕ) (v : Valuatio
 
   node_union : (f : CoreForm) (a b c : NodeData) → Stays r f a → Stays q f b → NodeUnion a b c → Stays all f c
   node_union f kept.Bare kept.Bare kept.Bare x y u = (x.0, tt, tt)
-  node_union (Not f) (kept.Join a) (kept.Join b) (kept.Join c) x y u =
-      join_union (Not f) a b c x.0 x.1 x.2 y.1 y.2 u
+  node_union (Not f) (kept.Join a) (kept.Join b) (kept.Join c) x y u = join_union (Not f) a b c x.0 x.1 x.2 y.1 y.2 u
   node_union (And f g) (kept.Join a) (kept.Join b) (kept.Join c) x y u =
       join_union (And f g) a b c x.0 x.1 x.2 y.1 y.2 u
   node_union (Or f g) (kept.Or a) (kept.Or b) (kept.Or c) x y u =

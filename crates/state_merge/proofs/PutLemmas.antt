@@ -1,16 +1,13 @@
 -- Lists that ascend by a number: one put into another, item by item, is what walking over both gives.
-use Rattle.std.proofs.Common.{◌≡◌, ℕ, ◌<◌, Bool, true, false, ◌||◌, cond, nat_eq, nat_lt, List, [], ◌∷◌, length}
-use Rattle.std.proofs.Common.{map, refl, sym, ap, ◌∙◌, arith}
-use Rattle.std.proofs.lemmas.Bool.{and_parts}
-use Rattle.std.proofs.lemmas.Bool.Decides.{nat_tests}
-use Rattle.std.proofs.lemmas.Cmp.{nat_cmp_total}
-use Rattle.std.proofs.lemmas.List.{map-id}
-use Rattle.std.proofs.lemmas.Map.Keys.{IsStrictlyIncreasing-from_sorted, sorted_from_strictly_increasing}
-use Rattle.std.proofs.lemmas.Map.Lookups.{exact_unsigned}
-use Rattle.std.proofs.Math.Bool.{or_assoc}
+use Rattle.std.proofs.Common.{◌≡◌, ℕ, ◌<◌, Bool, true, false, ◌||◌, cond, nat_eq, nat_lt, List, [], ◌∷◌, length, map}
+use Rattle.std.proofs.Common.{refl, sym, ap, ◌∙◌, arith}
+use Rattle.std.proofs.{lemmas.Bool.and_parts, lemmas.Bool.Decides.nat_tests, lemmas.Cmp.nat_cmp_total}
+use Rattle.std.proofs.{lemmas.List.map-id, lemmas.Map.Keys.IsStrictlyIncreasing-from_sorted}
+use Rattle.std.proofs.{lemmas.Map.Keys.sorted_from_strictly_increasing, lemmas.Map.Lookups.exact_unsigned}
+use Rattle.std.proofs.{Math.Bool.or_assoc}
 use Rattle.std.specs.List.{AllByRecursion, list_all, list_any}
-use Rattle.std.specs.List.Sorted.{IsStrictlyIncreasing, IsStrictlySortedBy}
-use Rattle.std.specs.Ordering.{nat_cmp, ordering_reverse}
+use Rattle.std.specs.{List.Sorted.IsStrictlyIncreasing, List.Sorted.IsStrictlySortedBy, Ordering.nat_cmp}
+use Rattle.std.specs.{Ordering.ordering_reverse}
 use Rattle.std.specs.declared.cmp.Ordering.{Ordering}
 use Rattle.std.specs.declared.cmp.Ordering.TheVariants.{Less, Equal, Greater}
 use Rattle.mfotl_model.proofs.LogicLemmas.{or_moved}
@@ -75,8 +72,7 @@ module _ {I : Type 0} (key : I → ℕ) (one : I → I → I) where
 
   put_some : (x : I) (ys : List I) → 0 < length (put x ys)
   put_some x [] = omega arith
-  put_some x (y ∷ ys) =
-      place (λ zs. 0 < length zs) x y ys (λ e. omega arith) (λ e. omega arith) (λ e. omega arith)
+  put_some x (y ∷ ys) = place (λ zs. 0 < length zs) x y ys (λ e. omega arith) (λ e. omega arith) (λ e. omega arith)
 
   pub all_some : (xs ys : List I) → 0 < length xs → 0 < length (all_put xs ys)
   all_some [] ys some = absurd (omega arith)

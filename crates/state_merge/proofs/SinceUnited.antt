@@ -1,34 +1,20 @@
 -- The data of two SINCEs united stands for both regions, has nothing outside them, and keeps its rule.
-use Rattle.std.proofs.Common.{◌≡◌, ℕ, ◌-◌, ◌≤◌, ◌<◌, Bool, true, ◌||◌, cond, nat_eq, List, [], ◌∷◌, length}
-use Rattle.std.proofs.Common.{map, Option, Some, refl, sym, ap, ap₂, ◌∙◌}
-use Rattle.std.proofs.lemmas.Bool.{and_parts}
-use Rattle.std.proofs.Math.Bool.{or_self}
-use Rattle.std.specs.Cmp.{eq_by_cmp_equiv}
-use Rattle.std.specs.List.{AllByRecursion}
-use Rattle.std.specs.Option.{unwrap_or}
-use Rattle.mfotl_model.specs.Exact.{Covers, View}
-use Rattle.mfotl_model.specs.FreeVariables.{fv}
-use Rattle.mfotl_model.specs.Regions.{Region}
-use Rattle.mfotl_model.specs.Satisfaction.{Valuation, time_at}
-use Rattle.mfotl_model.specs.Tables.{all_sized}
-use Rattle.mfotl_model.specs.Values.{row_total}
-use Rattle.mfotl_model.specs.declared.interval.Interval.{Interval}
-use Rattle.mfotl_model.specs.declared.value.Value.{Value}
-use Rattle.eval_since.specs.Recalled.{times_for, times_kept}
-use Rattle.eval_since.specs.SinceBefore.{since_before}
-use Rattle.eval_since.specs.SinceData.{KeepsTimes}
-use Rattle.eval_since.specs.Times.{reaches}
+use Rattle.std.proofs.Common.{◌≡◌, ℕ, ◌-◌, ◌≤◌, ◌<◌, Bool, true, ◌||◌, cond, nat_eq, List, [], ◌∷◌, length, map, Option}
+use Rattle.std.proofs.Common.{Some, refl, sym, ap, ap₂, ◌∙◌}
+use Rattle.std.proofs.{lemmas.Bool.and_parts, Math.Bool.or_self}
+use Rattle.std.specs.{Cmp.eq_by_cmp_equiv, List.AllByRecursion, Option.unwrap_or}
+use Rattle.mfotl_model.specs.{Exact.Covers, Exact.View, FreeVariables.fv, Regions.Region, Satisfaction.Valuation}
+use Rattle.mfotl_model.specs.{Satisfaction.time_at, Tables.all_sized, Values.row_total}
+use Rattle.mfotl_model.specs.declared.{interval.Interval.Interval, value.Value.Value}
+use Rattle.eval_since.specs.{Recalled.times_for, Recalled.times_kept, SinceBefore.since_before, SinceData.KeepsTimes}
+use Rattle.eval_since.specs.{Times.reaches}
 use Rattle.eval_since.specs.declared.recalled.KeptRow.{KeptRow}
 use Rattle.monitorable.specs.CoreForms.{CoreForm, meaning}
 use Rattle.relations.specs.KeptRows.{kept_for}
-use Rattle.monitor_state.specs.JoinedRows.{RowsUnion, times_joined}
-use Rattle.monitor_state.specs.StateInside.{WindowInside}
-use Rattle.monitor_state.specs.StateLaws.{seen_in}
-use Rattle.monitor_state.specs.StateRules.{SinceKeeps}
-use Rattle.monitor_state.specs.StateStands.{SinceDataStands}
-use Rattle.monitor_state.specs.StateTimes.{KeptTimes, time_before}
-use Rattle.monitor_state.specs.StateUnions.{SinceUnion}
-use Rattle.monitor_state.specs.Views.{Dates, Tells}
+use Rattle.monitor_state.specs.{JoinedRows.RowsUnion, JoinedRows.times_joined, StateInside.WindowInside}
+use Rattle.monitor_state.specs.{StateLaws.seen_in, StateRules.SinceKeeps, StateStands.SinceDataStands}
+use Rattle.monitor_state.specs.{StateTimes.KeptTimes, StateTimes.time_before, StateUnions.SinceUnion, Views.Dates}
+use Rattle.monitor_state.specs.{Views.Tells}
 use Rattle.monitor_state.specs.declared.state.SinceKept.{SinceKept}
 use Rattle.monitor_state.specs.declared.state.WindowData.TheVariants as window
 use Rattle.state_merge.proofs.JoinedLemmas.{pooled, times_right}
@@ -54,8 +40,7 @@ module _ (n : ℕ) (hi : Option ℕ) (past : ℕ) where
       (times_kept rows) → (all_sized n (map (λ (k : KeptRow). k.row) rows) ≡ true)
       × AllByRecursion (λ (k : KeptRow). KeepsTimes hi past k.times.items) rows
   pairs_rule [] all = (refl, tt)
-  pairs_rule (k ∷ ks) all =
-      let rest = pairs_rule ks all.1 in (rw (all.0.sized, rest.0) refl, (all.0.keeps, rest.1))
+  pairs_rule (k ∷ ks) all = search (pairs_rule ks all.1)
 
   row_joined : (u : List Value) (xs ys : List ℕ) → TimesRow n hi past u xs → TimesRow n hi past u ys
       → TimesRow n hi past u (times_joined hi xs ys)

@@ -1,8 +1,6 @@
 -- One step of a walk over two lists, by which of their first ones comes first.
-use Rattle.std.proofs.Common.{◌≡◌, ◌++◌, List, [], ◌∷◌, map, Option, Some, None, IfNone, option_to_list, refl}
-use Rattle.std.proofs.Common.{ap, arith}
-use Rattle.std.specs.declared.cmp.Ordering.{Ordering}
-use Rattle.std.specs.declared.cmp.Ordering.TheVariants.{Less, Greater}
+use Rattle.std.proofs.Common.{◌≡◌, ◌++◌, List, [], ◌∷◌, map, Option, IfNone, option_to_list, refl, arith}
+use Rattle.std.specs.declared.{cmp.Ordering.Ordering, cmp.Ordering.TheVariants.Less, cmp.Ordering.TheVariants.Greater}
 use Rattle.state_merge.specs.Pairs.{IsStep, by_order, order_of_firsts, walked}
 
 module _ {I X : Type 0} (order : I → I → Ordering) (told : I → X) (both : I → I → X) where
@@ -15,8 +13,7 @@ module _ {I X : Type 0} (order : I → I → Ordering) (told : I → X) (both : 
   -- the walk over two lists that both have a first one, by the order of these
   chosen_by : (x y : I) (xs ys : List I) (o : Ordering) → order x y ≡ o → walk (x ∷ xs) (y ∷ ys)
       ≡ by_order o (told x ∷ walk xs (y ∷ ys)) (both x y ∷ walk xs ys) (told y ∷ walk (x ∷ xs) ys)
-  chosen_by x y xs ys o e =
-      ap (λ o. by_order o (told x ∷ walk xs (y ∷ ys)) (both x y ∷ walk xs ys) (told y ∷ walk (x ∷ xs) ys)) e
+  chosen_by x y xs ys o e = cc
 
   alone : (xs : List I) → walk xs [] ≡ map told xs
   alone [] = refl
@@ -24,19 +21,11 @@ module _ {I X : Type 0} (order : I → I → Ordering) (told : I → X) (both : 
 
   by_less : (next : Option I) (xs ys : List I) → IfNone next (option_to_list next ++ xs ≡ [])
       → order_of_firsts order (option_to_list next ++ xs) ys ≡ Less → Step (option_to_list next ++ xs) ys next xs ys
-  by_less None [] [] none e = record { walk = refl; end = (refl, refl); fewer = omega arith }
-  by_less (Some x) xs [] none e = record { walk = rw (alone xs) refl; end = tt; fewer = omega arith }
-  by_less (Some x) xs (y ∷ ys) none e =
-      record { walk = chosen_by x y xs ys Less e; end = tt; fewer = omega arith }
-  by_less next xs ys none e = absurd cc
+  by_less next xs ys none e = grind (arith, alone, chosen_by)
 
   by_greater : (next : Option I) (xs ys : List I) → IfNone next (option_to_list next ++ ys ≡ [])
       → order_of_firsts order xs (option_to_list next ++ ys) ≡ Greater → Step xs (option_to_list next ++ ys) next xs ys
-  by_greater None [] [] none e = absurd cc
-  by_greater (Some y) [] ys none e = record { walk = refl; end = tt; fewer = omega arith }
-  by_greater (Some y) (x ∷ xs) ys none e =
-      record { walk = chosen_by x y xs ys Greater e; end = tt; fewer = omega arith }
-  by_greater next xs ys none e = absurd cc
+  by_greater next xs ys none e = grind arith
 
   -- the first one of the first list is taken
   pub steps_in_first : (next : Option I) (xs xs2 ys : List I) → xs ≡ option_to_list next ++ xs2

@@ -1,32 +1,22 @@
 -- Tables united: they are exact for both regions, have nothing outside them, and keep their columns and number.
-use Rattle.std.proofs.Common.{◌≡◌, ℕ, suc, ◌+◌, ◌||◌, List, [], ◌∷◌, length, map, refl, sym, ap, ap₂}
-use Rattle.std.proofs.Common.{◌∙◌}
+use Rattle.std.proofs.Common.{◌≡◌, ℕ, suc, ◌+◌, ◌||◌, List, [], ◌∷◌, length, map, refl, sym, ap, ap₂, ◌∙◌, arith}
 use Rattle.std.proofs.lemmas.Bool.{or_parts}
 use Rattle.std.specs.List.{AllByRecursion}
 use Rattle.mfotl_model.specs.Exact.{AllExact, Exact, View}
-use Rattle.mfotl_model.specs.Formulas.{Form}
-use Rattle.mfotl_model.specs.FreeVariables.{fv}
-use Rattle.mfotl_model.specs.Regions.{Region}
-use Rattle.mfotl_model.specs.Satisfaction.{Valuation, sat}
-use Rattle.mfotl_model.specs.Tables.{TableOf, has}
+use Rattle.mfotl_model.specs.{Formulas.Form, Regions.Region, Satisfaction.Valuation, Tables.TableOf, Tables.has}
 use Rattle.mfotl_model.specs.declared.value.Value.{Value}
-use Rattle.eval_bool.specs.BoolData.{TablesOver, with_tables}
-use Rattle.eval_bool.specs.IsJoin.{FewFrom}
-use Rattle.eval_bool.specs.JoinView.{ChildOf}
+use Rattle.eval_bool.specs.{BoolData.TablesOver, BoolData.with_tables, IsJoin.FewFrom, JoinView.ChildOf}
 use Rattle.monitorable.specs.CoreForms.{CoreForm, meaning}
 use Rattle.relations.specs.Pushed.{AreOver}
-use Rattle.monitor_state.specs.JoinedRows.{RowsUnion}
+use Rattle.monitor_state.specs.{JoinedRows.RowsUnion, StateLaws.seen_in, StateStands.TablesStand}
 use Rattle.monitor_state.specs.StateInside.{RowsInside, TableInside, TablesInside}
-use Rattle.monitor_state.specs.StateLaws.{seen_in}
-use Rattle.monitor_state.specs.StateStands.{TablesStand}
 use Rattle.monitor_state.specs.StateUnions.{ListsUnion, TableUnion, TablesUnion}
 use Rattle.state_merge.proofs.JoinedLemmas.{pooled_test}
 
 pub over_union : (columns : List ℕ) (xs ys zs : List TableOf) → AreOver columns xs → TablesUnion xs ys zs
     → AreOver columns zs
 over_union columns [] [] [] over u = tt
-over_union columns (x ∷ xs) (y ∷ ys) (z ∷ zs) over u =
-    (u.0.columns ∙ over.0, over_union columns xs ys zs over.1 u.1)
+over_union columns (x ∷ xs) (y ∷ ys) (z ∷ zs) over u = search (over_union columns xs ys zs over.1 u.1)
 over_union columns xs ys zs over u = absurd u
 
 pub union_length : (xs ys zs : List TableOf) → TablesUnion xs ys zs → length zs ≡ length xs
@@ -39,8 +29,7 @@ pub lists_rule : (p : ℕ) (children : List ChildOf) (xs ys zs : List (List Tabl
     → TablesOver children zs × FewFrom p (with_tables children zs)
 lists_rule p [] [] [] [] over few u = (tt, tt)
 lists_rule p (c ∷ children) (x ∷ xs) (y ∷ ys) (z ∷ zs) over few u =
-    let rest = lists_rule p children xs ys zs over.1 few.1 u.1 in
-    ((over_union c.columns x y z over.0 u.0, rest.0), (rw (union_length x y z u.0) few.0, rest.1))
+    grind (arith, over_union, union_length, lists_rule p children xs ys zs over.1 few.1 u.1)
 lists_rule p children xs ys zs over few u = absurd assumption
 
 module _ (view : View) (r q all : Region) (union : (vs : List ℕ) (v : Valuation) → all vs v ≡ (r vs v || q vs v)) where
@@ -54,22 +43,7 @@ module _ (view : View) (r q all : Region) (union : (vs : List ℕ) (v : Valuatio
     has_union v = rw (u.columns, same) (u.rows (map v a.columns))
 
     table_union : Exact (seen_in view all) f i c × TableInside all c
-    table_union = (
-      record {
-        columns = u.columns ∙ ea.columns;
-        rows = λ dom v covers n.
-            has_union v
-            ∙ pooled_test (r (fv f) v) (q (fv f) v) (has a v) (has b v) (sat view.log dom v i f)
-            (ea.rows dom v covers) (λ o. ia v (ap (λ columns. r columns v) ea.columns ∙ o))
-            (eb.rows dom v covers) (λ o. ib v (ap (λ columns. q columns v) eb.columns ∙ o))
-            (sym (union (fv f) v) ∙ n);
-      },
-      λ v n.
-          let both = or_parts (r c.columns v) (q c.columns v) (sym (union c.columns v) ∙ n) in
-          has_union v
-          ∙ ap₂ (λ x y. x || y) (ia v (ap (λ columns. r columns v) (sym u.columns) ∙ both.0))
-          (ib v (ap (λ columns. q columns v) (same ∙ sym u.columns) ∙ both.1)),
-    )
+    table_union = grind (arith, has_union, pooled_test, or_parts, ap₂, same)
 
   -- tables of one position after the other
   pub tables_union : (f : Form) (i : ℕ) (xs ys zs : List TableOf) → AllExact (seen_in view r) f i xs → TablesInside r xs
@@ -86,8 +60,7 @@ module _ (view : View) (r q all : Region) (union : (vs : List ℕ) (v : Valuatio
   pub tables_at : (f : Form) (i j k : ℕ) (xs ys zs : List TableOf) → j ≡ i → k ≡ i → AllExact (seen_in view r) f i xs
       → TablesInside r xs → AllExact (seen_in view q) f j ys → TablesInside q ys → TablesUnion xs ys zs
       → AllExact (seen_in view all) f k zs × TablesInside all zs
-  tables_at f i j k xs ys zs ji ki ex ix ey iy u =
-      rw ki (tables_union f i xs ys zs ex ix (rw ji at ey) iy u)
+  tables_at f i j k xs ys zs ji ki ex ix ey iy u = grind (arith, tables_union)
 
   -- children's tables
   pub lists_union : (p : ℕ) (fs : List CoreForm) (xs ys zs : List (List TableOf)) → TablesStand (seen_in view r) p fs xs
@@ -103,6 +76,4 @@ module _ (view : View) (r q all : Region) (union : (vs : List ℕ) (v : Valuatio
   -- nothing is kept outside both regions
   pub rows_inside : {X : Type 0} (both : X → X → X) (columns : List ℕ) (a b c : List (List Value × X))
       → RowsInside r columns a → RowsInside q columns b → RowsUnion both a b c → RowsInside all columns c
-  rows_inside both columns a b c ia ib u v n =
-      let out = or_parts (r columns v) (q columns v) (sym (union columns v) ∙ n) in
-      rw (u.each (map v columns), ia v out.0, ib v out.1) refl
+  rows_inside both columns a b c ia ib u v n = grind arith

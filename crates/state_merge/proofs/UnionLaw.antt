@@ -1,52 +1,28 @@
 -- United states stand for both regions together.
-use Rattle.std.proofs.Common.{◌≡◌, ℕ, ◌-◌, List, [], ◌∷◌, refl, sym, ap, ◌∙◌}
+use Rattle.std.proofs.Common.{◌≡◌, ℕ, List, [], ◌∷◌, refl, sym, ◌∙◌, arith}
 use Rattle.std.specs.Prelude.{min}
-use Rattle.mfotl_model.specs.Exact.{View}
-use Rattle.mfotl_model.specs.Regions.{Region}
-use Rattle.monitorable.specs.CoreForms.{CoreForm, And, Previous, Next, Since, Until}
-use Rattle.monitor_state.specs.Nodes.{left_operand, nodes_of}
-use Rattle.monitor_state.specs.StateLaws.{UnionStands, seen_in}
-use Rattle.monitor_state.specs.StateStands.{NodeDataStands, NodesDataStand, WindowDataStands}
-use Rattle.monitor_state.specs.StateTimes.{earliest, node_asks, times_of, window_asks}
-use Rattle.monitor_state.specs.StateUnions.{NodeUnion, NodesUnion, WindowUnion}
+use Rattle.mfotl_model.specs.{Exact.View, Regions.Region}
+use Rattle.monitorable.specs.CoreForms.{CoreForm}
+use Rattle.monitor_state.specs.{Nodes.nodes_of, StateLaws.UnionStands, StateLaws.seen_in, StateStands.NodeDataStands}
+use Rattle.monitor_state.specs.{StateStands.NodesDataStand, StateUnions.NodeUnion, StateUnions.NodesUnion}
+use Rattle.monitor_state.specs.StateTimes.{earliest, node_asks, times_of}
 use Rattle.monitor_state.specs.declared.state.NodeData.{NodeData}
 use Rattle.monitor_state.specs.declared.state.NodeData.TheVariants as kept
-use Rattle.monitor_state.specs.declared.state.WindowData.{WindowData}
 use Rattle.monitor_state.specs.declared.state.WindowData.TheVariants as window
 use Rattle.state_merge.proofs.NodesUnited.{earliest_same, nodes_union}
 
 -- ---- states of one log ask for the same timestamps
 
 module _ (view : View) (r q : Region) where
-  window_alike : (p : ℕ) (f : CoreForm) (a b c : WindowData) → WindowDataStands (seen_in view r) p f a
-      → WindowDataStands (seen_in view q) p f b → WindowUnion a b c → window_asks b ≡ window_asks a
-  window_alike p (Since i f g) (window.Since a) (window.Since b) (window.Since c) sa sb u =
-      ap (λ n. n - 1) (sb.pulled ∙ sym sa.pulled)
-  window_alike p (Until i f g) (window.Until a) (window.Until b) (window.Until c) sa sb u = sb.pulled ∙ sym sa.pulled
-  window_alike p f a b c sa sb u = absurd assumption
-
   node_alike : (given : ℕ) (f : CoreForm) (a b c : NodeData) → NodeDataStands (seen_in view r) f a
       → NodeDataStands (seen_in view q) f b → NodeUnion a b c → node_asks given b ≡ node_asks given a
-  node_alike given f kept.Bare kept.Bare kept.Bare sa sb u = refl
-  node_alike given f (kept.Join a) (kept.Join b) (kept.Join c) sa sb u = refl
-  node_alike given f (kept.Or a) (kept.Or b) (kept.Or c) sa sb u = refl
-  node_alike given (Previous i f) (kept.Previous a) (kept.Previous b) (kept.Previous c) sa sb u =
-      ap (λ n. n - 1) (sb.pulled ∙ sym sa.pulled)
-  node_alike given (Next i f) (kept.Next a) (kept.Next b) (kept.Next c) sa sb u = sb.pulled ∙ sym sa.pulled
-  node_alike given (Since i f g) (kept.Window a) (kept.Window b) (kept.Window c) sa sb u =
-      window_alike _ (Since i f g) a b c sa sb u
-  node_alike given (Until i f g) (kept.Window a) (kept.Window b) (kept.Window c) sa sb u =
-      window_alike _ (Until i f g) a b c sa sb u
-  node_alike given (And f g) (kept.Filter xs a) (kept.Filter ys b) (kept.Filter zs c) sa sb u =
-      window_alike _ (left_operand g) a b c sa.behind sb.behind u.1
-  node_alike given f a b c sa sb u = absurd assumption
+  node_alike given f a b c sa sb u = grind arith
 
   earliest_alike : (given : ℕ) (fs : List CoreForm) (xs ys zs : List NodeData) → NodesDataStand (seen_in view r) fs xs
       → NodesDataStand (seen_in view q) fs ys → NodesUnion xs ys zs → earliest given ys ≡ earliest given xs
   earliest_alike given [] [] [] [] sx sy u = refl
   earliest_alike given (f ∷ fs) (x ∷ xs) (y ∷ ys) (z ∷ zs) sx sy u =
-      ap (λ n. earliest (min given n) ys) (node_alike given f x y z sx.0 sy.0 u.0)
-      ∙ earliest_alike (min given (node_asks given x)) fs xs ys zs sx.1 sy.1 u.1
+      grind (arith, node_alike, earliest_alike (min given (node_asks given x)) fs xs ys zs sx.1 sy.1 u.1)
   earliest_alike given fs xs ys zs sx sy u = absurd assumption
 
 pub union_stands : UnionStands

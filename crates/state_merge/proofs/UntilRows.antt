@@ -1,29 +1,18 @@
 -- The rule of UNTIL's data, row by row, and from the rows to the rule.
-use Rattle.std.proofs.Common.{◌≡◌, ℕ, ◌<◌, Bool, true, ◌&&◌, nat_le, nat_lt, List, [], ◌∷◌}
-use Rattle.std.proofs.Common.{length, map, Option, None, Some, refl, ap, arith}
-use Rattle.std.proofs.lemmas.Bool.{and_parts}
-use Rattle.std.proofs.lemmas.Bool.Decides.{nat_tests}
-use Rattle.std.proofs.lemmas.List.{length-map}
-use Rattle.std.proofs.lemmas.List.Folds.{list_all-map}
-use Rattle.std.specs.List.{AllByRecursion, list_all}
-use Rattle.std.specs.List.Sorted.{IsStrictlySortedBy}
-use Rattle.std.specs.Map.{keys_of}
-use Rattle.std.specs.Option.{unwrap_or}
-use Rattle.std.specs.Ordering.{nat_cmp}
-use Rattle.std.specs.Prelude.{min}
+use Rattle.std.proofs.Common.{◌≡◌, ℕ, ◌<◌, Bool, true, ◌&&◌, nat_le, nat_lt, List, [], ◌∷◌, length, map, refl, ap}
+use Rattle.std.proofs.Common.{arith}
+use Rattle.std.proofs.{lemmas.Bool.and_parts, lemmas.Bool.Decides.nat_tests, lemmas.List.length-map}
+use Rattle.std.proofs.{lemmas.List.Folds.list_all-map}
+use Rattle.std.specs.{List.AllByRecursion, List.list_all, List.Sorted.IsStrictlySortedBy, Map.keys_of, Ordering.nat_cmp}
+use Rattle.std.specs.{Prelude.min}
 use Rattle.std.specs.declared.cmp.Ordering.TheVariants.{Less}
 use Rattle.mfotl_model.specs.declared.value.Value.{Value}
-use Rattle.relations.specs.KeptRows.{kept_for, list_for}
-use Rattle.eval_until.specs.Recalled.{entries_kept, entry_at}
-use Rattle.eval_until.specs.Rules.{PlacesAscend}
-use Rattle.eval_until.specs.declared.entries.Entry.{Entry}
-use Rattle.eval_until.specs.declared.recalled.KeptMarks.{KeptMarks}
-use Rattle.eval_until.specs.declared.recalled.Mark.{Mark}
-use Rattle.monitor_state.specs.StateStands.{marks_kept}
-use Rattle.state_merge.proofs.KeepingLemmas.{marks_all}
-use Rattle.state_merge.proofs.PutLemmas.{less_is, marks_ascend}
+use Rattle.relations.specs.KeptRows.{list_for}
+use Rattle.eval_until.specs.{Recalled.entries_kept, Recalled.entry_at, Rules.PlacesAscend}
+use Rattle.eval_until.specs.declared.{entries.Entry.Entry, recalled.KeptMarks.KeptMarks, recalled.Mark.Mark}
+use Rattle.monitor_state.specs.{StateStands.marks_kept, JoinedRows.RowsUnion, JoinedRows.marks_joined}
+use Rattle.state_merge.proofs.{KeepingLemmas.marks_all, PutLemmas.less_is, PutLemmas.marks_ascend}
 use Rattle.state_merge.specs.Pairs.{MarksAscend}
-use Rattle.monitor_state.specs.JoinedRows.{RowsUnion, either, marks_joined}
 use Rattle.monitor_state.proofs.MarkLemmas.{entries_are}
 
 -- ---- marks and their entries
@@ -90,16 +79,7 @@ module _ (pulled : ℕ) (next : List ℕ) where
     entries_joined : (P : List Entry → Type 0)
         → ((ms ns : List Mark) → P (map entry ms) → P (map entry ns) → P (map entry (marks_joined ms ns)))
         → P (list_for (entries a) u) → P (list_for (entries b) u) → P (list_for (entries c) u)
-    entries_joined P join x y =
-        rw (entries_are pulled next u c, union.each u)
-        (by (kept_for (marks_kept a) u) (kept_for (marks_kept b) u) (rw (entries_are pulled next u a) at x)
-        (rw (entries_are pulled next u b) at y))
-      where
-        by : (o k : Option (List Mark)) → P (map entry (unwrap_or o [])) → P (map entry (unwrap_or k []))
-            → P (map entry (unwrap_or (either marks_joined o k) []))
-        by None k x y = y
-        by (Some ms) None x y = x
-        by (Some ms) (Some ns) x y = join ms ns x y
+    entries_joined P join x y = grind (arith, entries_are)
 
     pub none_joined : list_for (entries a) u ≡ [] → list_for (entries b) u ≡ [] → list_for (entries c) u ≡ []
     none_joined = entries_joined (λ es. es ≡ []) by

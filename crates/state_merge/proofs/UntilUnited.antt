@@ -1,33 +1,20 @@
 -- The data of two UNTILs united stands for both regions, has nothing outside them, and keeps its rule.
-use Rattle.std.proofs.Common.{◌≡◌, ℕ, ◌<◌, ◌≤◌, Bool, true, ◌||◌, cond, nat_le, List, [], length, map, sym, arith}
-use Rattle.std.proofs.Common.{ap₂, ◌∙◌}
+use Rattle.std.proofs.Common.{◌≡◌, ℕ, ◌<◌, ◌≤◌, Bool, true, ◌||◌, cond, nat_le, List, [], length, map, sym, arith, ap₂}
+use Rattle.std.proofs.Common.{◌∙◌}
 use Rattle.std.proofs.Math.Bool.{or_self}
-use Rattle.std.specs.List.{AllByRecursion, list_any}
-use Rattle.std.specs.Option.{unwrap_or}
-use Rattle.std.specs.Prelude.{min}
-use Rattle.mfotl_model.specs.Exact.{Covers, View}
-use Rattle.mfotl_model.specs.FreeVariables.{fv}
-use Rattle.mfotl_model.specs.Regions.{Region}
-use Rattle.mfotl_model.specs.Satisfaction.{Valuation}
-use Rattle.mfotl_model.specs.declared.interval.Interval.{Interval}
-use Rattle.mfotl_model.specs.declared.value.Value.{Value}
-use Rattle.eval_until.specs.Recalled.{entries_kept, starts_kept}
-use Rattle.eval_until.specs.Starts.{start_of}
-use Rattle.eval_until.specs.UntilBefore.{start, until_before}
-use Rattle.eval_until.specs.UntilData.{UntilRule, until_of}
-use Rattle.eval_until.specs.declared.entries.Entry.{Entry}
-use Rattle.eval_until.specs.declared.recalled.Mark.{Mark}
+use Rattle.std.specs.{List.AllByRecursion, List.list_any, Option.unwrap_or, Prelude.min}
+use Rattle.mfotl_model.specs.{Exact.Covers, Exact.View, FreeVariables.fv, Regions.Region, Satisfaction.Valuation}
+use Rattle.mfotl_model.specs.declared.{interval.Interval.Interval, value.Value.Value}
+use Rattle.eval_until.specs.{Recalled.entries_kept, Recalled.starts_kept, Starts.start_of, UntilBefore.start}
+use Rattle.eval_until.specs.{UntilBefore.until_before, UntilData.UntilRule, UntilData.until_of}
+use Rattle.eval_until.specs.declared.{entries.Entry.Entry, recalled.Mark.Mark}
 use Rattle.monitorable.specs.CoreForms.{CoreForm, meaning}
 use Rattle.relations.specs.KeptRows.{kept_for}
-use Rattle.monitor_state.specs.JoinedRows.{marks_joined}
-use Rattle.monitor_state.specs.Nodes.{is_negated, left_operand}
-use Rattle.monitor_state.specs.StateInside.{WindowInside}
-use Rattle.monitor_state.specs.StateLaws.{seen_in}
-use Rattle.monitor_state.specs.StateRules.{UntilKeeps, until_setting}
+use Rattle.monitor_state.specs.{JoinedRows.marks_joined, Nodes.is_negated, Nodes.left_operand, StateInside.WindowInside}
+use Rattle.monitor_state.specs.{StateLaws.seen_in, StateRules.UntilKeeps, StateRules.until_setting}
+use Rattle.monitor_state.specs.{StateTimes.KeptTimes, StateTimes.times_from, StateUnions.UntilUnion, Views.Dates}
+use Rattle.monitor_state.specs.{Views.Tells}
 use Rattle.monitor_state.specs.StateStands.{UntilDataStands, mark_meets, marks_for, marks_kept}
-use Rattle.monitor_state.specs.StateTimes.{KeptTimes, times_from}
-use Rattle.monitor_state.specs.StateUnions.{UntilUnion}
-use Rattle.monitor_state.specs.Views.{Dates, Tells}
 use Rattle.monitor_state.specs.declared.state.UntilKept.{UntilKept}
 use Rattle.monitor_state.specs.declared.state.WindowData.TheVariants as window
 use Rattle.state_merge.proofs.JoinedLemmas.{marks_right, pooled, starts_right}
@@ -122,8 +109,7 @@ module _ (view : View) (r q all : Region) (union : (vs : List ℕ) (v : Valuatio
 
   window_right : (dom : List Value) (v : Valuation) → Covers view dom → all columns v ≡ true → (t : List ℕ)
       (la lb : List Bool) → Dates view t → length view.log ≤ length t → Tells view dom v f la → Tells view dom v g lb
-      → (j : ℕ) → c.kept.pulled ≤ j
-      → list_any (mark_meets i t j) (marks_for c.kept.rows.items (map v columns))
+      → (j : ℕ) → c.kept.pulled ≤ j → list_any (mark_meets i t j) (marks_for c.kept.rows.items (map v columns))
       ≡ until_before i t la lb c.kept.taken j
   window_right dom v covers n t la lb dates long ta tb j low =
       let w = map v columns in

@@ -6,8 +6,7 @@ use Rattle.state_merge.specs.MergingView.{merging_of}
 use Rattle.state_merge.proofs.merging.Merging.finish.Goals as goal
 
 pub resume-requires : goal.resume-requires
-resume-requires c =
-    record { rule = whole_rule (merging_of c.args.self) c.in-Some.state c.in-Some.is c.requires.whole }
+resume-requires c = record { rule = whole_rule (merging_of c.args.self) c.in-Some.state c.in-Some.is c.requires.whole }
 
 pub returns-clause-stands : goal.returns-clause-stands
 returns-clause-stands c = λ s s2 k2 log ks all merged suits.
