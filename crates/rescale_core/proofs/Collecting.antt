@@ -1,24 +1,19 @@
 -- What holds of worlds still does where outs are collected.
-use Rattle.std.proofs.Common.{◌≡◌, ◌≢◌, ℕ, ◌+◌, ◌-◌, ◌<◌, ◌≤◌, Bool, true, false, ◌&&◌, nat_eq, Option, List, [], ◌++◌}
+use Rattle.std.proofs.Common.{◌≡◌, ◌≢◌, ℕ, ◌+◌, ◌-◌, ◌<◌, ◌≤◌, Bool, true, false, nat_eq, Option, List, [], ◌++◌}
 use Rattle.std.proofs.Common.{length, filter, map, take, drop, sym, ap, ◌∙◌, subst, append-nil, arith, eq-eqb, take-add}
 use Rattle.std.proofs.Common.{take-append-drop}
-use Rattle.std.proofs.lemmas.Bool.Decides.{nat_tests}
-use Rattle.std.proofs.lemmas.List.Elements.{filter-append}
-use Rattle.std.proofs.Math.Seq.{drop-append_seam}
-use Rattle.std.proofs.Permutation.{every_append}
-use Rattle.rescale_core.proofs.Fitting.{every_map, every_filter}
+use Rattle.std.proofs.{lemmas.List.Elements.filter-append, Math.Seq.drop-append_seam, Permutation.every_append}
+use Rattle.std.proofs.{lemmas.Grind.common_steps}
+use Rattle.rescale_core.proofs.{Fitting.every_map, Fitting.every_filter, SeatLemmas.at_seat}
 use Rattle.rescale_core.proofs.Pieces.{all_pass, answers_came, answers_cut, answers_lone, Came, changes_apart}
 use Rattle.rescale_core.proofs.Pieces.{distinct_lone, every_behind, every_front, last_more, last_rises, none_pass}
 use Rattle.rescale_core.proofs.Pieces.{pieces_more, rises_apart}
 use Rattle.rescale_core.proofs.Rowing.{Ascends, ascends_apart, ascends_weak, CameRow, IsSliceFrom, last_ascends}
 use Rattle.rescale_core.proofs.Rowing.{last_level_more, line_ascends, line_slices, rows_came, rows_lone, rows_more}
-use Rattle.rescale_core.proofs.SeatLemmas.{at_seat}
 use Rattle.rescale_core.proofs.WorldLemmas.{supplies_pieces, AreChanges, Rises, line_rises, line_changes}
 use Rattle.rescale_core.specs.Lines.{ChangeOfStrategy, Due, first_spot}
 use Rattle.rescale_core.specs.Soundly.{change_of, last_part, last_level, IsSeated, IsSound}
-use Rattle.rescale_core.specs.Phases.{Answers}
-use Rattle.rescale_core.specs.Workers.{settled_in}
-use Rattle.rescale_core.specs.Handing.{for_place}
+use Rattle.rescale_core.specs.{Phases.Answers, Workers.settled_in, Handing.for_place, Worlds.Step.Collect}
 use Rattle.rescale_core.specs.Worlds.{pieces_in, World, Seat, line_in, set_seat, all_collected, world_after, slice_at}
 use Rattle.rescale_core.specs.Worlds.{rows_in}
 use Rattle.std.specs.List.{AllByRecursion}
@@ -27,7 +22,6 @@ use Rattle.verdict_merge.specs.Gathers.{rows_at}
 use Rattle.monitor_state.specs.declared.state.Piece.{Piece}
 use Rattle.rescale_core.specs.declared.item.Out.{Out}
 use Rattle.verdict_merge.specs.declared.rows.Rows.{Rows}
-use Rattle.rescale_core.specs.Worlds.Step.{Collect}
 
 -- ---- what workers give
 
@@ -39,19 +33,13 @@ all_own by k xs a = all_pass (λ x. nat_eq (by x) k) xs (every_map _ _ xs (λ x 
 -- and nothing of it another's
 none_other : {A : Type 0} (by : A → ℕ) (k q : ℕ) (xs : List A) → nat_eq q k ≡ false
     → AllByRecursion (λ x. by x ≡ k) xs → filter (λ x. nat_eq (by x) q) xs ≡ []
-none_other by k q xs other a =
-    none_pass (λ x. nat_eq (by x) q) xs (every_map _ _ xs (λ x e. grind (arith, nat_tests)) a)
+none_other by k q xs other a = grind (arith, none_pass, every_map)
 
 -- with at most one more that passes a test, all that pass it are still of workers that differ
 one_more : {A : Type 0} (by : A → ℕ) (test : A → Bool) (P Q : A → Type 0) (xs ys : List A) → AllByRecursion P xs
     → AllByRecursion Q ys → ((x y : A) → P x → Q y → test x ≡ true → test y ≡ true → by x ≢ by y)
     → Apart (map by (filter test xs)) → length (filter test ys) ≤ 1 → Apart (map by (filter test (xs ++ ys)))
-one_more by test P Q xs ys a b differ d l =
-    rw (filter-append test xs ys)
-    (distinct_lone by (filter test xs) (filter test ys) d l
-    (every_map _ _ (filter test ys)
-    (λ y m. every_map _ _ (filter test xs) (λ x n. differ x y n.0 m.0 n.1 m.1) (every_filter P test xs a))
-    (every_filter Q test ys b)))
+one_more by test P Q xs ys a b differ d l = grind (arith, filter-append, distinct_lone, every_map, every_filter)
 
 -- ---- collecting
 
@@ -96,9 +84,7 @@ module _ (w : World) (k : ℕ) (r : IsSound w) where
   rs = rows_in (drop (length st.back) st.outs)
 
   cut : take st.taken ds ≡ old ++ seg
-  cut = let h : st.collected ≤ st.taken = (r.seated k).collected in
-      let e : st.taken ≡ st.collected + (st.taken - st.collected) = omega arith in
-      ap (λ n. take n ds) e ∙ take-add st.collected (st.taken - st.collected) ds
+  cut = grind (arith, take-add st.collected (st.taken - st.collected) ds)
 
   -- what holds of each front of the line
   front : (P : List Due → Type 0) → ((xs ys : List Due) → P (xs ++ ys) → P xs) → P ds → P (old ++ seg)
@@ -109,9 +95,7 @@ module _ (w : World) (k : ℕ) (r : IsSound w) where
   rest_is = ap (drop (length st.back)) (r.seated k).more.1 ∙ drop-append_seam st.back more
 
   answered : Answers w.core k seg more
-  answered = answers_cut w.core k old seg st.back more (r.seated k).back
-      (subst (λ x. Answers w.core k x (st.back ++ more)) cut
-      (subst (Answers w.core k (take st.taken ds)) (r.seated k).more.1 (r.seated k).answers))
+  answered = grind (arith, answers_cut, cut)
 
   -- ---- pieces
   rises : Rises lo seg
@@ -126,21 +110,14 @@ module _ (w : World) (k : ℕ) (r : IsSound w) where
   hi_is = sym (ap (last_part 0) cut ∙ last_more 0 old seg)
 
   came : AllByRecursion (Came f w.core k lo hi) ps
-  came = subst (λ n. AllByRecursion (Came f w.core k lo n) ps) hi_is
-      (rw rest_is (answers_came f w.core k lo lo seg more (omega arith) rises changes answered))
+  came = grind (arith, hi_is, rest_is, answers_came, rises, changes, answered)
 
   lone : (g q : ℕ) → length (for_place g q ps) ≤ 1
   lone g q = rw rest_is (answers_lone f w.core k lo g q seg more rises changes answered)
 
   -- an old piece of this worker is of an earlier generation
   pieces_apart : (g q : ℕ) → Apart (map (λ (p : Piece). p.from) (for_place g q (w.pieces ++ ps)))
-  pieces_apart g q = one_more (λ (p : Piece). p.from) (λ p. nat_eq p.generation g && nat_eq p.to q)
-      (λ p. p.generation ≤ last_part 0 (take (w.seats p.from).collected (line_in w p.from))) (Came f w.core k lo hi)
-      w.pieces ps r.past came
-      (λ x y old h t u e. (let low : x.generation ≤ lo =
-      subst (λ z. x.generation ≤ last_part 0 (take (w.seats z).collected (line_in w z))) (e ∙ h.from) old in
-      let up : lo < y.generation = h.above in grind (arith, nat_tests)))
-      (r.distinct g q) (lone g q)
+  pieces_apart g q = grind (arith, one_more, came, lone)
 
   -- ---- and rows
   ascends : Ascends w.core rlo seg
@@ -149,8 +126,7 @@ module _ (w : World) (k : ℕ) (r : IsSound w) where
       (line_ascends w.core k w.read (first_spot w.first) r.read)))).1
 
   slices : AllByRecursion (IsSliceFrom fr 0 k) seg
-  slices = every_behind (IsSliceFrom fr 0 k) old seg (front (AllByRecursion (IsSliceFrom fr 0 k))
-      (every_front (IsSliceFrom fr 0 k)) (line_slices k w.read (first_spot w.first)))
+  slices = grind (arith, common_steps, every_behind, front, every_front, line_slices)
 
   rhi_is : last_level w.core rlo seg ≡ rhi
   rhi_is = sym (ap (last_level w.core 0) cut ∙ last_level_more w.core 0 old seg)
@@ -163,13 +139,7 @@ module _ (w : World) (k : ℕ) (r : IsSound w) where
   rlone i = rw rest_is (rows_lone fr w.core k 0 rlo i seg more ascends slices answered)
 
   rows_apart : (i : ℕ) → Apart (map (λ (x : Rows). x.worker) (rows_at i (w.rows ++ rs)))
-  rows_apart i = one_more (λ (x : Rows). x.worker) (λ x. nat_eq x.point i)
-      (λ x. x.point < last_level w.core 0 (take (w.seats x.worker).collected (line_in w x.worker)))
-      (CameRow fr w.core k rlo rhi) w.rows rs r.rows_past rcame
-      (λ x y old h t u e. (let low : x.point < rlo =
-      subst (λ z. x.point < last_level w.core 0 (take (w.seats z).collected (line_in w z))) (e ∙ h.worker) old in
-      let up : rlo ≤ y.point = h.above in grind (arith, nat_tests)))
-      (r.rows_apart i) (rlone i)
+  rows_apart i = grind (arith, one_more, rcame, rlone)
 
   -- ---- how much was collected
   abbrev next : ℕ → Seat
@@ -178,12 +148,7 @@ module _ (w : World) (k : ℕ) (r : IsSound w) where
   -- what is known by how much of a worker was collected, and grows with it
   raised : (P : ℕ → ℕ → Type 0) → (P k st.collected → P k st.taken) → (q : ℕ) → P q (w.seats q).collected
       → P q (next q).collected
-  raised P up = at_seat (λ q s. P q (w.seats q).collected → P q s.collected) w.seats k (all_collected st)
-      (λ q _ h. h) up
-
-  landed : (P : ℕ → ℕ → Type 0) (q : ℕ) → q ≡ k → P k st.taken → P q (next q).collected
-  landed P q e h = at_seat (λ q s. q ≡ k → P q s.collected) w.seats k (all_collected st)
-      (λ q other e. absurd (let t = eq-eqb q k e in cc)) (λ _. h) q e
+  raised P up = grind arith
 
   seated_kept : (q : ℕ) → nat_eq q k ≡ false → IsSeated (world_after w (Collect k)) q (w.seats q)
   seated_kept q other = let s = r.seated q in
@@ -227,8 +192,7 @@ module _ (w : World) (k : ℕ) (r : IsSound w) where
         every_append _ w.pieces ps
         (every_map _ _ w.pieces (λ p h. raised (λ q n. p.generation ≤ last_part 0 (take n (line_in w q)))
         (λ low. (omega arith)) p.from h) r.past)
-        (every_map _ _ ps (λ p h. landed (λ q n. p.generation ≤ last_part 0 (take n (line_in w q))) p.from h.from
-        h.within) came);
+        (every_map _ _ ps (λ p h. (grind arith)) came);
     rows_known = every_append _ w.rows rs r.rows_known (every_map _ _ rs (λ x h. h.known) rcame);
     rows_apart = rows_apart;
     rows_past = let up : rlo ≤ last_level w.core rlo seg = last_ascends w.core rlo seg ascends in
@@ -236,6 +200,5 @@ module _ (w : World) (k : ℕ) (r : IsSound w) where
         every_append _ w.rows rs
         (every_map _ _ w.rows (λ x h. raised (λ q n. x.point < last_level w.core 0 (take n (line_in w q)))
         (λ low. (omega arith)) x.worker h) r.rows_past)
-        (every_map _ _ rs (λ x h. landed (λ q n. x.point < last_level w.core 0 (take n (line_in w q))) x.worker
-        h.worker h.below) rcame);
+        (every_map _ _ rs (λ x h. (grind arith)) rcame);
   }

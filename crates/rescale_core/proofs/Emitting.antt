@@ -1,37 +1,25 @@
 -- What a Gather emits is the verdict due.
 use Rattle.std.proofs.Common.{◌≡◌, ℕ, ◌<◌, ◌≤◌, true, cond, nat_eq, Option, Some, None, List, [], ◌∷◌, ◌++◌, ⊎_elim}
 use Rattle.std.proofs.Common.{length, map, filter, slice_index, sym, refl, ap, ◌∙◌, subst, arith, eqb-true, eq-eqb}
-use Rattle.std.proofs.lemmas.Bool.Decides.{nat_tests}
-use Rattle.std.proofs.lemmas.List.{length-map}
-use Rattle.std.specs.List.{AllByRecursion, find}
-use Rattle.std.specs.List.Sorted.{IsStrictlySortedBy}
-use Rattle.mfotl_model.proofs.AscendingLemmas.{sorted_ascending}
-use Rattle.mfotl_model.proofs.RowLemmas.{row_exact}
-use Rattle.mfotl_model.specs.Ascending.{ascending}
-use Rattle.mfotl_model.specs.Log.{times}
-use Rattle.mfotl_model.specs.Strategies.{Strategy, workers_of}
-use Rattle.mfotl_model.specs.Values.{row_cmp, row_total}
-use Rattle.mfotl_model.specs.declared.event.TimePoint.{TimePoint}
-use Rattle.mfotl_model.specs.declared.value.Value.{Value}
-use Rattle.mfotl_model.specs.FreeVariables.{fv}
-use Rattle.mfotl_model.specs.Violations.{all_rows as all_of}
-use Rattle.monitorable.specs.CoreForms.{CoreForm, meaning}
-use Rattle.monitorable.specs.SatisfyingRows.{core_domain, satisfies}
-use Rattle.slice_strategy.specs.Slicers.{full_row}
-use Rattle.slice_strategy.specs.SlicerLemmas.{owner_below}
+use Rattle.std.proofs.{lemmas.Bool.Decides.nat_tests, lemmas.List.length-map}
+use Rattle.std.specs.{List.AllByRecursion, List.find, List.Sorted.IsStrictlySortedBy}
+use Rattle.mfotl_model.proofs.{AscendingLemmas.sorted_ascending, RowLemmas.row_exact}
+use Rattle.mfotl_model.specs.{Ascending.ascending, Log.times, Strategies.Strategy, Strategies.workers_of}
+use Rattle.mfotl_model.specs.{Values.row_cmp, Values.row_total, FreeVariables.fv, Violations.all_rows as all_of}
+use Rattle.mfotl_model.specs.declared.{event.TimePoint.TimePoint, value.Value.Value}
+use Rattle.monitorable.specs.{CoreForms.CoreForm, CoreForms.meaning, SatisfyingRows.core_domain}
+use Rattle.monitorable.specs.{SatisfyingRows.satisfies}
+use Rattle.slice_strategy.specs.{Slicers.full_row, SlicerLemmas.owner_below}
 use Rattle.verdict_merge.proofs.OwnerLemmas.{owners_merge}
 use Rattle.verdict_merge.specs.Gathers.{GatherOf, gathered_rows, at_point, complete_ts, rows_at, ts_among, workers_in}
 use Rattle.verdict_merge.specs.Laws.{IsPartition}
-use Rattle.verdict_merge.specs.declared.rows.Rows.{Rows}
-use Rattle.verdict_merge.specs.declared.rows.Verdict.{Verdict}
+use Rattle.verdict_merge.specs.declared.{rows.Rows.Rows, rows.Verdict.Verdict}
 use Rattle.rescale_core.proofs.Fitting.{every_filter, every_map}
 use Rattle.rescale_core.proofs.Settling.{head_or_tail, one_slice_settles, slice_final}
 use Rattle.rescale_core.specs.Lines.{AreSound, Due, Spot, first_spot, moved}
-use Rattle.rescale_core.specs.Lines.Due.{Slicing}
-use Rattle.rescale_core.specs.Soundly.{IsSound, KnownRow}
+use Rattle.rescale_core.specs.{Lines.Due.Slicing, Soundly.IsSound, Soundly.KnownRow}
 use Rattle.rescale_core.specs.Workers.{IsFor, owned_by, owner, settled_in, violations_at}
-use Rattle.rescale_core.specs.declared.item.Entry.{Entry}
-use Rattle.rescale_core.specs.declared.item.Entry.TheVariants.{Point, Change}
+use Rattle.rescale_core.specs.declared.{item.Entry.Entry, item.Entry.TheVariants.Point, item.Entry.TheVariants.Change}
 use Rattle.rescale_core.specs.Worlds.{World, IsGathered, slice_at, spot_in, verdict_on}
 
 -- ---- when a Gather is complete
@@ -73,10 +61,7 @@ complete_some g ts e = by_rows (rows_at g.next g.added) refl
 -- with all Rows a Gather is complete
 pub complete_with : (g : GatherOf) (first : Rows) (rest : List Rows) → rows_at g.next g.added ≡ first ∷ rest
     → length (rows_at g.next g.added) ≡ workers_in g.begun first.generation → complete_ts g ≡ Some first.ts
-complete_with g first rest is all =
-    ap (ts_among g) (first_found g.next g.added first rest is)
-    ∙ ap (λ b. cond b (Some first.ts) None)
-    (eq-eqb (length (rows_at g.next g.added)) (workers_in g.begun first.generation) all)
+complete_with g first rest is all = grind (arith, first_found, eq-eqb)
 
 -- ---- the rows of all workers
 
@@ -125,54 +110,21 @@ module _ (w : World) (sound : IsSound w) (i : ℕ) where
   due_row : (g : ℕ) (s : Strategy) (log : List TimePoint) (p : TimePoint)
       → f (length log) ≡ Some (Slicing g s log p) → settled_in w.core log ≤ i → i < settled_in w.core (log ++ p ∷ [])
       → (r : Rows) → KnownRow f w.core r × (nat_eq r.point i ≡ true) → DueRow g s log p r
-  due_row g s log p is low high r k =
-      let at : r.point ≡ i = eqb-true r.point i k.1 in
-      let x = k.0 in
-      let low2 : settled_in w.core x.log ≤ i = (let h = x.low in omega arith) in
-      let high2 : i < settled_in w.core (x.log ++ x.point ∷ []) = (let h = x.high in omega arith) in
-      let same : Slicing r.generation x.strategy x.log x.point ≡ Slicing g s log p =
-      one_slice_settles w.core w.read (first_spot w.first) i (length x.log) (length log) r.generation g x.strategy s
-      x.log log x.point p sound.read x.is is low2 high2 low high in
-      let s_is : x.strategy ≡ s = cc in
-      let g_is : r.generation ≡ g = cc in
-      let final = slice_final w.core sound.first.evaluable.fits w.read (first_spot w.first) i (length x.log)
-      r.generation x.strategy x.log x.point sound.read x.is high2 in
-      record {
-        ts = rw (x.row, at) final.1;
-        rows = rw (x.row, at, final.0, s_is) refl;
-        near = rw (← s_is) x.near;
-        generation = g_is;
-      }
+  due_row g s log p is low high r k = grind (arith, eqb-true, one_slice_settles, slice_final)
 
   pub due_all : (g : ℕ) (s : Strategy) (log : List TimePoint) (p : TimePoint)
       → f (length log) ≡ Some (Slicing g s log p) → settled_in w.core log ≤ i → i < settled_in w.core (log ++ p ∷ [])
       → AllByRecursion (DueRow g s log p) (rows_at i w.rows)
-  due_all g s log p is low high =
-      every_map _ _ (rows_at i w.rows) (due_row g s log p is low high)
-      (every_filter (KnownRow f w.core) (λ r. nat_eq r.point i) w.rows sound.rows_known)
+  due_all g s log p is low high = grind (arith, every_map, due_row g s log p is low high, every_filter)
 
   -- all Rows for a position are by owner a partition of its violations
   pub gathered_partition : (all : IsGathered w i)
       → IsPartition (owner all.1) (workers_of all.1) (rows_at i w.rows) (violations_at w.core points i)
-  gathered_partition all =
-      let s : Strategy = all.1 in
-      let D = DueRow all.0 s all.2 all.3 in
-      let due : AllByRecursion D (rows_at i w.rows) = due_all all.0 s all.2 all.3 all.4 all.5 all.6 in
-      let rows : List (List Value) = violations_at w.core points i in
-      record {
-        owned = all_owned s rows (slice_strategy w.core w.read (first_spot w.first) (length all.2) all.0 s all.2 all.3
-            sound.first sound.read all.4).workers.some;
-        parts = every_map _ _ (rows_at i w.rows) (λ r d. d.rows) due;
-        near = below_of (workers_of s) (rows_at i w.rows) (every_map _ _ (rows_at i w.rows) (λ r d. d.near) due);
-        apart = sound.rows_apart i;
-        whole = length-map (rows_at i w.rows) (λ (r : Rows). r.worker) ∙ all.7;
-      }
+  gathered_partition all = grind (arith, due_all, all_owned, slice_strategy, every_map, below_of, length-map)
 
   known_first : (first : Rows) (rest : List Rows) → rows_at i w.rows ≡ first ∷ rest
       → KnownRow f w.core first × (nat_eq first.point i ≡ true)
-  known_first first rest e =
-      let known = every_filter (KnownRow f w.core) (λ r. nat_eq r.point i) w.rows sound.rows_known in
-      (subst (AllByRecursion (λ r. KnownRow f w.core r × (nat_eq r.point i ≡ true))) e known).0
+  known_first first rest e = grind (arith, every_filter)
 
   -- all Rows for a position, merged, are the verdict on it, which may be emitted
   pub merged_due : (v : Verdict) (count : ℕ → ℕ)

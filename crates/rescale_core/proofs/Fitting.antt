@@ -1,19 +1,16 @@
 -- What is handed over from the queues fits.
-use Rattle.std.proofs.Common.{◌≡◌, ℕ, zero, suc, ◌+◌, Bool, true, false, cond, ◌&&◌, nat_eq, Option, Some, List, []}
-use Rattle.std.proofs.Common.{◌∷◌, length, map, filter, sym, refl, ap, ◌∙◌, subst, ⊎_elim, eqb-true}
-use Rattle.mfotl_model.specs.Numbers.{Apart, NotIn}
-use Rattle.mfotl_model.specs.Strategies.{Strategy, workers_of}
-use Rattle.rescale_core.proofs.Chains.{Chain}
-use Rattle.rescale_core.proofs.WorldLemmas.{mapped, AreChanges}
-use Rattle.rescale_core.specs.Lines.{ChangeOfStrategy, Due}
-use Rattle.rescale_core.specs.Soundly.{Supplies, Known}
-use Rattle.rescale_core.specs.Phases.{PhaseOf, froms_of, IsPieceFor, Meets, phase_after, AllMeet, FitsPhase}
+use Rattle.std.proofs.Common.{◌≡◌, ℕ, zero, suc, Bool, true, ◌&&◌, Option, Some, List, [], ◌∷◌, length, map, filter}
+use Rattle.std.proofs.Common.{sym, ap, subst, arith}
+use Rattle.std.proofs.{lemmas.Bool.and_parts, lemmas.Bool.cond_both, lemmas.Bool.Decides.nat_tests}
+use Rattle.mfotl_model.specs.{Numbers.Apart, Numbers.NotIn, Strategies.Strategy}
+use Rattle.rescale_core.proofs.{Chains.Chain, WorldLemmas.mapped, WorldLemmas.AreChanges}
+use Rattle.rescale_core.specs.{Lines.ChangeOfStrategy, Lines.Due, Soundly.Supplies, Soundly.Known}
+use Rattle.rescale_core.specs.Phases.{PhaseOf, froms_of, Meets, phase_after, AllMeet, FitsPhase}
 use Rattle.rescale_core.specs.Handing.{nth, for_place, item_of}
 use Rattle.std.specs.List.{AllByRecursion}
 use Rattle.monitorable.specs.CoreForms.{CoreForm}
 use Rattle.monitor_state.specs.declared.state.Piece.{Piece}
-use Rattle.rescale_core.specs.declared.item.Item.{Item}
-use Rattle.rescale_core.specs.declared.item.Item.TheVariants.{Adopt}
+use Rattle.rescale_core.specs.declared.{item.Item.Item, item.Item.TheVariants.Adopt}
 use Rattle.rescale_core.specs.Lines.Due.{Slicing, Parting, Hole}
 use Rattle.rescale_core.specs.Phases.PhaseOf.{Active, Vacant, Waiting}
 
@@ -24,13 +21,8 @@ every_map P Q (x ∷ xs) h a = (h x a.0, every_map P Q xs h a.1)
 
 pub every_filter : {A : Type 0} (P : A → Type 0) (test : A → Bool) (xs : List A) → AllByRecursion P xs
     → AllByRecursion (λ x. P x × (test x ≡ true)) (filter test xs)
-every_filter {A} P test [] a = tt
-every_filter {A} P test (x ∷ xs) a = by_test (test x) refl (every_filter P test xs a.1)
-  where
-    by_test : (b : Bool) → test x ≡ b → AllByRecursion (λ y. P y × (test y ≡ true)) (filter test xs)
-        → AllByRecursion (λ y. P y × (test y ≡ true)) (cond b (x ∷ filter test xs) (filter test xs))
-    by_test true e rest = ((a.0, e), rest)
-    by_test false e rest = rest
+every_filter P test [] a = tt
+every_filter P test (x ∷ xs) a = let rest = every_filter P test xs a.1 in grind (arith, nat_tests)
 
 pub every_nth : {A : Type 0} (P : A → Type 0) (xs : List A) (j : ℕ) (x : A) → AllByRecursion P xs
     → nth xs j ≡ Some x → P x
@@ -39,12 +31,10 @@ every_nth P (y ∷ xs) zero x a e = let h : y ≡ x = cc in subst P h a.0
 every_nth P (y ∷ xs) (suc j) x a e = every_nth P xs j x a.1 e
 
 pub and_left : (a b : Bool) → a && b ≡ true → a ≡ true
-and_left true b e = refl
-and_left false b e = e
+and_left a b e = (and_parts a b e).0
 
 pub and_right : (a b : Bool) → a && b ≡ true → b ≡ true
-and_right true b e = e
-and_right false b e = cc
+and_right a b e = (and_parts a b e).1
 
 -- ---- which pieces came
 
@@ -91,43 +81,13 @@ module _ (c : CoreForm) (k : ℕ) (pieces : List Piece) (f : ℕ → Option Chan
   tied_vacant : Tied Vacant
   tied_vacant t froms e = cc
 
-  piece_due : (t : ChangeOfStrategy) (j : ℕ) (p : Piece) → f t.generation ≡ Some t
-      → nth (for_place t.generation k pieces) j ≡ Some p → IsPieceFor c t k p
-  piece_due t j p ft e = let r =
-      every_nth (λ x. Known f c x × (nat_eq x.generation t.generation && nat_eq x.to k ≡ true))
-      (for_place t.generation k pieces) j p
-      (every_filter (Known f c) (λ x. nat_eq x.generation t.generation && nat_eq x.to k) pieces known) e in
-      let g_is : p.generation ≡ t.generation =
-      eqb-true p.generation t.generation (and_left (nat_eq p.generation t.generation) (nat_eq p.to k) r.1) in
-      let to_is : p.to ≡ k = eqb-true p.to k (and_right (nat_eq p.generation t.generation) (nat_eq p.to k) r.1) in
-      let same : Some (r.0.change) ≡ Some t = sym r.0.is ∙ ap f g_is ∙ ft in
-      let t_is : r.0.change ≡ t = cc in
-      subst (λ (x : ℕ). IsPieceFor c t x p) to_is
-      (subst (λ (x : ChangeOfStrategy). IsPieceFor c x p.to p) t_is r.0.piece_for)
-
   froms_here : (ph : PhaseOf) (t : ChangeOfStrategy) (j : ℕ) → FitsPhase c k ph (Hole t j) → Tied ph
       → froms_of ph ≡ froms_before j (for_place t.generation k pieces) []
-  froms_here ph t j fo tied = ⊎_elim
-      (λ vacant. let j_is : j ≡ 0 = fo.0 ∙ ap (λ x. length (froms_of x)) vacant in
-      ap froms_of vacant ∙ ap (λ x. froms_before x (for_place t.generation k pieces) []) (sym j_is))
-      (λ waiting. tied t (froms_of ph) waiting
-      ∙ ap (λ x. froms_before x (for_place t.generation k pieces) []) (sym fo.0))
-      fo.2
+  froms_here ph t j fo tied = grind arith
 
   tied_next : (ph : PhaseOf) (t : ChangeOfStrategy) (j : ℕ) (p : Piece) → FitsPhase c k ph (Hole t j) → Tied ph
       → nth (for_place t.generation k pieces) j ≡ Some p → Tied (phase_after ph (Hole t j) (Adopt p t.new))
-  tied_next ph t j p fo tied e = by_test (nat_eq (j + 1) (workers_of t.old))
-    where
-      longer : p.from ∷ froms_of ph ≡ froms_before (length (p.from ∷ froms_of ph)) (for_place t.generation k pieces) []
-      longer = ap (λ x. p.from ∷ x) (froms_here ph t j fo tied)
-          ∙ sym (before_suc j (for_place t.generation k pieces) p [] e)
-          ∙ ap (λ x. froms_before (suc x) (for_place t.generation k pieces) []) fo.0
-
-      by_test : (b : Bool) → Tied (cond b (Active t.new t.before) (Waiting t (p.from ∷ froms_of ph)))
-      by_test true u froms same = tied_active t.new t.before u froms same
-      by_test false u froms same = let a : t ≡ u = cc in let b : p.from ∷ froms_of ph ≡ froms = cc in
-          sym b ∙ longer ∙ ap (λ x. froms_before (length x) (for_place t.generation k pieces) []) b
-          ∙ ap (λ (x : ChangeOfStrategy). froms_before (length froms) (for_place x.generation k pieces) []) a
+  tied_next ph t j p fo tied e = grind (arith, cond_both, tied_active, before_suc, froms_here)
 
   meets_due : (ph : PhaseOf) (d : Due) (i : Item) → FitsPhase c k ph d → Tied ph → AreChanges f (d ∷ [])
       → item_of c k pieces d ≡ Some i → Meets c k ph d i × Tied (phase_after ph d i)
@@ -139,18 +99,15 @@ module _ (c : CoreForm) (k : ℕ) (pieces : List Piece) (f : ℕ → Option Chan
         (
           p,
           sym m.2,
-          piece_due t j p changes.0 m.1,
-          subst (λ xs. NotIn p.from xs) (sym (froms_here ph t j fo tied))
-              (not_before j (for_place t.generation k pieces) p [] (distinct t.generation)
+          grind (arith, every_nth, every_filter),
+          rw (froms_here ph t j fo tied) (not_before j (for_place t.generation k pieces) p [] (distinct t.generation)
               (apart_none (for_place t.generation k pieces)) m.1),
         ),
         subst (λ x. Tied (phase_after ph (Hole t j) x)) m.2 (tied_next ph t j p fo tied m.1),
       )
 
   one_change : (d : Due) (ds : List Due) → AreChanges f (d ∷ ds) → AreChanges f (d ∷ []) × AreChanges f ds
-  one_change (Slicing g s log p) ds a = (tt, a)
-  one_change (Parting t) ds a = ((a.0, tt), a.1)
-  one_change (Hole t j) ds a = ((a.0, tt), a.1)
+  one_change d ds a = grind arith
 
   pub fits_of : (ds : List Due) (is : List Item) (ph : PhaseOf) → Chain c k ph ds → Tied ph → AreChanges f ds
       → Supplies c k pieces ds is → AllMeet c k ph ds is

@@ -1,37 +1,24 @@
 -- The router's Gather is the world's.
-use Rattle.std.proofs.Common.{◌≡◌, ◌≢◌, ◌⊎◌, ℕ, ◌+◌, ◌<◌, ◌≤◌, Bool, true, false, cond, not, nat_eq, nat_le, Some, None}
-use Rattle.std.proofs.Common.{List, [], ◌∷◌, ◌++◌, length, filter, map, append_assoc, ◌||◌, sym, refl, ap, ◌∙◌, subst}
-use Rattle.std.proofs.Common.{inr, ⊎_elim, arith, eq-eqb, length-append, le-leb}
-use Rattle.std.proofs.lemmas.List.Elements.{filter-append}
-use Rattle.std.proofs.lemmas.Bool.{cases_Bool, cases_lt}
-use Rattle.std.proofs.lemmas.Bool.Decides.{nat_tests}
-use Rattle.std.proofs.Permutation.{every_append}
-use Rattle.mfotl_model.specs.Strategies.{Strategy, workers_of}
-use Rattle.rescale_core.proofs.Chains.{some_workers}
-use Rattle.rescale_core.proofs.Fitting.{every_map}
-use Rattle.rescale_core.proofs.Collecting.{collect_sound}
+use Rattle.std.proofs.Common.{◌≡◌, ◌≢◌, ◌⊎◌, ℕ, ◌+◌, ◌<◌, ◌≤◌, true, false, cond, not, nat_eq, nat_le, Some, None, List}
+use Rattle.std.proofs.Common.{[], ◌∷◌, ◌++◌, length, filter, map, append_assoc, sym, refl, ap, ◌∙◌, subst, inr, ⊎_elim}
+use Rattle.std.proofs.Common.{arith, eq-eqb, length-append, le-leb}
+use Rattle.std.proofs.{lemmas.List.Elements.filter-append, lemmas.Bool.cases_Bool, lemmas.Bool.cases_lt}
+use Rattle.std.proofs.{lemmas.Bool.Decides.nat_tests, Permutation.every_append}
+use Rattle.mfotl_model.specs.{Strategies.Strategy, Strategies.workers_of, Ascending.ascending, Numbers.Apart}
+use Rattle.mfotl_model.specs.{Numbers.NotIn, Values.row_cmp}
+use Rattle.rescale_core.proofs.{Chains.some_workers, Fitting.every_map, Collecting.collect_sound, Gathered.none_more}
+use Rattle.rescale_core.proofs.{Gathered.step_gathered, Pieces.all_pass, Pieces.every_behind, Settling.head_or_tail}
+use Rattle.rescale_core.proofs.{WorldLemmas.spot_more}
 use Rattle.rescale_core.proofs.Emitting.{DueRow, complete_some, complete_with, due_all, merged_due, slice_strategy}
-use Rattle.rescale_core.proofs.Gathered.{none_more, step_gathered}
-use Rattle.rescale_core.proofs.Pieces.{all_pass, every_behind}
-use Rattle.rescale_core.proofs.Settling.{head_or_tail}
-use Rattle.rescale_core.proofs.WorldLemmas.{spot_more}
 use Rattle.rescale_core.specs.Lines.{Spot, Due, moved, spot_after, first_spot}
-use Rattle.rescale_core.specs.Routing.{IsGatherOf, MayAdd}
-use Rattle.rescale_core.specs.Soundly.{IsSound, KnownRow}
+use Rattle.rescale_core.specs.{Routing.IsGatherOf, Routing.MayAdd, Soundly.IsSound, Soundly.KnownRow, Lines.Due.Slicing}
 use Rattle.rescale_core.specs.Worlds.{World, IsGathered, not_back, slice_at, spot_in, rows_in, Allowed, world_after}
 use Rattle.std.specs.List.{AllByRecursion, list_any}
 use Rattle.verdict_merge.specs.Emitted.{Emits}
 use Rattle.verdict_merge.specs.Gathers.{GatherOf, gathered_rows, complete_ts, is_from, rows_at, workers_in}
-use Rattle.mfotl_model.specs.Ascending.{ascending}
-use Rattle.mfotl_model.specs.Numbers.{Apart, NotIn}
-use Rattle.mfotl_model.specs.Values.{row_cmp}
 use Rattle.mfotl_model.specs.declared.event.TimePoint.{TimePoint}
-use Rattle.rescale_core.specs.declared.item.Entry.{Entry}
-use Rattle.rescale_core.specs.declared.item.Entry.TheVariants.{Point, Change}
-use Rattle.verdict_merge.specs.declared.rows.Begun.{Begun}
-use Rattle.verdict_merge.specs.declared.rows.Rows.{Rows}
-use Rattle.verdict_merge.specs.declared.rows.Verdict.{Verdict}
-use Rattle.rescale_core.specs.Lines.Due.{Slicing}
+use Rattle.rescale_core.specs.declared.{item.Entry.Entry, item.Entry.TheVariants.Point, item.Entry.TheVariants.Change}
+use Rattle.verdict_merge.specs.declared.{rows.Begun.Begun, rows.Rows.Rows, rows.Verdict.Verdict}
 use Rattle.rescale_core.specs.Worlds.Step.{Read, Collect, Emit}
 
 -- a slice of one entry more is an old one or the new one
@@ -54,11 +41,6 @@ slice_within (Point q ∷ es) a n g s log p h = ⊎_elim
     (λ here. let e : a.generation ≡ g = cc in let u = spot_up es (moved a (Point q)) in omega arith)
     (λ later. slice_within es (moved a (Point q)) n g s log p later)
     (head_or_tail a q es n (Slicing g s log p) h)
-
--- nothing that the Gather sees has moved
-pub gather_kept : (g : GatherOf) (w x : World) → x.core ≡ w.core → x.first ≡ w.first → x.read ≡ w.read
-    → x.rows ≡ w.rows → x.emitted ≡ w.emitted → IsGatherOf g w → IsGatherOf g x
-gather_kept g w x c f r rows e is = rw (c, f, r, rows, e) is
 
 pub gather_point : (g : GatherOf) (w : World) (p : TimePoint) → IsSound w → Allowed w (Read (Point p))
     → IsGatherOf g w → IsGatherOf g (world_after w (Read (Point p)))

@@ -1,21 +1,16 @@
 -- No row comes for a position that was emitted.
 use Rattle.std.proofs.Common.{◌≡◌, ℕ, ◌+◌, ◌<◌, ◌≤◌, nat_eq, List, [], ◌∷◌, ◌++◌, length, map, sym, ap, ◌∙◌, subst}
 use Rattle.std.proofs.Common.{append-nil, arith, length-append}
-use Rattle.std.proofs.lemmas.List.Elements.{filter-append}
-use Rattle.std.proofs.lemmas.List.{length-map, nil_from_length}
+use Rattle.std.proofs.{lemmas.List.Elements.filter-append, lemmas.List.length-map, lemmas.List.nil_from_length}
 use native.Mathlib.Decide.{ℕ_discrete}
 use Rattle.mfotl_model.proofs.NumberLemmas.{at_most}
 use Rattle.mfotl_model.specs.Strategies.{workers_of}
-use Rattle.rescale_core.proofs.Emitting.{below_of, due_all}
-use Rattle.rescale_core.proofs.Fitting.{every_map}
-use Rattle.rescale_core.proofs.Settling.{slice_more}
-use Rattle.rescale_core.proofs.Collecting.{collect_sound}
-use Rattle.rescale_core.specs.Lines.{first_spot}
-use Rattle.rescale_core.specs.Soundly.{IsSound}
+use Rattle.rescale_core.proofs.{Emitting.below_of, Emitting.due_all, Fitting.every_map, Settling.slice_more}
+use Rattle.rescale_core.proofs.{Collecting.collect_sound}
+use Rattle.rescale_core.specs.{Lines.first_spot, Soundly.IsSound, Lines.Due.Slicing}
 use Rattle.rescale_core.specs.Worlds.{World, Step, not_back, rows_in, Allowed, IsGathered, world_after}
 use Rattle.verdict_merge.specs.Gathers.{rows_at}
 use Rattle.verdict_merge.specs.declared.rows.Rows.{Rows}
-use Rattle.rescale_core.specs.Lines.Due.{Slicing}
 use Rattle.rescale_core.specs.Worlds.Step.{Read, Feed, Take, Collect, Emit}
 
 -- ---- what was emitted was gathered whole

@@ -1,31 +1,17 @@
 -- What is settled in a log stays settled, and its violations stay as they are.
-use Rattle.std.proofs.Common.{◌≡◌, ℕ, ◌<◌, ◌≤◌, true, nat_eq, List, [], ◌∷◌, ◌++◌, length}
-use Rattle.std.proofs.Common.{sym}
-use Rattle.std.proofs.Common.{subst, ◌∙◌, arith}
+use Rattle.std.proofs.Common.{◌≡◌, ℕ, ◌<◌, ◌≤◌, true, nat_eq, List, [], ◌∷◌, ◌++◌, length, sym, ◌∙◌, arith}
 use Rattle.std.proofs.lemmas.List.{length-map, map-append}
 use Rattle.std.specs.List.{list_all, filter}
-use Rattle.mfotl_model.proofs.AscendingLemmas.{same_ascending}
-use Rattle.mfotl_model.proofs.CountLemmas.{counted_settled}
-use Rattle.mfotl_model.proofs.RowLemmas.{row_exact}
-use Rattle.mfotl_model.specs.Domains.{in_domain}
-use Rattle.mfotl_model.specs.FreeVariables.{fv, among}
-use Rattle.mfotl_model.specs.Log.{times}
-use Rattle.mfotl_model.specs.Satisfaction.{Valuation}
-use Rattle.mfotl_model.specs.Settled.{settled}
-use Rattle.mfotl_model.specs.Tables.{valuation}
-use Rattle.mfotl_model.specs.Times.{NeverFalls}
-use Rattle.mfotl_model.specs.Values.{row_total}
-use Rattle.mfotl_model.specs.Violations.{all_rows}
-use Rattle.mfotl_model.specs.declared.event.TimePoint.{TimePoint}
-use Rattle.mfotl_model.specs.declared.value.Value.{Value}
+use Rattle.mfotl_model.proofs.{AscendingLemmas.same_ascending, CountLemmas.counted_settled, RowLemmas.row_exact}
+use Rattle.mfotl_model.specs.{Domains.in_domain, FreeVariables.fv, FreeVariables.among, Log.times}
+use Rattle.mfotl_model.specs.{Satisfaction.Valuation, Settled.settled, Tables.valuation, Times.NeverFalls}
+use Rattle.mfotl_model.specs.{Values.row_total, Violations.all_rows}
+use Rattle.mfotl_model.specs.declared.{event.TimePoint.TimePoint, value.Value.Value}
 use Rattle.monitor_state.proofs.CountLemmas.{count_grows, count_within}
-use Rattle.monitorable.proofs.DomainLaw.{domain}
+use Rattle.monitorable.proofs.{DomainLaw.domain, FinalityLaw.finality, FreeVariableLemmas.fv_apart}
+use Rattle.monitorable.proofs.{ViolationsFinal.itself, ViolationsFinal.agreeing}
 use Rattle.monitorable.proofs.DomainRows.{found, grows, has_constants, has_log, row_within}
-use Rattle.monitorable.proofs.FinalityLaw.{finality}
-use Rattle.monitorable.proofs.FreeVariableLemmas.{fv_apart}
-use Rattle.monitorable.proofs.ViolationsFinal.{itself, agreeing}
-use Rattle.monitorable.specs.CoreForms.{CoreForm, meaning}
-use Rattle.monitorable.specs.Fragment.{IsMonitorable}
+use Rattle.monitorable.specs.{CoreForms.CoreForm, CoreForms.meaning, Fragment.IsMonitorable}
 use Rattle.monitorable.specs.SatisfyingRows.{core_domain, satisfies, satisfying_rows}
 use Rattle.rescale_core.specs.Laws.{PolicyViolations}
 use Rattle.rescale_core.specs.Workers.{MayFollow, settled_in, violations_at}
@@ -36,17 +22,10 @@ times_more log p = map-append (λ (q : TimePoint). q.ts) log (p ∷ [])
 
 pub settled_more : (c : CoreForm) (log : List TimePoint) (p : TimePoint) → MayFollow log p
     → settled_in c log ≤ settled_in c (log ++ p ∷ [])
-settled_more c log p m =
-    let e = times_more log p in
-    let rising : NeverFalls (times log ++ p.ts ∷ []) = subst NeverFalls e m.rising in
-    let h = count_grows (times log) (p.ts ∷ []) rising (meaning c) in
-    subst (λ t. settled_in c log ≤ Rattle.mfotl_model.specs.Counts.settled_count t (meaning c)) (sym e) h
+settled_more c log p m = grind (arith, times_more, count_grows)
 
 pub settled_within : (c : CoreForm) (log : List TimePoint) → settled_in c log ≤ length log
-settled_within c log =
-    let h = count_within (times log) (meaning c) in
-    let e : length (times log) ≡ length log = length-map log (λ (q : TimePoint). q.ts) in
-    omega arith
+settled_within c log = grind (arith, count_within, length-map)
 
 module _ (g : CoreForm) (log more : List TimePoint) (i : ℕ) (fits : IsMonitorable g)
     (rising : NeverFalls (times (log ++ more)))
@@ -93,8 +72,7 @@ module _ (g : CoreForm) (log more : List TimePoint) (i : ℕ) (fits : IsMonitora
 pub viol_final : (c : CoreForm) (log : List TimePoint) (p : TimePoint) (i : ℕ) → IsMonitorable c → MayFollow log p
     → i < settled_in c log → violations_at c log i ≡ violations_at c (log ++ p ∷ []) i
 unfolding violations_at
-viol_final c log p i fits m h =
-    same_rows c log (p ∷ []) i fits m.rising (counted_settled (times log) (meaning c) i h)
+viol_final c log p i fits m h = search (same_rows, counted_settled)
 
 pub policy_violations : PolicyViolations
 unfolding violations_at

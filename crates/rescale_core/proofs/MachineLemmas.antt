@@ -4,30 +4,21 @@ use Rattle.std.proofs.Common.{refl, ap, ◌∙◌, subst, append-nil, append_ass
 use Rattle.std.proofs.lemmas.Bool.Decides.{nat_tests}
 use native.Mathlib.Decide.{ℕ_discrete}
 use Rattle.monitor_state.specs.declared.state.Piece.{Piece}
-use Rattle.verdict_merge.specs.declared.rows.Rows.{Rows}
-use Rattle.verdict_merge.specs.declared.rows.Verdict.{Verdict}
-use Rattle.rescale_core.proofs.Soundness.{step_sound}
-use Rattle.rescale_core.proofs.Verdicts.{step_verdicts}
-use Rattle.rescale_core.proofs.WorldLemmas.{spot_more, supplies_length}
+use Rattle.verdict_merge.specs.declared.{rows.Rows.Rows, rows.Verdict.Verdict}
+use Rattle.rescale_core.proofs.{Soundness.step_sound, Verdicts.step_verdicts, WorldLemmas.spot_more}
+use Rattle.rescale_core.proofs.{WorldLemmas.supplies_length}
 use Rattle.rescale_core.specs.Cells.{Applies, AreWithin, IsCellAt, IsCellOf, IsMachineOf, CellTakes}
-use Rattle.rescale_core.specs.Laws.{EmitsVerdicts}
+use Rattle.rescale_core.specs.{Laws.EmitsVerdicts, Routing.HasTaken, Routing.IsRouterOf, Handing.nth}
 use Rattle.rescale_core.specs.Lines.{AreSound, MayRead, first_spot, moved}
-use Rattle.rescale_core.specs.Routing.{HasTaken, IsRouterOf}
-use Rattle.rescale_core.specs.Handing.{nth}
 use Rattle.rescale_core.specs.Worlds.{World, Allowed, Seat, world_after, all_collected, fed_more, line_in, not_back}
 use Rattle.rescale_core.specs.Worlds.{pieces_in, rows_in, set_seat, spot_in, took_one}
 use Rattle.rescale_core.specs.Worlds.Step.{Read, Feed, Take, Collect, Emit}
-use Rattle.rescale_core.specs.declared.step.Applied.{Applied}
-use Rattle.rescale_core.specs.declared.step.Applied.TheVariants.{Did, NotEnabled}
-use Rattle.rescale_core.specs.declared.cell.Cell.{Cell}
+use Rattle.rescale_core.specs.declared.{step.Applied.Applied, step.Applied.TheVariants.Did}
+use Rattle.rescale_core.specs.declared.{step.Applied.TheVariants.NotEnabled, cell.Cell.Cell, item.Entry.Entry}
+use Rattle.rescale_core.specs.declared.{item.Item.Item, item.Out.Out, router.Router.Router, machine.Machine.Machine}
 use Rattle.rescale_core.specs.declared.step.Step.TheVariants as step
-use Rattle.rescale_core.specs.declared.item.Entry.{Entry}
-use Rattle.rescale_core.specs.declared.item.Item.{Item}
-use Rattle.rescale_core.specs.declared.item.Out.{Out}
-use Rattle.rescale_core.specs.declared.router.Router.{Router}
-use Rattle.rescale_core.specs.declared.machine.Machine.{Machine}
-use Rattle.rescale_core.proofs.CellLemmas.{nth_here, nth_set, nth_else, line_none, seed_in, seat_else, back_cell}
-use Rattle.rescale_core.proofs.CellLemmas.{same_cell, within_front}
+use Rattle.rescale_core.proofs.CellLemmas.{nth_here, nth_set, nth_else, line_none, seed_in, seat_else, same_cell}
+use Rattle.rescale_core.proofs.CellLemmas.{within_front, seat_here}
 
 -- ---- one seat's steps
 
@@ -176,7 +167,7 @@ machine_collects m n k old new taken outs low here cells left verdicts some has 
       world_after w (Collect k),
       (may, refl),
       machine_collected m n entries w is k new cells left verdicts may
-          (back_cell w k old new c items worker none empty) (router w is.router h),
+          (grind (arith, seat_here, append-nil)) (router w is.router h),
     )
 
 -- ---- reading and emitting

@@ -1,26 +1,17 @@
 -- What splitting, adopting and finishing do for a worker.
 use Rattle.std.proofs.Common.{◌≡◌, ℕ, ◌+◌, ◌<◌, Option, Some, None, IfSome, List, [], ◌∷◌, length, refl, ap, ◌∙◌, arith}
-use Rattle.mfotl_model.proofs.NumberLemmas.{at_most}
-use Rattle.mfotl_model.specs.FreeVariables.{fv, among}
-use Rattle.mfotl_model.specs.Regions.{near_of}
-use Rattle.mfotl_model.specs.Strategies.{Strategy, workers_of}
+use Rattle.mfotl_model.proofs.{NumberLemmas.at_most, LogicLemmas.among_range}
+use Rattle.mfotl_model.specs.{FreeVariables.fv, FreeVariables.among, Regions.near_of, Strategies.Strategy}
+use Rattle.mfotl_model.specs.{Strategies.workers_of}
 use Rattle.mfotl_model.specs.declared.event.TimePoint.{TimePoint}
-use Rattle.mfotl_model.proofs.LogicLemmas.{among_range}
 use Rattle.monitorable.proofs.SoundLaw.{parts_are_sound}
 use Rattle.monitorable.specs.CoreForms.{CoreForm, meaning}
-use Rattle.monitor_state.specs.MonitorView.{monitor_of}
+use Rattle.monitor_state.specs.{MonitorView.monitor_of, Resuming.SuitsWhole, Stands.Stands}
 use Rattle.monitor_state.specs.Pieces.{PieceStands, Merges as HasMerged, view_of}
-use Rattle.monitor_state.specs.Resuming.{SuitsWhole}
-use Rattle.monitor_state.specs.Stands.{Stands}
-use Rattle.monitor_state.specs.declared.monitor.Monitor.{Monitor}
-use Rattle.monitor_state.specs.declared.state.Piece.{Piece}
-use Rattle.monitor_state.specs.declared.state.State.{State}
-use Rattle.slice_strategy.specs.SlicerLemmas.{strategy_covers}
-use Rattle.slice_strategy.specs.Slicers.{BindsAll}
+use Rattle.monitor_state.specs.declared.{monitor.Monitor.Monitor, state.Piece.Piece, state.State.State}
+use Rattle.slice_strategy.specs.{SlicerLemmas.strategy_covers, Slicers.BindsAll}
 use Rattle.state_merge.proofs.FitLemmas.{pieces_fit}
-use Rattle.state_merge.specs.Finishing.{AllAdopted, IsWhole}
-use Rattle.state_merge.specs.Fits.{CanBeUnited}
-use Rattle.state_merge.specs.MergingView.{merging_of}
+use Rattle.state_merge.specs.{Finishing.AllAdopted, Finishing.IsWhole, Fits.CanBeUnited, MergingView.merging_of}
 use Rattle.state_merge.specs.declared.merging.Merging.{Merging}
 use Rattle.state_split.proofs.CutLaw.{strategies_cut}
 use Rattle.state_split.specs.Splits.{AreNumbered, PiecesStand}
@@ -39,8 +30,7 @@ pub splits : (m : Monitor) (s : Strategy) (k : ℕ) (s2 : Strategy) (g : ℕ) (p
     → ((log : List TimePoint) → BindsAll (length s) (fv (meaning (monitor_of m).core))
     → BindsAll (length s2) (fv (meaning (monitor_of m).core))
     → Stands (view_of (monitor_of m).core (near_of s k) log) (monitor_of m).core (monitor_of m).state
-    → PiecesStand (monitor_of m).core (near_of s k) (near_of s2) log pieces)
-    → Splits m s k s2 g pieces
+    → PiecesStand (monitor_of m).core (near_of s k) (near_of s2) log pieces) → Splits m s k s2 g pieces
 splits m s k s2 g pieces size numbers stands = (
   size,
   λ core log is is2 own. strategies_cut core s k s2 log g pieces numbers
@@ -71,8 +61,7 @@ pub merges_more : (old new : Merging) (piece : Piece) → (merging_of new).core 
     → (merging_of new).count ≡ (merging_of old).count → (merging_of new).adopted ≡ (merging_of old).adopted + 1
     → ((core : CoreForm) (s s2 : Strategy) (k2 : ℕ) (log : List TimePoint) (ks : List ℕ) (k : ℕ)
     → HasMerged core s s2 k2 log ks (merging_of old).merged → PieceStands core s k s2 k2 log piece
-    → HasMerged core s s2 k2 log (k ∷ ks) (merging_of new).merged)
-    → MergesMore old piece new
+    → HasMerged core s s2 k2 log (k ∷ ks) (merging_of new).merged) → MergesMore old piece new
 merges_more old new piece same_core same_count one_more more core s s2 k2 log froms is is2 merges stands =
     record {
       of = same_core ∙ merges.of;

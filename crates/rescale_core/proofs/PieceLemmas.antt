@@ -1,30 +1,23 @@
 -- What a worker does with a part and with a piece.
 use Rattle.std.proofs.Common.{◌≡◌, ◌≢◌, ℕ, ◌+◌, ◌-◌, ◌<◌, cond, nat_eq, ⊎_elim, eqb-true, List, [], ◌∷◌, length, map}
 use Rattle.std.proofs.Common.{sym, refl, ap, ◌∙◌, subst, arith}
-use Rattle.std.proofs.lemmas.Bool.{cond_both, eqb-false}
-use Rattle.std.proofs.lemmas.List.{length-map}
-use Rattle.mfotl_model.specs.Numbers.{NotIn}
-use Rattle.mfotl_model.specs.Strategies.{Strategy, workers_of}
-use Rattle.monitorable.specs.CoreForms.{CoreForm}
-use Rattle.monitorable.specs.Cores.{core_form}
-use Rattle.monitor_state.specs.declared.monitor.Monitor.{Monitor}
+use Rattle.std.proofs.{lemmas.Bool.cond_both, lemmas.Bool.eqb-false, lemmas.List.length-map}
+use Rattle.mfotl_model.specs.{Numbers.NotIn, Strategies.Strategy, Strategies.workers_of}
+use Rattle.monitorable.specs.{CoreForms.CoreForm, Cores.core_form}
+use Rattle.monitor_state.specs.declared.{monitor.Monitor.Monitor, state.Piece.Piece}
 use Rattle.rescale_core.proofs.SliceLemmas.{active_at}
-use Rattle.rescale_core.specs.Lines.{Due, ChangeOfStrategy}
+use Rattle.rescale_core.specs.{Lines.Due, Lines.ChangeOfStrategy, Workers.IsFor}
 use Rattle.rescale_core.specs.Lines.Due.{Slicing, Parting, Hole}
 use Rattle.monitor_state.specs.Pieces.{AreCuts, PieceStands}
 use Rattle.rescale_core.specs.States.{Adopted, CanAdopt, IsFull, MergesPieces, MergesMore, Splits}
 use Rattle.rescale_core.specs.Phases.{FitsPhase, AnswersOne, IsPieceFor, Meets, Parts, PhaseOf, froms_of, phase_after}
 use Rattle.rescale_core.specs.Phases.PhaseOf.{Active, Vacant, Waiting}
-use Rattle.rescale_core.specs.Workers.{IsFor}
 use Rattle.rescale_core.specs.Working.{CanTake, ResumesMerging, IsAt, Settles, TakesItem}
-use Rattle.rescale_core.specs.declared.item.Item.TheVariants.{Adopt, Part}
-use Rattle.rescale_core.specs.declared.item.Out.TheVariants.{Piece as OfPiece}
+use Rattle.rescale_core.specs.declared.{item.Item.TheVariants.Adopt, item.Item.TheVariants.Part}
+use Rattle.rescale_core.specs.declared.{item.Out.TheVariants.Piece as OfPiece, phase.Phase.Phase, worker.Worker.Worker}
 use Rattle.state_merge.specs.MergingView.{MergingOf}
 use Rattle.state_merge.specs.declared.merging.Merging.{Merging}
-use Rattle.rescale_core.specs.declared.phase.Phase.{Phase}
 use Rattle.rescale_core.specs.declared.phase.Phase.TheVariants as held
-use Rattle.rescale_core.specs.declared.worker.Worker.{Worker}
-use Rattle.monitor_state.specs.declared.state.Piece.{Piece}
 
 -- ---- a part
 
@@ -96,8 +89,7 @@ record Carries (c : CoreForm) (k : ℕ) (t : ChangeOfStrategy) (froms : List ℕ
   adopted : Adopted t.old froms
 
 carries : (c : CoreForm) (k : ℕ) (t : ChangeOfStrategy) (j : ℕ) (ph : PhaseOf) (phase : Phase) (count : ℕ)
-    (merging : Merging)
-    (missing : ℕ) → FitsPhase c k ph (Hole t j) → IsAt c k ph phase → count ≡ workers_of t.old
+    (merging : Merging) (missing : ℕ) → FitsPhase c k ph (Hole t j) → IsAt c k ph phase → count ≡ workers_of t.old
     → ResumesMerging phase c count merging missing → Carries c k t (froms_of ph) merging missing
 carries c k t j Vacant phase count merging missing f here counts on =
     let new : ResumesMerging held.Vacant c count merging missing = rw here at on in
@@ -122,8 +114,7 @@ carries c k t j (Waiting u froms) phase count merging missing f here counts on =
     let l = a.4 in
     let some = a.5 in
     record { merges = rw own.0 a.3; left = omega arith; some = omega arith; adopted = a.6 }
-carries c k t j (Active s log) phase count merging missing f here counts on =
-    absurd (⊎_elim (λ e. cc) (λ e. cc) f.2)
+carries c k t j (Active s log) phase count merging missing f here counts on = absurd (⊎_elim (λ e. cc) (λ e. cc) f.2)
 
 -- what is known of a piece that is due
 record DuePiece (w : Worker) (piece : Piece) (now : Strategy) (merging : Merging) (missing : ℕ) (t : ChangeOfStrategy)

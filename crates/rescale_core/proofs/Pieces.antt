@@ -2,27 +2,18 @@
 use Rattle.std.proofs.Common.{◌≡◌, ◌≢◌, ℕ, ◌+◌, ◌<◌, ◌≤◌, Bool, true, false, ◌&&◌, nat_eq, Option, Some, List, [], ◌∷◌}
 use Rattle.std.proofs.Common.{◌++◌, length, filter, map, drop, sym, refl, ap, ◌∙◌, subst, ⊎_elim, append_assoc}
 use Rattle.std.proofs.Common.{append-nil, arith, ne_eqb, length-append, cond}
-use Rattle.std.proofs.lemmas.Bool.{cases_eq}
-use Rattle.std.proofs.lemmas.Bool.Decides.{nat_tests}
-use Rattle.std.proofs.lemmas.List.Elements.{filter-append}
-use Rattle.std.proofs.lemmas.List.{length-map}
-use Rattle.std.proofs.Math.Seq.{drop-append_seam}
-use Rattle.std.proofs.Permutation.{every_append}
-use Rattle.mfotl_model.specs.Numbers.{Apart, NotIn}
-use Rattle.mfotl_model.specs.Strategies.{Strategy, workers_of}
-use Rattle.rescale_core.proofs.Fitting.{every_map}
-use Rattle.rescale_core.proofs.WorldLemmas.{AreChanges, Rises}
-use Rattle.rescale_core.specs.Lines.{ChangeOfStrategy, Due}
-use Rattle.rescale_core.specs.Soundly.{Known, last_part}
+use Rattle.std.proofs.{lemmas.Bool.cases_eq, lemmas.Bool.Decides.nat_tests, lemmas.List.Elements.filter-append}
+use Rattle.std.proofs.{lemmas.List.length-map, Math.Seq.drop-append_seam, Permutation.every_append}
+use Rattle.mfotl_model.specs.{Numbers.Apart, Numbers.NotIn, Strategies.Strategy, Strategies.workers_of}
+use Rattle.rescale_core.proofs.{Fitting.every_map, WorldLemmas.AreChanges, WorldLemmas.Rises}
+use Rattle.rescale_core.specs.{Lines.ChangeOfStrategy, Lines.Due, Soundly.Known, Soundly.last_part, Workers.newly}
+use Rattle.rescale_core.specs.{Handing.for_place, Worlds.pieces_in}
 use Rattle.rescale_core.specs.Phases.{IsPieceFor, AnswersOne, Parts, Answers, rows_for}
-use Rattle.rescale_core.specs.Workers.{newly}
-use Rattle.rescale_core.specs.Handing.{for_place}
-use Rattle.rescale_core.specs.Worlds.{pieces_in}
 use Rattle.std.specs.List.{AllByRecursion}
 use Rattle.monitorable.specs.CoreForms.{CoreForm}
 use Rattle.monitor_state.specs.declared.state.Piece.{Piece}
-use Rattle.rescale_core.specs.declared.item.Out.{Out}
-use Rattle.rescale_core.specs.declared.item.Out.TheVariants.{Rows as OfRows, Piece as OfPiece}
+use Rattle.rescale_core.specs.declared.{item.Out.Out, item.Out.TheVariants.Rows as OfRows}
+use Rattle.rescale_core.specs.declared.{item.Out.TheVariants.Piece as OfPiece}
 use Rattle.rescale_core.specs.Lines.Due.{Slicing, Parting, Hole}
 
 -- ---- lists
@@ -142,8 +133,7 @@ first_piece c k t k2 p os ps =
 parts_came : (f : ℕ → Option ChangeOfStrategy) (c : CoreForm) (k lo hi : ℕ) (t : ChangeOfStrategy) (k2 : ℕ)
     (os : List Out)
     → f t.generation ≡ Some t → lo < t.generation → t.generation ≤ hi → k2 + length os ≡ workers_of t.new
-    → Parts c k t k2 os
-    → AllByRecursion (Came f c k lo hi) (pieces_in os)
+    → Parts c k t k2 os → AllByRecursion (Came f c k lo hi) (pieces_in os)
 parts_came f c k lo hi t k2 [] e l h n ps = tt
 parts_came f c k lo hi t k2 (OfRows r ∷ os) e l h n ps = let x = ps.0.1 in cc
 parts_came f c k lo hi t k2 (OfPiece p ∷ os) e l h n ps =
@@ -184,10 +174,6 @@ answers_came f c k lo g (Hole u j ∷ ds) os low r t a =
     rw (a.2, pieces_more a.0 a.1, ap pieces_in a.3) (answers_came f c k lo g ds a.1 low r t.1 a.4)
 
 -- ---- at most one piece for a place
-
-pub and_false : (a b : Bool) → b ≡ false → a && b ≡ false
-and_false true b e = e
-and_false false b e = refl
 
 pub skips : (g q : ℕ) (p : Piece) (ps : List Piece) → p.generation ≢ g → for_place g q (p ∷ ps) ≡ for_place g q ps
 skips g q p ps n =

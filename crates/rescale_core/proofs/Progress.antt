@@ -3,34 +3,26 @@ use Rattle.std.proofs.Common.{◌≡◌, ◌⊎◌, ℕ, zero, suc, ◌+◌, ◌
 use Rattle.std.proofs.Common.{List, [], ◌∷◌, ◌++◌, length, map, take, drop, refl, sym, ap, ◌∙◌, subst, ⊎_elim}
 use Rattle.std.proofs.Common.{append_assoc, arith, lt-ltb, take-append-drop}
 use Rattle.std.proofs.lemmas.Bool.{or_left, or_right, cases_lt}
-use Rattle.std.proofs.lemmas.Bool.Decides.{nat_tests}
-use Rattle.std.proofs.lemmas.List.{length-map}
-use Rattle.std.proofs.lemmas.List.Folds.{list_any-append}
-use Rattle.std.proofs.lemmas.Map.Steps.{le-length_from_below}
-use Rattle.std.proofs.Permutation.{every_append}
+use Rattle.std.proofs.{lemmas.Bool.Decides.nat_tests, lemmas.List.length-map, lemmas.List.Folds.list_any-append}
+use Rattle.std.proofs.{lemmas.Map.Steps.le-length_from_below, Permutation.every_append}
 use Rattle.std.specs.List.{AllByRecursion, list_any}
 use Rattle.mfotl_model.specs.Strategies.{Strategy, workers_of}
 use Rattle.mfotl_model.proofs.LogicLemmas.{filtered_found}
 use Rattle.monitorable.specs.CoreForms.{CoreForm}
 use Rattle.rescale_core.proofs.Pieces.{changes_apart, every_behind, first_piece, pieces_more}
-use Rattle.rescale_core.proofs.ReadyLemmas.{ready_first}
-use Rattle.rescale_core.proofs.Rowing.{change_every, point_every}
-use Rattle.rescale_core.proofs.WorldLemmas.{AreChanges, line_changes}
+use Rattle.rescale_core.proofs.{ReadyLemmas.ready_first, Rowing.change_every, Rowing.point_every}
+use Rattle.rescale_core.proofs.{WorldLemmas.AreChanges, WorldLemmas.line_changes}
 use Rattle.rescale_core.specs.Lines.{Due, Spot, ChangeOfStrategy, dues, first_spot, if_below, line, moved, place}
 use Rattle.rescale_core.specs.Lines.{change_at}
 use Rattle.rescale_core.specs.Lines.Due.{Slicing, Parting, Hole}
-use Rattle.rescale_core.specs.Soundly.{IsSound, change_of}
-use Rattle.rescale_core.specs.Phases.{Answers, Parts}
-use Rattle.rescale_core.specs.Workers.{slice_for}
+use Rattle.rescale_core.specs.{Soundly.IsSound, Soundly.change_of, Phases.Answers, Phases.Parts, Workers.slice_for}
+use Rattle.rescale_core.specs.{Worlds.Step.Feed}
 use Rattle.rescale_core.specs.Handing.{for_place, item_of, nth, ready_items}
 use Rattle.rescale_core.specs.Worlds.{World, Allowed, line_in, pieces_in}
-use Rattle.rescale_core.specs.Worlds.Step.{Feed}
-use Rattle.rescale_core.specs.declared.item.Entry.{Entry}
-use Rattle.rescale_core.specs.declared.item.Entry.TheVariants.{Point, Change}
-use Rattle.rescale_core.specs.declared.item.Item.{Item}
+use Rattle.rescale_core.specs.declared.{item.Entry.Entry, item.Entry.TheVariants.Point, item.Entry.TheVariants.Change}
+use Rattle.rescale_core.specs.declared.{item.Item.Item, item.Out.Out, item.Out.TheVariants.Piece as OfPiece}
+use Rattle.rescale_core.specs.declared.{item.Out.TheVariants.Rows as OfRows}
 use Rattle.rescale_core.specs.declared.item.Item.TheVariants.{Adopt, Part, Slice}
-use Rattle.rescale_core.specs.declared.item.Out.{Out}
-use Rattle.rescale_core.specs.declared.item.Out.TheVariants.{Piece as OfPiece, Rows as OfRows}
 use Rattle.monitor_state.specs.declared.state.Piece.{Piece}
 
 -- ---- what comes before a part
@@ -54,8 +46,7 @@ pub record HasPart (ds : List Due) (t : ChangeOfStrategy) : Type 0 where
 
 -- the change is the first entry's, or comes behind it
 here_or_later : (a : Spot) (s : Strategy) (es : List Entry) (g : ℕ) (t : ChangeOfStrategy)
-    → change_of a (Change s ∷ es) g ≡ Some t
-    → (change_at a s ≡ t) ⊎ (change_of (moved a (Change s)) es g ≡ Some t)
+    → change_of a (Change s ∷ es) g ≡ Some t → (change_at a s ≡ t) ⊎ (change_of (moved a (Change s)) es g ≡ Some t)
 here_or_later a s es g t e = grind (arith, nat_tests)
 
 change_later : (es : List Entry) (a : Spot) (g : ℕ) (t : ChangeOfStrategy) → change_of a es g ≡ Some t
@@ -121,8 +112,7 @@ part_there c k t to k2 (OfPiece p ∷ outs) ps low high =
 
 -- what answers a part has its pieces
 pub piece_there : (c : CoreForm) (k : ℕ) (before : List Due) (t : ChangeOfStrategy) (behind : List Due)
-    (outs : List Out) (to : ℕ)
-    → to < workers_of t.new → Answers c k (before ++ Parting t ∷ behind) outs
+    (outs : List Out) (to : ℕ) → to < workers_of t.new → Answers c k (before ++ Parting t ∷ behind) outs
     → list_any (is_from_to t.generation k to) (pieces_in outs) ≡ true
 piece_there c k [] t behind outs to low a =
     let len : length a.0 ≡ workers_of t.new = a.3.0 in
@@ -263,8 +253,7 @@ module _ (w : World) (sound : IsSound w) (idle : (k : ℕ) (i : Item) → Allowe
   handed_by : (k : ℕ) (ds : List Due) → drop (length (w.seats k).fed) (line_in w k) ≡ ds
       → drop (length (w.seats k).fed) (line_in w k) ≡ []
   handed_by k [] e = e
-  handed_by k (Slicing g s log p ∷ rest) e =
-      absurd (first_none 0 k (Slicing g s log p) rest (none_stuck 0) e tt)
+  handed_by k (Slicing g s log p ∷ rest) e = absurd (first_none 0 k (Slicing g s log p) rest (none_stuck 0) e tt)
   handed_by k (Parting t ∷ rest) e = absurd (first_none 0 k (Parting t) rest (none_stuck 0) e tt)
   handed_by k (Hole t j ∷ rest) e = absurd (none_stuck (suc t.generation) k t j rest e (omega arith))
 

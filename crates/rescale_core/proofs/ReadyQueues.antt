@@ -1,34 +1,30 @@
 -- What is ready in a router's queue is ready in its worlds.
-use Rattle.std.proofs.Common.{◌≡◌, ◌⊎◌, ℕ, zero, suc, ◌+◌, ◌<◌, ◌≤◌, Bool, true, false, ◌&&◌, cond, nat_eq, nat_lt}
-use Rattle.std.proofs.Common.{Option, Some, None, option_map, List, [], ◌∷◌, ◌++◌, length, map, drop, refl, sym, ap}
-use Rattle.std.proofs.Common.{◌∙◌, subst, inl, inr, ⊎_elim, arith, eq-eqb, eqb-true, ne_eqb}
-use Rattle.std.proofs.lemmas.List.{length-map, drop_all}
+use Rattle.std.proofs.Common.{◌≡◌, ◌⊎◌, ℕ, zero, suc, ◌+◌, ◌<◌, ◌≤◌, Bool, true, false, ◌&&◌, nat_eq, Option, Some}
+use Rattle.std.proofs.Common.{None, option_map, List, [], ◌∷◌, ◌++◌, length, map, drop, refl, ap, inl, inr, ⊎_elim}
+use Rattle.std.proofs.Common.{arith, eq-eqb, ne_eqb}
+use Rattle.std.proofs.lemmas.List.{drop-drop, length-drop, length-map, nil_from_length}
+use Rattle.std.proofs.lemmas.Bool.Decides.{nat_tests}
 use Rattle.std.specs.List.{AllByRecursion, range_with_len}
 use Rattle.mfotl_model.proofs.NumberLemmas.{at_most}
 use Rattle.mfotl_model.specs.Strategies.{workers_of}
 use Rattle.monitorable.specs.CoreForms.{CoreForm}
 use Rattle.monitor_state.specs.declared.state.Piece.{Piece}
-use Rattle.rescale_core.proofs.Fitting.{and_left, every_filter, every_map}
-use Rattle.rescale_core.proofs.WorldLemmas.{AreChanges, behind_change, if_either, line_changes}
-use Rattle.rescale_core.specs.Chances.{Chance, Standing}
-use Rattle.rescale_core.specs.Chances.Chance.{Open, Sure}
+use Rattle.rescale_core.proofs.Fitting.{every_filter, every_map}
+use Rattle.state_split.proofs.RowCuts.{all_mapped}
+use Rattle.rescale_core.proofs.WorldLemmas.{AreChanges, before_change, before_point, line_changes}
+use Rattle.rescale_core.specs.{Chances.Chance, Chances.Standing, Chances.Chance.Open, Chances.Chance.Sure}
+use Rattle.rescale_core.specs.{Queues.chances, Queues.queue_at, Routing.IsRouterOf, Slots.ready_of, Slots.standing_of}
+use Rattle.rescale_core.specs.{Workers.slice_for}
 use Rattle.rescale_core.specs.Chances.Standing.{Last, Outside, Within}
 use Rattle.rescale_core.specs.Handing.{chance, chance_from, for_place, nth, ready_items, standing}
-use Rattle.rescale_core.specs.Lines.{Due, Spot, ChangeOfStrategy, first_spot, line, moved, place, change_at}
+use Rattle.rescale_core.specs.Lines.{Due, Spot, ChangeOfStrategy, first_spot, line, moved, change_at}
 use Rattle.rescale_core.specs.Lines.Due.{Slicing, Parting, Hole}
-use Rattle.rescale_core.specs.Queues.{chances, queue_at}
-use Rattle.rescale_core.specs.Routing.{IsRouterOf}
-use Rattle.rescale_core.specs.Slots.{ready_of, standing_of}
 use Rattle.rescale_core.specs.Soundly.{IsSound, Known, change_of}
-use Rattle.rescale_core.specs.Workers.{slice_for}
-use Rattle.rescale_core.specs.Worlds.{World, line_in, queue_in, ready_in}
-use Rattle.rescale_core.specs.declared.item.Entry.{Entry}
-use Rattle.rescale_core.specs.declared.item.Entry.TheVariants.{Change, Point}
-use Rattle.rescale_core.specs.declared.item.Item.{Item}
+use Rattle.rescale_core.specs.Worlds.{World, line_in, ready_in}
+use Rattle.rescale_core.specs.declared.{item.Entry.Entry, item.Entry.TheVariants.Change, item.Entry.TheVariants.Point}
+use Rattle.rescale_core.specs.declared.{item.Item.Item, router.Router.Router, slot.Slot.Slot}
+use Rattle.rescale_core.specs.declared.{slot.Slot.TheVariants.Ready, slot.Slot.TheVariants.Awaited}
 use Rattle.rescale_core.specs.declared.item.Item.TheVariants.{Adopt, Part, Slice}
-use Rattle.rescale_core.specs.declared.router.Router.{Router}
-use Rattle.rescale_core.specs.declared.slot.Slot.{Slot}
-use Rattle.rescale_core.specs.declared.slot.Slot.TheVariants.{Ready, Awaited}
 
 -- ---- queues
 
@@ -71,48 +67,31 @@ runs_place t (suc (suc n)) j ds e r = (
 line_runs : (k : ℕ) (es : List Entry) (a : Spot) → Runs (line k a es)
 line_runs k [] a = tt
 line_runs k (Point p ∷ es) a = let rest = line_runs k es (moved a (Point p)) in
-    if_either (λ x. Runs (x ++ line k (moved a (Point p)) es)) (nat_lt k (workers_of a.strategy))
-    (Slicing a.generation a.strategy a.points p ∷ []) rest rest
-line_runs k (Change s ∷ es) a = let more : List Due = line k (moved a (Change s)) es in
-    let t : ChangeOfStrategy = change_at a s in
-    let rest : Runs more = line_runs k es (moved a (Change s)) in
-    behind_change Runs k a s more (λ parts places.
-    let r : Runs (cond places (place t) [] ++ more) =
-    if_either (λ x. Runs (x ++ more)) places (place t)
-    (runs_place t (workers_of t.old) 0 more (omega arith) rest) rest in
-    if_either (λ x. Runs (x ++ (cond places (place t) [] ++ more))) parts (Parting t ∷ []) r r)
+    before_point Runs k a p (line k (moved a (Point p)) es) rest rest
+line_runs k (Change s ∷ es) a =
+    let more : List Due = line k (moved a (Change s)) es in
+    let rest = line_runs k es (moved a (Change s)) in
+    before_change Runs Runs k a s more (λ ds r. (r, r)) rest
+    (runs_place (change_at a s) (workers_of a.strategy) 0 more (omega arith) rest)
 
-runs_left : (n : ℕ) (ds : List Due) → Runs ds → Runs (drop n ds)
-runs_left zero ds r = r
-runs_left (suc n) [] r = tt
-runs_left (suc n) (Slicing g s log p ∷ ds) r = runs_left n ds r
-runs_left (suc n) (Parting t ∷ ds) r = runs_left n ds r
-runs_left (suc n) (Hole t j ∷ ds) r = runs_left n ds r.1
-
-changes_left : (f : ℕ → Option ChangeOfStrategy) (n : ℕ) (ds : List Due) → AreChanges f ds → AreChanges f (drop n ds)
-changes_left f zero ds r = r
-changes_left f (suc n) [] r = tt
-changes_left f (suc n) (Slicing g s log p ∷ ds) r = changes_left f n ds r
-changes_left f (suc n) (Parting t ∷ ds) r = changes_left f n ds r.1
-changes_left f (suc n) (Hole t j ∷ ds) r = changes_left f n ds r.1
+both_left : (f : ℕ → Option ChangeOfStrategy) (n : ℕ) (ds : List Due) → Runs ds → AreChanges f ds
+    → Runs (drop n ds) × AreChanges f (drop n ds)
+both_left f zero ds r c = (r, c)
+both_left f (suc n) [] r c = (tt, tt)
+both_left f (suc n) (Slicing g s log p ∷ ds) r c = both_left f n ds r c
+both_left f (suc n) (Parting t ∷ ds) r c = both_left f n ds r c.1
+both_left f (suc n) (Hole t j ∷ ds) r c = both_left f n ds r.1 c.1
 
 -- ---- pieces
-
-all_from : (n : ℕ) (ps : List Piece) → AllByRecursion (λ (p : Piece). p.from < n) ps
-    → AllByRecursion (λ (x : ℕ). x < n) (map (λ (p : Piece). p.from) ps)
-all_from n [] a = tt
-all_from n (p ∷ ps) a = (a.0, all_from n ps a.1)
 
 -- a piece that came for a place is of one of the workers before the change
 known_near : (f : ℕ → Option ChangeOfStrategy) (c : CoreForm) (k : ℕ) (t : ChangeOfStrategy) (p : Piece)
     → f t.generation ≡ Some t → Known f c p
     → (nat_eq p.generation t.generation && nat_eq p.to k) ≡ true → p.from < workers_of t.old
 known_near f c k t p change known e =
-    let same : p.generation ≡ t.generation =
-    eqb-true p.generation t.generation (and_left (nat_eq p.generation t.generation) (nat_eq p.to k) e) in
-    let changes : Some known.change ≡ Some t = sym known.is ∙ ap f same ∙ change in
-    let is : known.change ≡ t = cc in
-    subst (λ (x : ChangeOfStrategy). p.from < workers_of x.old) is known.piece_for.near
+    let same : p.generation ≡ t.generation = grind (arith, nat_tests) in
+    let is : known.change ≡ t = cc (known.is, change, same) in
+    rw is at known.piece_for.near
 
 -- so no more came than there were such workers
 pub few_came : (w : World) (k : ℕ) (t : ChangeOfStrategy) → IsSound w
@@ -126,20 +105,14 @@ few_came w k t sound change =
     every_map (λ p. Known f w.core p × (test p ≡ true)) (λ (p : Piece). p.from < workers_of t.old) ps
     (λ p h. known_near f w.core k t p change h.0 h.1) (every_filter (Known f w.core) test w.pieces sound.known) in
     let most = at_most (workers_of t.old) (map (λ (p : Piece). p.from) ps) (sound.distinct t.generation k)
-    (all_from (workers_of t.old) ps near) in
+    (all_mapped (λ x. x < workers_of t.old) (λ (p : Piece). p.from) ps near) in
     let same = length-map ps (λ (p : Piece). p.from) in
     omega arith
 
-drop_none : {A : Type 0} (xs : List A) (j : ℕ) → nth xs j ≡ None → drop j xs ≡ []
-drop_none [] zero e = refl
-drop_none [] (suc j) e = refl
-drop_none (x ∷ xs) zero e = cc
-drop_none (x ∷ xs) (suc j) e = drop_none xs j e
-
-drop_some : {A : Type 0} (xs : List A) (j : ℕ) (x : A) → nth xs j ≡ Some x → drop j xs ≡ x ∷ drop (suc j) xs
-drop_some [] j x e = cc
-drop_some (y ∷ xs) zero x e = let h : y ≡ x = cc in ap (λ z. z ∷ xs) h
-drop_some (y ∷ xs) (suc j) x e = drop_some xs j x e
+nth_drop : {A : Type 0} (xs : List A) (j : ℕ) → nth xs j ≡ nth (drop j xs) 0
+nth_drop xs zero = refl
+nth_drop [] (suc j) = refl
+nth_drop (x ∷ xs) (suc j) = nth_drop xs j
 
 -- ---- what is due
 
@@ -155,38 +128,25 @@ module _ (c : CoreForm) (k : ℕ) (pieces : List Piece) (f : ℕ → Option Chan
   abbrev adopts : ChangeOfStrategy → List Piece → List Item
   adopts t ps = map (λ (p : Piece). Adopt p t.new) ps
 
-  -- the j-th piece of a place came, with others behind it or none
-  piece_ready : (t : ChangeOfStrategy) (j : ℕ) (ds : List Due) (p : Piece) → length (these t) ≤ workers_of t.old
-      → Runs (Hole t j ∷ ds) → so ds ≡ ready_items c k pieces ds → nth (these t) j ≡ Some p
-      → ready_by (Sure (Adopt p t.new) ∷ map (chance c k pieces) ds) (standing (Hole t j) ∷ map standing ds)
-      ≡ adopts t (drop j (these t))
-  piece_ready t j ds p most runs rest e = ⊎_elim
-      (λ last.
-      ap (λ b. ready_by (Sure (Adopt p t.new) ∷ map (chance c k pieces) ds) (cond b Last Within ∷ map standing ds))
-      (eq-eqb (j + 1) (workers_of t.old) last)
-      ∙ ap (λ ps. adopts t (p ∷ ps)) (sym (drop_all (suc j) (these t) (omega arith)))
-      ∙ ap (adopts t) (sym (drop_some (these t) j p e)))
-      (λ more.
-      let less = more.0 in
-      let same : j + 1 ≡ suc j = omega arith in
-      ap (λ b. ready_by (Sure (Adopt p t.new) ∷ map (chance c k pieces) ds) (cond b Last Within ∷ map standing ds))
-      (ne_eqb (j + 1) (workers_of t.old) (λ last. (omega arith)))
-      ∙ ap (λ is. Adopt p t.new ∷ is)
-      (rest ∙ ap (ready_items c k pieces) more.2 ∙ ap (λ n. adopts t (drop n (these t))) same)
-      ∙ ap (adopts t) (sym (drop_some (these t) j p e)))
-      runs.0
-
+  -- at a place, the pieces from the j-th on
   hole_ready : (t : ChangeOfStrategy) (j : ℕ) (ds : List Due) → length (these t) ≤ workers_of t.old
       → Runs (Hole t j ∷ ds)
       → so ds ≡ ready_items c k pieces ds → so (Hole t j ∷ ds) ≡ ready_items c k pieces (Hole t j ∷ ds)
-  hole_ready t j ds most runs rest = at (nth (these t) j) refl
+  hole_ready t j ds most runs rest = rw (nth_drop (these t) j) (at (drop j (these t)) refl)
     where
-      at : (o : Option Piece) → nth (these t) j ≡ o
-          → ready_by (chance_from (Hole t j) (option_map (λ (p : Piece). Adopt p t.new) o) ∷ map (chance c k pieces) ds)
-          (standing (Hole t j) ∷ map standing ds)
-          ≡ adopts t (drop j (these t))
-      at None e = ap (adopts t) (sym (drop_none (these t) j e))
-      at (Some p) e = piece_ready t j ds p most runs rest e
+      at : (ps : List Piece) → drop j (these t) ≡ ps
+          → ready_by (chance_from (Hole t j) (option_map (λ (p : Piece). Adopt p t.new) (nth ps 0))
+          ∷ map (chance c k pieces) ds) (standing (Hole t j) ∷ map standing ds)
+          ≡ adopts t ps
+      at [] e = refl
+      at (p ∷ ps) e = ⊎_elim
+          (λ last.
+          let none = nil_from_length ps (omega (arith, ap length e, length-drop j (these t))) in
+          rw (eq-eqb (j + 1) (workers_of t.old) last, none))
+          (λ more.
+          let other = ne_eqb (j + 1) (workers_of t.old) (λ last. (omega (arith, more.0))) in
+          rw (other, rest, more.2, ← drop-drop 1 j (these t), e))
+          runs.0
 
   pub dues_ready : (ds : List Due) → Runs ds → AreChanges f ds → so ds ≡ ready_items c k pieces ds
   dues_ready [] runs changes = refl
@@ -194,8 +154,7 @@ module _ (c : CoreForm) (k : ℕ) (pieces : List Piece) (f : ℕ → Option Chan
       ap (λ is. Slice g (length log) (slice_for c s k p) ∷ is) (dues_ready ds runs changes)
   dues_ready (Parting t ∷ ds) runs changes =
       ap (λ is. Part t.generation t.old t.new ∷ is) (dues_ready ds runs changes.1)
-  dues_ready (Hole t j ∷ ds) runs changes =
-      hole_ready t j ds (few t changes.0) runs (dues_ready ds runs.1 changes.1)
+  dues_ready (Hole t j ∷ ds) runs changes = hole_ready t j ds (few t changes.0) runs (dues_ready ds runs.1 changes.1)
 
 -- what is ready in a router's queue
 pub router_ready : (r : Router) (w : World) → IsRouterOf r w → (k : ℕ)
@@ -203,9 +162,7 @@ pub router_ready : (r : Router) (w : World) → IsRouterOf r w → (k : ℕ)
 router_ready r w is k =
     let f : (ℕ → Option ChangeOfStrategy) = change_of (first_spot w.first) w.read in
     let n : ℕ = length (w.seats k).fed in
-    slots_ready (queue_at r.queues.items k)
-    ∙ ap (λ cs. ready_by cs (map standing_of (queue_at r.queues.items k))) (is.queues k)
-    ∙ ap (ready_by (queue_in w k)) (is.standings k)
-    ∙ dues_ready w.core k w.pieces f (λ t change. few_came w k t is.sound change) (drop n (line_in w k))
-    (runs_left n (line_in w k) (line_runs k w.read (first_spot w.first)))
-    (changes_left f n (line_in w k) (line_changes k w.read (first_spot w.first)))
+    let left = both_left f n (line_in w k) (line_runs k w.read (first_spot w.first))
+    (line_changes k w.read (first_spot w.first)) in
+    rw (slots_ready (queue_at r.queues.items k), is.queues k, is.standings k)
+    (dues_ready w.core k w.pieces f (λ t change. few_came w k t is.sound change) (drop n (line_in w k)) left.0 left.1)

@@ -3,36 +3,29 @@ use Rattle.std.proofs.Common.{◌≡◌, ℕ, zero, suc, ◌+◌, ◌-◌, ◌<�
 use Rattle.std.proofs.Common.{List, [], ◌∷◌, ◌++◌, length, map, refl, ap, ◌∙◌, ⊎_elim, arith, eq-eqb, ltb-true}
 use Rattle.std.proofs.Common.{length-append, ne_eqb}
 use Rattle.std.specs.List.{range_with_len, AllByRecursion}
-use Rattle.std.proofs.lemmas.List.Elements.{filter-append}
-use Rattle.std.proofs.lemmas.Bool.{cases_lt, cond_both}
-use Rattle.std.proofs.lemmas.Bool.Decides.{nat_tests}
-use Rattle.std.proofs.Permutation.{every_append}
+use Rattle.std.proofs.{lemmas.List.Elements.filter-append, lemmas.Bool.cases_lt, lemmas.Bool.cond_both}
+use Rattle.std.proofs.{lemmas.Bool.Decides.nat_tests, Permutation.every_append}
 use Rattle.mfotl_model.specs.Strategies.{Strategy, workers_of}
-use Rattle.rescale_core.proofs.Fitting.{every_map}
-use Rattle.rescale_core.proofs.LogLemmas.{settled_more}
-use Rattle.rescale_core.proofs.Pieces.{none_pass}
-use Rattle.rescale_core.proofs.WorldLemmas.{if_either, behind_change}
+use Rattle.rescale_core.proofs.{Fitting.every_map, LogLemmas.settled_more, Pieces.none_pass, WorldLemmas.if_either}
+use Rattle.rescale_core.proofs.{WorldLemmas.behind_change}
 use Rattle.rescale_core.specs.Lines.{ChangeOfStrategy, Spot, Due, change_at, dues, if_below, moved, line, place}
 use Rattle.rescale_core.specs.Lines.{AreSound}
 use Rattle.rescale_core.specs.Phases.{Parts, Answers, row_for, rows_for}
-use Rattle.rescale_core.specs.Soundly.{KnownRow, last_level}
-use Rattle.rescale_core.specs.Workers.{newly, settled_in}
-use Rattle.rescale_core.specs.Worlds.{slice_at, rows_in}
+use Rattle.rescale_core.specs.{Soundly.KnownRow, Soundly.last_level, Workers.newly, Workers.settled_in, Worlds.slice_at}
+use Rattle.rescale_core.specs.{Worlds.rows_in}
 use Rattle.verdict_merge.specs.Gathers.{rows_at}
 use Rattle.monitorable.specs.CoreForms.{CoreForm}
 use Rattle.mfotl_model.specs.declared.event.TimePoint.{TimePoint}
-use Rattle.rescale_core.specs.declared.item.Entry.{Entry}
-use Rattle.rescale_core.specs.declared.item.Entry.TheVariants.{Point, Change}
-use Rattle.rescale_core.specs.declared.item.Out.{Out}
-use Rattle.rescale_core.specs.declared.item.Out.TheVariants.{Rows as OfRows, Piece as OfPiece}
+use Rattle.rescale_core.specs.declared.{item.Entry.Entry, item.Entry.TheVariants.Point, item.Entry.TheVariants.Change}
+use Rattle.rescale_core.specs.declared.{item.Out.Out, item.Out.TheVariants.Rows as OfRows}
+use Rattle.rescale_core.specs.declared.{item.Out.TheVariants.Piece as OfPiece}
 use Rattle.verdict_merge.specs.declared.rows.Rows.{Rows}
 use Rattle.rescale_core.specs.Lines.Due.{Slicing, Parting, Hole}
 
 -- what may be due by a change is what is, where the worker is below the strategies' numbers
 below_every : (P : Due → Type 0) (k n : ℕ) (ds : List Due) → (k < n → AllByRecursion P ds)
     → AllByRecursion P (if_below k n ds)
-below_every P k n ds h =
-    cond_both (nat_lt k n) ds [] (AllByRecursion P) (λ e. h (ltb-true k n e)) (λ e. tt)
+below_every P k n ds h = cond_both (nat_lt k n) ds [] (AllByRecursion P) (λ e. h (ltb-true k n e)) (λ e. tt)
 
 holes_every : (P : Due → Type 0) (t : ChangeOfStrategy) (i n : ℕ) → ((j : ℕ) → j < i + n → P (Hole t j))
     → AllByRecursion P (map (λ j. Hole t j) (range_with_len i n))

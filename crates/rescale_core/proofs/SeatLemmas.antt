@@ -1,58 +1,29 @@
 -- What holds of worlds and seats still does where an entry is read, and an item is handed over or taken.
 use Rattle.std.proofs.Common.{◌≡◌, ℕ, ◌+◌, ◌<◌, ◌≤◌, false, nat_eq, List, [], ◌∷◌, ◌++◌, length, take, drop, sym, refl}
-use Rattle.std.proofs.Common.{ap, ◌∙◌, subst, append_assoc, arith, eqb-true, length-append}
-use Rattle.std.proofs.lemmas.Bool.{cond_both}
-use Rattle.std.proofs.lemmas.Bool.Decides.{nat_tests}
-use Rattle.std.proofs.lemmas.List.{take-append-le}
+use Rattle.std.proofs.Common.{ap, ◌∙◌, subst, append_assoc, arith, length-append}
+use Rattle.std.proofs.{lemmas.Bool.Decides.nat_tests, lemmas.List.take-append-le}
 use Rattle.mfotl_model.specs.Strategies.{Strategy}
-use Rattle.rescale_core.proofs.Fitting.{every_map}
-use Rattle.rescale_core.proofs.ReadyLemmas.{first_due}
-use Rattle.rescale_core.proofs.Settling.{slice_more}
+use Rattle.rescale_core.proofs.{Fitting.every_map, ReadyLemmas.first_due, Settling.slice_more}
 use Rattle.rescale_core.proofs.WorldLemmas.{line_more, sound_more, supplies_line, supplies_length, supplies_next}
 use Rattle.rescale_core.proofs.WorldLemmas.{change_more}
 use Rattle.rescale_core.specs.Lines.{first_spot, line, MayRead}
-use Rattle.rescale_core.specs.Soundly.{Supplies, IsSeated, IsSound}
-use Rattle.rescale_core.specs.Phases.{Answers}
-use Rattle.rescale_core.specs.Workers.{IsFor}
+use Rattle.rescale_core.specs.{Soundly.IsSeated, Soundly.IsSound, Phases.Answers, Workers.IsFor, Lines.Due.Slicing}
 use Rattle.rescale_core.specs.Worlds.{first_world, World, Seat, line_in, spot_in, set_seat, fed_more, took_one}
 use Rattle.rescale_core.specs.Worlds.{world_after, ready_in}
 use Rattle.monitorable.specs.CoreForms.{CoreForm}
-use Rattle.rescale_core.specs.declared.item.Item.{Item}
-use Rattle.rescale_core.specs.declared.item.Entry.{Entry}
-use Rattle.rescale_core.specs.declared.item.Out.{Out}
+use Rattle.rescale_core.specs.declared.{item.Item.Item, item.Entry.Entry, item.Out.Out}
 use Rattle.verdict_merge.specs.declared.rows.Verdict.{Verdict}
-use Rattle.rescale_core.specs.Lines.Due.{Slicing}
 use Rattle.rescale_core.specs.Worlds.Step.{Read, Feed, Take}
 
 -- ---- worlds
 
 pub first_sound : (c : CoreForm) (s : Strategy) → IsFor c s → IsSound (first_world c s)
-first_sound c s f = record {
-  first = f;
-  read = tt;
-  seated = λ k. record {
-    supplied = tt;
-    taken = omega arith;
-    collected = omega arith;
-    answers = refl;
-    back = refl;
-    more = ([], refl);
-    rows = refl;
-    pieces = refl;
-  };
-  known = tt;
-  distinct = λ g k. tt;
-  past = tt;
-  rows_known = tt;
-  rows_apart = λ i. tt;
-  rows_past = tt;
-}
+first_sound c s f = grind arith
 
 -- what is known of a seat by its number holds behind a change of one seat
 pub at_seat : (P : ℕ → Seat → Type 0) (seats : ℕ → Seat) (k : ℕ) (s : Seat)
     → ((q : ℕ) → nat_eq q k ≡ false → P q (seats q)) → P k s → (q : ℕ) → P q (set_seat seats k s q)
-at_seat P seats k s others here q =
-    cond_both (nat_eq q k) s (seats q) (P q) (λ e. subst (λ (x : ℕ). P x s) (sym (eqb-true q k e)) here) (others q)
+at_seat P seats k s others here q = grind arith
 
 -- where seats change in what was handed over, taken and given alone, and verdicts are emitted
 pub sound_moved : (w : World) (seats : ℕ → Seat) (emitted : List Verdict) → IsSound w
@@ -94,10 +65,7 @@ module _ (w : World) (e : Entry) (r : IsSound w) (may : MayRead w.core (spot_in 
   longer k = line_more k (first_spot w.first) w.read (e ∷ [])
 
   front : (k n : ℕ) → n ≤ (w.seats k).taken → take n (line_in (world_after w (Read e)) k) ≡ take n (line_in w k)
-  front k n h =
-      let l = supplies_length w.core k w.pieces (line_in w k) (w.seats k).fed (r.seated k).supplied in
-      let t = (r.seated k).taken in
-      ap (take n) (longer k) ∙ take-append-le n (line_in w k) (line k (spot_in w) (e ∷ [])) (omega arith)
+  front k n h = grind (arith, supplies_length, longer, take-append-le)
 
   back_front : (k : ℕ) → take (w.seats k).collected (line_in (world_after w (Read e)) k)
       ≡ take (w.seats k).collected (line_in w k)
@@ -105,8 +73,7 @@ module _ (w : World) (e : Entry) (r : IsSound w) (may : MayRead w.core (spot_in 
 
   seated_read : (k : ℕ) → IsSeated (world_after w (Read e)) k (w.seats k)
   seated_read k = let s = r.seated k in record {
-    supplied = subst (λ ds. Supplies w.core k w.pieces ds (w.seats k).fed) (sym (longer k))
-        (supplies_line w.core k w.pieces (line_in w k) (line k (spot_in w) (e ∷ [])) (w.seats k).fed s.supplied);
+    supplied = search (longer, supplies_line);
     taken = s.taken;
     collected = s.collected;
     answers = subst (λ ds. Answers w.core k ds (w.seats k).outs)

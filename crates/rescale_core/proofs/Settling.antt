@@ -2,18 +2,13 @@
 use Rattle.std.proofs.Common.{◌≡◌, ◌⊎◌, ℕ, zero, suc, ◌<◌, ◌≤◌, Some, List, [], ◌∷◌, ◌++◌, length, slice_index, sym}
 use Rattle.std.proofs.Common.{refl, ◌∙◌, subst, ⊎_elim, arith, length-append}
 use Rattle.std.proofs.lemmas.Bool.Decides.{nat_tests}
-use Rattle.mfotl_model.specs.Log.{times}
-use Rattle.mfotl_model.specs.Strategies.{Strategy}
+use Rattle.mfotl_model.specs.{Log.times, Strategies.Strategy}
 use Rattle.rescale_core.proofs.LogLemmas.{settled_more, settled_within, viol_final}
 use Rattle.rescale_core.specs.Lines.{Spot, Due, moved, spot_after, AreSound}
-use Rattle.monitorable.specs.Fragment.{IsMonitorable}
-use Rattle.rescale_core.specs.Workers.{violations_at, settled_in}
-use Rattle.rescale_core.specs.Worlds.{slice_at}
-use Rattle.monitorable.specs.CoreForms.{CoreForm}
+use Rattle.monitorable.specs.{Fragment.IsMonitorable, CoreForms.CoreForm}
+use Rattle.rescale_core.specs.{Workers.violations_at, Workers.settled_in, Worlds.slice_at, Lines.Due.Slicing}
 use Rattle.mfotl_model.specs.declared.event.TimePoint.{TimePoint}
-use Rattle.rescale_core.specs.declared.item.Entry.{Entry}
-use Rattle.rescale_core.specs.declared.item.Entry.TheVariants.{Point, Change}
-use Rattle.rescale_core.specs.Lines.Due.{Slicing}
+use Rattle.rescale_core.specs.declared.{item.Entry.Entry, item.Entry.TheVariants.Point, item.Entry.TheVariants.Change}
 
 -- what is settled at a stays settled
 pub level_rises : (c : CoreForm) (es : List Entry) (a : Spot) → AreSound c a es
@@ -70,8 +65,7 @@ slice_above c (Point q ∷ es) a n g s log p sound e = ⊎_elim
 -- a position is settled with one time-point
 pub one_slice_settles : (c : CoreForm) (es : List Entry) (a : Spot) (i n m g h : ℕ) (s t : Strategy)
     (log log2 : List TimePoint) (p q : TimePoint) → AreSound c a es → IsSlice a es n g s log p
-    → IsSlice a es m h t log2 q
-    → settled_in c log ≤ i → i < settled_in c (log ++ p ∷ []) → settled_in c log2 ≤ i
+    → IsSlice a es m h t log2 q → settled_in c log ≤ i → i < settled_in c (log ++ p ∷ []) → settled_in c log2 ≤ i
     → i < settled_in c (log2 ++ q ∷ []) → Slicing g s log p ≡ Slicing h t log2 q
 one_slice_settles c [] a i n m g h s t log log2 p q sound e f x y u v = cc
 one_slice_settles c (Change z ∷ es) a i n m g h s t log log2 p q sound e f x y u v =

@@ -1,42 +1,29 @@
 -- What a queue's slots are to their queue and to worlds.
-use Rattle.std.proofs.Common.{◌≡◌, ℕ, zero, suc, ◌+◌, ◌<◌, ◌≤◌, true, false, cond, nat_eq, nat_lt, Some, None, List, []}
-use Rattle.std.proofs.Common.{◌∷◌, ◌++◌, length, map, drop, take, get_or, set, sym, refl, ap, ◌∙◌, append_assoc, arith}
+use Rattle.std.proofs.Common.{◌≡◌, ℕ, zero, suc, ◌+◌, ◌<◌, ◌≤◌, true, false, cond, nat_eq, Some, None, List, [], ◌∷◌}
+use Rattle.std.proofs.Common.{◌++◌, length, map, drop, take, get_or, set, sym, refl, ap, ◌∙◌, append_assoc, arith}
 use Rattle.std.proofs.Common.{sum_by, ⊎_elim}
-use Rattle.std.proofs.lemmas.Bool.{cases_Bool}
-use Rattle.std.proofs.lemmas.Bool.Decides.{nat_tests}
-use Rattle.std.proofs.lemmas.List.Quantifiers.{position-Some}
-use Rattle.std.proofs.Math.Seq.{take-append_seam}
-use Rattle.std.proofs.lemmas.List.{drop_more, take_all}
-use Rattle.std.proofs.lemmas.List.FromFn.{map-range_with_len_more}
-use Rattle.std.proofs.lemmas.List.Sums.{sum_by-cons}
+use Rattle.std.proofs.{lemmas.Bool.cases_Bool, lemmas.Bool.Decides.nat_tests, lemmas.List.Quantifiers.position-Some}
+use Rattle.std.proofs.{Math.Seq.take-append_seam, lemmas.List.drop_more, lemmas.List.take_all}
+use Rattle.std.proofs.{lemmas.List.FromFn.map-range_with_len_more, lemmas.List.Sums.sum_by-cons}
 use Rattle.std.specs.List.{position, position_or_len}
 use Rattle.mfotl_model.specs.Strategies.{Strategy}
-use Rattle.rescale_core.specs.Chances.{Chance}
-use Rattle.rescale_core.specs.Chances.Chance.{Sure, Open}
+use Rattle.rescale_core.specs.{Chances.Chance, Chances.Chance.Sure, Chances.Chance.Open}
 use Rattle.rescale_core.specs.Chances.Standing.{Last, Outside, Within}
 use Rattle.rescale_core.specs.Queues.{all_put, chances, queue_filled}
 use Rattle.rescale_core.specs.Slots.{chance_of, ends_place, first_ends, first_awaited, is_there, lacks, slot_filled}
 use Rattle.rescale_core.specs.Slots.{ready_of, standing_of, weight_of}
-use Rattle.rescale_core.specs.declared.item.Item.{Item}
-use Rattle.rescale_core.specs.declared.item.Item.TheVariants.{Adopt}
+use Rattle.rescale_core.specs.declared.{item.Item.Item, item.Item.TheVariants.Adopt, slot.Slot.Slot}
+use Rattle.rescale_core.specs.declared.{slot.Slot.TheVariants.Ready, slot.Slot.TheVariants.Awaited}
 use Rattle.monitor_state.specs.declared.state.Piece.{Piece}
-use Rattle.rescale_core.specs.declared.slot.Slot.{Slot}
-use Rattle.rescale_core.specs.declared.slot.Slot.TheVariants.{Ready, Awaited}
 
 -- ---- what counts
 
 pub one_weight : (x : Slot) → weight_of x ≤ 1
-one_weight (Ready i) = omega arith
-one_weight (Awaited g now true piece) = omega arith
-one_weight (Awaited g now false piece) = omega arith
+one_weight x = grind arith
 
 pub few_weigh : (xs : List Slot) → sum_by weight_of xs ≤ length xs
 few_weigh [] = omega arith
-few_weigh (x ∷ xs) =
-    let a = one_weight x in
-    let b = few_weigh xs in
-    let c = sum_by-cons weight_of x xs in
-    omega arith
+few_weigh (x ∷ xs) = omega (arith, one_weight x, few_weigh xs, sum_by-cons weight_of x xs)
 
 -- ---- what is ready
 
@@ -44,19 +31,13 @@ few_weigh (x ∷ xs) =
 -- goes on
 first_ready : (x : Slot) (xs : List Slot)
     → length (ready_of (x ∷ xs)) ≡ cond (is_there x) (1 + cond (ends_place x) 0 (length (ready_of xs))) 0
-first_ready (Ready i) xs = omega arith
-first_ready (Awaited g now last None) xs = refl
-first_ready (Awaited g now true (Some p)) xs = omega arith
-first_ready (Awaited g now false (Some p)) xs = omega arith
+first_ready x xs = grind arith
 
 -- what is ready where so many are ready and x stands behind them
 ready_step : (xs : List Slot) (i : ℕ) (x : Slot) → i < length xs → x ≡ get_or xs i x
     → length (ready_of xs) ≡ i + length (ready_of (drop i xs)) → length (ready_of xs)
     ≡ i + cond (is_there x) (1 + cond (ends_place x) 0 (length (ready_of (drop (i + 1) xs)))) 0
-ready_step xs i x low here h =
-    let behind : drop i xs ≡ x ∷ drop (i + 1) xs =
-    drop_more xs i x low ∙ ap (λ y. y ∷ drop (i + 1) xs) (sym here) in
-    h ∙ ap (λ ys. i + length (ready_of ys)) behind ∙ ap (λ n. i + n) (first_ready x (drop (i + 1) xs))
+ready_step xs i x low here h = cc (drop_more xs i x low, first_ready x (drop (i + 1) xs))
 
 -- where more may be the count goes on behind it
 pub ready_more : (xs : List Slot) (i : ℕ) (x : Slot) → i < length xs → x ≡ get_or xs i x
@@ -85,24 +66,18 @@ ready_most (Awaited g now false (Some p) ∷ xs) = let h = ready_most xs in omeg
 -- the item of a first slot is ready first, and alone where it ends a place
 first_taken : (x : Slot) (xs : List Slot) (i : Item) → chance_of x ≡ Sure i
     → ready_of (x ∷ xs) ≡ i ∷ cond (ends_place x) [] (ready_of xs)
-first_taken (Ready j) xs i h = cc
-first_taken (Awaited g now last None) xs i h = cc
-first_taken (Awaited g now last (Some p)) xs i h = cc
+first_taken x xs i h = grind arith
 
 -- one item more was taken out of what is ready
 pub taken_on : (old new : List Slot) (x : Slot) (i : Item) (items all : List Item) → old ≡ x ∷ new
     → chance_of x ≡ Sure i → first_ends old ≡ false → all ≡ items ++ ready_of old
     → all ≡ (items ++ i ∷ []) ++ ready_of new
-taken_on old new x i items all e h ends ready =
-    let goes_on : ends_place x ≡ false = ap first_ends (sym e) ∙ ends in
-    rw (append_assoc items (i ∷ []) (ready_of new)) (rw (e, first_taken x new i h, goes_on) at ready)
+taken_on old new x i items all e h ends ready = cc (append_assoc items (i ∷ []) (ready_of new), first_taken x new i h)
 
 -- and was the last of it
 pub taken_last : (old new : List Slot) (x : Slot) (i : Item) (items all : List Item) → old ≡ x ∷ new
     → chance_of x ≡ Sure i → first_ends old ≡ true → all ≡ items ++ ready_of old → all ≡ items ++ i ∷ []
-taken_last old new x i items all e h ends ready =
-    let last : ends_place x ≡ true = ap first_ends (sym e) ∙ ends in
-    rw (e, first_taken x new i h, last) at ready
+taken_last old new x i items all e h ends ready = cc (first_taken x new i h)
 
 -- all items are the first of them, where they are no more than were wanted
 pub all_first : (most : ℕ) (items all : List Item) → all ≡ items → length items ≤ most → items ≡ take most all
@@ -111,8 +86,7 @@ all_first most items all e few = sym (take_all most items few) ∙ ap (take most
 -- and so are as many as were wanted
 pub most_first : (most : ℕ) (items rest all : List Item) → all ≡ items ++ rest → length items ≡ most
     → items ≡ take most all
-most_first most items rest all e same =
-    sym (take-append_seam items rest) ∙ ap (λ n. take n (items ++ rest)) same ∙ ap (take most) (sym e)
+most_first most items rest all e same = cc (take-append_seam items rest)
 
 -- ---- where a piece goes
 
@@ -126,8 +100,7 @@ fills_at p (x ∷ xs) (suc i) d h t none =
     let other : lacks p.generation x ≡ false = none 0 (omega arith) in
     rw other (ap (λ y. x ∷ y) (fills_at p xs i d (omega arith) t (λ k l. none (suc k) (omega arith))))
 
-fills_none : (p : Piece) (xs : List Slot) → length xs ≤ position_or_len (lacks p.generation) xs
-    → xs ≡ queue_filled p xs
+fills_none : (p : Piece) (xs : List Slot) → length xs ≤ position_or_len (lacks p.generation) xs → xs ≡ queue_filled p xs
 fills_none p [] h = refl
 fills_none p (x ∷ xs) h = ⊎_elim
     (λ t. absurd (let l = rw t at h in omega arith))
@@ -136,15 +109,10 @@ fills_none p (x ∷ xs) h = ⊎_elim
 
 pub filled_at : (p : Piece) (xs : List Slot) (i : ℕ) (x : Slot) → position (lacks p.generation) xs ≡ Some i
     → x ≡ get_or xs i x → set xs i (slot_filled p x) ≡ queue_filled p xs
-filled_at p xs i x e here =
-    let f = position-Some (lacks p.generation) xs i x e in
-    ap (λ y. set xs i (slot_filled p y)) here ∙ fills_at p xs i x f.0 f.1 f.2
+filled_at p xs i x e here = grind (arith, position-Some, fills_at)
 
 pub unfilled : (p : Piece) (xs : List Slot) → position (lacks p.generation) xs ≡ None → xs ≡ queue_filled p xs
-unfilled p xs e =
-    let first : ℕ = position_or_len (lacks p.generation) xs in
-    let none : cond (nat_lt first (length xs)) (Some first) None ≡ None = e in
-    fills_none p xs (grind (arith, nat_tests))
+unfilled p xs e = grind (arith, fills_none)
 
 -- one piece more
 pub awaited_more : (g : ℕ) (now : Strategy) (count n : ℕ)
@@ -155,9 +123,7 @@ awaited_more g now count n =
 pub awaited_pushed : (old new : List Slot) (start : List Slot) (g : ℕ) (now copy : Strategy) (count n : ℕ)
     → old ≡ start ++ first_awaited g now count n → copy ≡ now
     → new ≡ old ++ Awaited g copy (nat_eq (n + 1) count) None ∷ [] → new ≡ start ++ first_awaited g now count (n + 1)
-awaited_pushed old new start g now copy count n e same pushed =
-    let all = append_assoc start (first_awaited g now count n) (Awaited g now (nat_eq (n + 1) count) None ∷ []) in
-    rw (awaited_more g now count n, ← all) (rw (e, same) at pushed)
+awaited_pushed old new start g now copy count n e same pushed = grind (arith, append_assoc, awaited_more)
 
 -- ---- pieces, in what may be handed over
 
@@ -187,14 +153,9 @@ filled_standings p (Awaited g now last None ∷ xs) = let rest = filled_standing
 pub put_chances : (q : ℕ) (ps : List Piece) (xs : List Slot) → chances (all_put q ps xs) ≡ fillings q ps (chances xs)
 put_chances q [] xs = refl
 put_chances q (p ∷ ps) xs =
-    let here = filled_chances p xs in
-    let rest = put_chances q ps (cond (nat_eq p.to q) (queue_filled p xs) xs) in
-    grind (arith, nat_tests)
+    grind (arith, filled_chances, put_chances q ps (cond (nat_eq p.to q) (queue_filled p xs) xs))
 
-pub put_standings : (q : ℕ) (ps : List Piece) (xs : List Slot)
-    → map standing_of (all_put q ps xs) ≡ map standing_of xs
+pub put_standings : (q : ℕ) (ps : List Piece) (xs : List Slot) → map standing_of (all_put q ps xs) ≡ map standing_of xs
 put_standings q [] xs = refl
 put_standings q (p ∷ ps) xs =
-    let here = filled_standings p xs in
-    let rest = put_standings q ps (cond (nat_eq p.to q) (queue_filled p xs) xs) in
-    grind (arith, nat_tests)
+    grind (arith, filled_standings, put_standings q ps (cond (nat_eq p.to q) (queue_filled p xs) xs))

@@ -1,20 +1,11 @@
 -- What holds in each world that steps reach.
-use Rattle.std.proofs.Common.{◌≡◌, ℕ, Bool, true, false, cond, nat_lt, List, [], ◌∷◌, ◌++◌, length, refl}
-use Rattle.mfotl_model.specs.Strategies.{workers_of}
-use Rattle.rescale_core.proofs.Chains.{chained}
-use Rattle.rescale_core.proofs.Fitting.{froms_before, fits_of}
-use Rattle.rescale_core.proofs.Leading.{first_agrees}
-use Rattle.rescale_core.proofs.WorldLemmas.{line_changes}
-use Rattle.rescale_core.specs.Lines.{ChangeOfStrategy, first_spot}
-use Rattle.rescale_core.specs.Seeds.{SeedOf}
-use Rattle.rescale_core.specs.Soundly.{change_of, IsSound}
-use Rattle.rescale_core.specs.Working.{Has, first_phase}
-use Rattle.rescale_core.specs.Handing.{for_place}
-use Rattle.rescale_core.specs.Worlds.{World, Step, line_in, world_after, Allowed, run_steps, AreAllowed}
+use Rattle.std.proofs.Common.{ℕ, List, [], ◌∷◌, ◌++◌, refl, arith}
+use Rattle.rescale_core.proofs.{Chains.chained, Fitting.fits_of, Leading.first_agrees, WorldLemmas.line_changes}
+use Rattle.rescale_core.proofs.{Collecting.collect_sound}
+use Rattle.rescale_core.specs.{Soundly.IsSound, Working.Has}
+use Rattle.rescale_core.specs.Worlds.{World, Step, world_after, Allowed, run_steps, AreAllowed}
 use Rattle.rescale_core.specs.Worlds.Step.{Read, Feed, Take, Collect, Emit}
-use Rattle.rescale_core.specs.Phases.PhaseOf.{Active, Vacant, Waiting}
 use Rattle.rescale_core.proofs.SeatLemmas.{read_sound, feed_sound, sound_moved, take_sound}
-use Rattle.rescale_core.proofs.Collecting.{collect_sound}
 
 -- ---- all steps
 
@@ -31,20 +22,7 @@ run_sound w (s ∷ ss) r a = run_sound (world_after w s) ss (step_sound w s r a.
 
 -- ---- what workers are told
 
-tied_first : (w : World) (k : ℕ) (b : Bool) (t : ChangeOfStrategy) (froms : List ℕ)
-    → cond b (Active w.first []) Vacant ≡ Waiting t froms
-    → froms ≡ froms_before (length froms) (for_place t.generation k w.pieces) []
-tied_first w k true t froms e = cc
-tied_first w k false t froms e = cc
-
 -- all that was handed over fits
 pub has_of : (w : World) (k : ℕ) → IsSound w
     → Has record { core = w.core; first = w.first; number = k } w.read (w.seats k).fed
-has_of w k r = let s : SeedOf = record { core = w.core; first = w.first; number = k } in (
-  r.read,
-  fits_of w.core k w.pieces (change_of (first_spot w.first) w.read) r.known (λ g. r.distinct g k) (line_in w k)
-      (w.seats k).fed (first_phase s)
-      (chained w.core k w.read (first_spot w.first) (first_phase s) r.first r.read (first_agrees s))
-      (tied_first w k (nat_lt k (workers_of w.first))) (line_changes k w.read (first_spot w.first))
-      (r.seated k).supplied,
-)
+has_of w k r = grind (arith, fits_of, chained, first_agrees, line_changes)

@@ -3,16 +3,12 @@ use Rattle.std.proofs.Common.{◌≡◌, ℕ, zero, suc, ◌+◌, ◌<◌, ◌�
 use Rattle.std.proofs.Common.{arith, length-append}
 use Rattle.std.specs.List.{range_with_len}
 use Rattle.std.proofs.lemmas.List.FromFn.{map-range_with_len_more}
-use Rattle.rescale_core.proofs.LogLemmas.{settled_within}
+use Rattle.rescale_core.proofs.{LogLemmas.settled_within, Soundness.step_sound, WorldLemmas.spot_more}
 use Rattle.rescale_core.proofs.Settling.{level_rises, viol_stays, time_stays, slice_below}
-use Rattle.rescale_core.proofs.Soundness.{step_sound}
-use Rattle.rescale_core.proofs.WorldLemmas.{spot_more}
-use Rattle.rescale_core.specs.Lines.{first_spot, moved}
-use Rattle.rescale_core.specs.Soundly.{IsSound}
+use Rattle.rescale_core.specs.{Lines.first_spot, Lines.moved, Soundly.IsSound, Laws.EmitsVerdicts}
+use Rattle.rescale_core.specs.{Workers.violations_at, Workers.settled_in}
 use Rattle.mfotl_model.specs.Strategies.{Strategy}
 use Rattle.monitorable.specs.CoreForms.{CoreForm}
-use Rattle.rescale_core.specs.Laws.{EmitsVerdicts}
-use Rattle.rescale_core.specs.Workers.{violations_at, settled_in}
 use Rattle.rescale_core.specs.Worlds.{World, first_world, Step, spot_in, verdict_on, Allowed, AreAllowed, world_after}
 use Rattle.rescale_core.specs.Worlds.{run_steps}
 use Rattle.rescale_core.specs.declared.item.Entry.{Entry}
@@ -29,8 +25,7 @@ verdict_stays : (w : World) (e : Entry) (i : ℕ) → IsSound w → Allowed w (R
     → i < settled_in w.core (spot_in w).points
     → verdict_on w.core (spot_in w).points i ≡ verdict_on w.core (spot_in (world_after w (Read e))).points i
 verdict_stays w e i r may h =
-    let more : spot_in (world_after w (Read e)) ≡ moved (spot_in w) e =
-    spot_more (first_spot w.first) w.read (e ∷ []) in
+    let more : spot_in (world_after w (Read e)) ≡ moved (spot_in w) e = search (spot_more) in
     let v : violations_at w.core (spot_in w).points i ≡ violations_at w.core (moved (spot_in w) e).points i =
     viol_stays w.core r.first.evaluable.fits (e ∷ []) (spot_in w) i (may, tt) h in
     let n = settled_within w.core (spot_in w).points in

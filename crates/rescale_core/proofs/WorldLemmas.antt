@@ -1,28 +1,23 @@
 -- Lines that grow, and pieces that come.
-use Rattle.std.proofs.Common.{◌≡◌, ℕ, zero, suc, ◌+◌, ◌<◌, ◌≤◌, Bool, true, false, cond, ◌&&◌, nat_eq, nat_lt, Option}
-use Rattle.std.proofs.Common.{Some, None, option_map, List, [], ◌∷◌, ◌++◌, length, map, drop, sym, refl, ap, ◌∙◌}
-use Rattle.std.proofs.Common.{subst, append_assoc, arith, eq-eqb, ne_eqb}
+use Rattle.std.proofs.Common.{◌≡◌, ℕ, zero, suc, ◌+◌, ◌<◌, ◌≤◌, Bool, cond, Option, Some, option_map, List, [], ◌∷◌}
+use Rattle.std.proofs.Common.{◌++◌, length, map, drop, refl, ap, ◌∙◌, append_assoc, arith, eq-eqb, ne_eqb}
+use Rattle.std.proofs.{lemmas.Bool.cond_both, lemmas.List.Elements.filter-append}
 use Rattle.std.specs.List.{range_with_len}
-use Rattle.std.proofs.lemmas.List.Elements.{filter-append}
+use Rattle.mfotl_model.specs.declared.event.TimePoint.{TimePoint}
 use Rattle.mfotl_model.specs.Strategies.{Strategy, workers_of}
 use Rattle.rescale_core.specs.Lines.{ChangeOfStrategy, Spot, Due, change_at, moved, spot_after, line, dues, place}
-use Rattle.rescale_core.specs.Lines.{if_below}
 use Rattle.rescale_core.specs.Lines.{MayRead, AreSound}
-use Rattle.rescale_core.specs.Soundly.{Supplies, change_of}
-use Rattle.rescale_core.specs.Handing.{nth, for_place, item_of}
+use Rattle.rescale_core.specs.{Soundly.Supplies, Soundly.change_of, Handing.nth, Handing.item_of}
 use Rattle.monitorable.specs.CoreForms.{CoreForm}
 use Rattle.monitor_state.specs.declared.state.Piece.{Piece}
-use Rattle.rescale_core.specs.declared.item.Entry.{Entry}
-use Rattle.rescale_core.specs.declared.item.Entry.TheVariants.{Point, Change}
-use Rattle.rescale_core.specs.declared.item.Item.{Item}
-use Rattle.rescale_core.specs.declared.item.Item.TheVariants.{Adopt}
+use Rattle.rescale_core.specs.declared.{item.Entry.Entry, item.Entry.TheVariants.Point, item.Entry.TheVariants.Change}
+use Rattle.rescale_core.specs.declared.{item.Item.Item}
 use Rattle.rescale_core.specs.Lines.Due.{Slicing, Parting, Hole}
 
 pub line_more : (k : ℕ) (a : Spot) (es more : List Entry)
     → line k a (es ++ more) ≡ line k a es ++ line k (spot_after a es) more
 line_more k a [] more = refl
-line_more k a (e ∷ es) more = ap (λ x. dues k a e ++ x) (line_more k (moved a e) es more)
-    ∙ sym (append_assoc (dues k a e) (line k (moved a e) es) (line k (spot_after (moved a e) es) more))
+line_more k a (e ∷ es) more = simp (append_assoc, line_more k (moved a e) es more)
 
 pub spot_more : (a : Spot) (es more : List Entry) → spot_after a (es ++ more) ≡ spot_after (spot_after a es) more
 spot_more a [] more = refl
@@ -50,36 +45,23 @@ supplies_length c k pieces ds [] s = omega arith
 supplies_length c k pieces [] (i ∷ is) s = absurd s
 supplies_length c k pieces (d ∷ ds) (i ∷ is) s = let h = supplies_length c k pieces ds is s.1 in omega arith
 
-for_place_more : (g k : ℕ) (pieces ps : List Piece)
-    → for_place g k (pieces ++ ps) ≡ for_place g k pieces ++ for_place g k ps
-for_place_more g k pieces ps = filter-append (λ p. nat_eq p.generation g && nat_eq p.to k) pieces ps
-
 pub mapped : {A B : Type 0} (f : A → B) (o : Option A) (y : B) → option_map f o ≡ Some y → (x : A) × (o ≡ Some x)
     × (f x ≡ y)
-mapped f None y e = cc
-mapped f (Some x) y e = (x, refl, cc)
+mapped f o y e = grind arith
 
 pub item_stays : (c : CoreForm) (k : ℕ) (pieces ps : List Piece) (d : Due) (i : Item)
     → item_of c k pieces d ≡ Some i → item_of c k (pieces ++ ps) d ≡ Some i
-item_stays c k pieces ps (Slicing g s log p) i e = e
-item_stays c k pieces ps (Parting t) i e = e
-item_stays c k pieces ps (Hole t j) i e = let m =
-    mapped (λ p. Adopt p t.new) (nth (for_place t.generation k pieces) j) i e in
-    ap (λ xs. option_map (λ p. Adopt p t.new) (nth xs j)) (for_place_more t.generation k pieces ps)
-    ∙ ap (option_map (λ p. Adopt p t.new))
-    (nth_append (for_place t.generation k pieces) (for_place t.generation k ps) j m.0 m.1) ∙ ap Some m.2
+item_stays c k pieces ps d i e = grind (arith, mapped, nth_append, filter-append)
 
 pub supplies_pieces : (c : CoreForm) (k : ℕ) (pieces ps : List Piece) (ds : List Due) (is : List Item)
     → Supplies c k pieces ds is → Supplies c k (pieces ++ ps) ds is
 supplies_pieces c k pieces ps ds [] s = tt
 supplies_pieces c k pieces ps [] (i ∷ is) s = absurd s
-supplies_pieces c k pieces ps (d ∷ ds) (i ∷ is) s =
-    (item_stays c k pieces ps d i s.0, supplies_pieces c k pieces ps ds is s.1)
+supplies_pieces c k pieces ps (d ∷ ds) (i ∷ is) s = search (item_stays, supplies_pieces c k pieces ps ds is s.1)
 
 pub supplies_next : (c : CoreForm) (k : ℕ) (pieces : List Piece) (ds : List Due) (is : List Item) (d : Due)
     (rest : List Due) (i : Item) → Supplies c k pieces ds is → drop (length is) ds ≡ d ∷ rest
-    → item_of c k pieces d ≡ Some i
-    → Supplies c k pieces ds (is ++ i ∷ [])
+    → item_of c k pieces d ≡ Some i → Supplies c k pieces ds (is ++ i ∷ [])
 supplies_next c k pieces [] [] d rest i s e f = cc
 supplies_next c k pieces (x ∷ ds) [] d rest i s e f = let h : x ≡ d = cc in (ap (item_of c k pieces) h ∙ f, tt)
 supplies_next c k pieces [] (j ∷ is) d rest i s e f = absurd s
@@ -91,14 +73,7 @@ pub change_more : (a : Spot) (es more : List Entry) (g : ℕ) (t : ChangeOfStrat
     → change_of a (es ++ more) g ≡ Some t
 change_more a [] more g t e = cc
 change_more a (Point p ∷ es) more g t e = change_more (moved a (Point p)) es more g t e
-change_more a (Change s ∷ es) more g t e =
-    by_test (nat_eq g (a.generation + 1)) e (change_more (moved a (Change s)) es more g t)
-  where
-    by_test : (b : Bool) → cond b (Some (change_at a s)) (change_of (moved a (Change s)) es g) ≡ Some t
-        → (change_of (moved a (Change s)) es g ≡ Some t → change_of (moved a (Change s)) (es ++ more) g ≡ Some t)
-        → cond b (Some (change_at a s)) (change_of (moved a (Change s)) (es ++ more) g) ≡ Some t
-    by_test true e next = e
-    by_test false e next = next e
+change_more a (Change s ∷ es) more g t e = grind (arith, change_more (moved a (Change s)) es more g t)
 
 -- each change on the line is the one of its generation, and generations rise from part to part
 abbrev pub AreChanges : (ℕ → Option ChangeOfStrategy) → List Due → Type 0
@@ -119,20 +94,14 @@ rises_weak g h (Slicing x s log p ∷ ds) e r = rises_weak g h ds e r
 rises_weak g h (Parting t ∷ ds) e r = (omega arith, r.1)
 rises_weak g h (Hole t j ∷ ds) e r = rises_weak g h ds e r
 
-rises_holes : (g : ℕ) (t : ChangeOfStrategy) (is : List ℕ) (ds : List Due) → Rises g ds
-    → Rises g (map (λ i. Hole t i) is ++ ds)
-rises_holes g t [] ds r = r
-rises_holes g t (i ∷ is) ds r = rises_holes g t is ds r
-
-changes_holes : (f : ℕ → Option ChangeOfStrategy) (t : ChangeOfStrategy) (is : List ℕ) (ds : List Due)
-    → f t.generation ≡ Some t
-    → AreChanges f ds → AreChanges f (map (λ i. Hole t i) is ++ ds)
-changes_holes f t [] ds e r = r
-changes_holes f t (i ∷ is) ds e r = (e, changes_holes f t is ds e r)
+-- where a place's holes are before what holds
+pub holes_before : (P : List Due → Type 0) (t : ChangeOfStrategy) (is : List ℕ) (ds : List Due)
+    → ((i : ℕ) (ds : List Due) → P ds → P (Hole t i ∷ ds)) → P ds → P (map (λ i. Hole t i) is ++ ds)
+holes_before P t [] ds hole r = r
+holes_before P t (i ∷ is) ds hole r = hole i _ (holes_before P t is ds hole r)
 
 pub if_either : (P : List Due → Type 0) (b : Bool) (ds : List Due) → P ds → P [] → P (cond b ds [])
-if_either P true ds x y = x
-if_either P false ds x y = y
+if_either P b ds x y = cond_both b ds [] P (λ _. x) (λ _. y)
 
 -- each generation on the line is above g
 abbrev pub Above : ℕ → List Due → Type 0
@@ -147,82 +116,60 @@ above_weak g h (Slicing x s log p ∷ ds) e r = above_weak g h ds e r
 above_weak g h (Parting t ∷ ds) e r = (omega arith, above_weak g h ds e r.1)
 above_weak g h (Hole t j ∷ ds) e r = (omega arith, above_weak g h ds e r.1)
 
-above_holes : (g : ℕ) (t : ChangeOfStrategy) (is : List ℕ) (ds : List Due) → g < t.generation → Above g ds
-    → Above g (map (λ i. Hole t i) is ++ ds)
-above_holes g t [] ds e r = r
-above_holes g t (i ∷ is) ds e r = (e, above_holes g t is ds e r)
-
 -- the line behind a change
-pub behind_change : (P : List Due → Type 0) (k : ℕ) (a : Spot) (s : Strategy) (more : List Due)
-    → ((parts places : Bool)
+pub behind_change : (P : List Due → Type 0) (k : ℕ) (a : Spot) (s : Strategy) (more : List Due) → ((parts places : Bool)
     → P (cond parts (Parting (change_at a s) ∷ []) [] ++ (cond places (place (change_at a s)) [] ++ more)))
     → P (dues k a (Change s) ++ more)
-behind_change P k a s more h =
-    subst P (sym (append_assoc (if_below k (workers_of a.strategy) (Parting (change_at a s) ∷ []))
-    (if_below k (workers_of s) (place (change_at a s))) more))
-    (h (nat_lt k (workers_of a.strategy)) (nat_lt k (workers_of s)))
+behind_change P k a s more h = search (append_assoc)
+
+-- the same, with what holds behind the part
+pub before_change : (P Q : List Due → Type 0) (k : ℕ) (a : Spot) (s : Strategy) (more : List Due)
+    → ((ds : List Due) → Q ds → P ds × P (Parting (change_at a s) ∷ ds)) → Q more → Q (place (change_at a s) ++ more)
+    → P (dues k a (Change s) ++ more)
+before_change P Q k a s more part none all = grind arith
+
+-- and what a time-point makes due is before what holds
+pub before_point : (P : List Due → Type 0) (k : ℕ) (a : Spot) (p : TimePoint) (more : List Due) → P more
+    → P (Slicing a.generation a.strategy a.points p ∷ more) → P (dues k a (Point p) ++ more)
+before_point P k a p more none all = grind arith
 
 pub line_above : (k : ℕ) (es : List Entry) (a : Spot) → Above a.generation (line k a es)
 line_above k [] a = tt
-line_above k (Point p ∷ es) a = let rest = line_above k es (moved a (Point p)) in
-    if_either (λ x. Above a.generation (x ++ line k (moved a (Point p)) es)) (nat_lt k (workers_of a.strategy))
-    (Slicing a.generation a.strategy a.points p ∷ []) rest rest
-line_above k (Change s ∷ es) a = let more : List Due = line k (moved a (Change s)) es in
-    let rest : Above a.generation more =
-    above_weak a.generation (a.generation + 1) more (omega arith) (line_above k es (moved a (Change s))) in
-    let t : ChangeOfStrategy = change_at a s in
-    behind_change (Above a.generation) k a s more (λ parts places.
-    let r : Above a.generation (cond places (place t) [] ++ more) =
-    if_either (λ x. Above a.generation (x ++ more)) places (place t)
-    (above_holes a.generation t (range_with_len 0 (workers_of t.old)) more (omega arith) rest) rest in
-    if_either (λ x. Above a.generation (x ++ (cond places (place t) [] ++ more))) parts (Parting t ∷ [])
-    (omega arith, r) r)
+line_above k (Point p ∷ es) a = grind (arith, before_point, line_above k es (moved a (Point p)))
+line_above k (Change s ∷ es) a =
+    let more : List Due = line k (moved a (Change s)) es in
+    let rest = above_weak a.generation (a.generation + 1) more (omega arith) (line_above k es (moved a (Change s))) in
+    before_change (Above a.generation) (Above a.generation) k a s more (λ ds r. (r, (omega arith, r))) rest
+    (holes_before (Above a.generation) (change_at a s) (range_with_len 0 (workers_of a.strategy)) more
+    (λ i ds r. (omega arith, r)) rest)
 
 pub line_rises : (k : ℕ) (es : List Entry) (a : Spot) → Rises a.generation (line k a es)
 line_rises k [] a = tt
-line_rises k (Point p ∷ es) a = let rest = line_rises k es (moved a (Point p)) in
-    if_either (λ x. Rises a.generation (x ++ line k (moved a (Point p)) es)) (nat_lt k (workers_of a.strategy))
-    (Slicing a.generation a.strategy a.points p ∷ []) rest rest
-line_rises k (Change s ∷ es) a = let more : List Due = line k (moved a (Change s)) es in
-    let t : ChangeOfStrategy = change_at a s in
-    let rest : Rises t.generation more = line_rises k es (moved a (Change s)) in
-    behind_change (Rises a.generation) k a s more (λ parts places.
-    let r : Rises t.generation (cond places (place t) [] ++ more) =
-    if_either (λ x. Rises t.generation (x ++ more)) places (place t)
-    (rises_holes t.generation t (range_with_len 0 (workers_of t.old)) more rest) rest in
-    if_either (λ x. Rises a.generation (x ++ (cond places (place t) [] ++ more))) parts (Parting t ∷ [])
-    (omega arith, r) (rises_weak a.generation t.generation (cond places (place t) [] ++ more) (omega arith) r))
+line_rises k (Point p ∷ es) a = grind (arith, before_point, line_rises k es (moved a (Point p)))
+line_rises k (Change s ∷ es) a =
+    let more : List Due = line k (moved a (Change s)) es in
+    let rest = line_rises k es (moved a (Change s)) in
+    before_change (Rises a.generation) (Rises (a.generation + 1)) k a s more
+    (λ ds r. (rises_weak a.generation (a.generation + 1) ds (omega arith) r, (omega arith, r))) rest
+    (holes_before (Rises (a.generation + 1)) (change_at a s) (range_with_len 0 (workers_of a.strategy)) more
+    (λ i ds r. r) rest)
 
 changes_lift : (a : Spot) (s : Strategy) (es : List Entry) (ds : List Due) → Above (a.generation + 1) ds
     → AreChanges (change_of (moved a (Change s)) es) ds → AreChanges (change_of a (Change s ∷ es)) ds
 changes_lift a s es [] b r = tt
 changes_lift a s es (Slicing g h log p ∷ ds) b r = changes_lift a s es ds b r
-changes_lift a s es (Parting t ∷ ds) b r = (
-  ap (λ x. cond x (Some (change_at a s)) (change_of (moved a (Change s)) es t.generation))
-      (ne_eqb t.generation (a.generation + 1) (λ e. (let h = b.0 in omega arith))) ∙ r.0,
-  changes_lift a s es ds b.1 r.1,
-)
-changes_lift a s es (Hole t j ∷ ds) b r = (
-  ap (λ x. cond x (Some (change_at a s)) (change_of (moved a (Change s)) es t.generation))
-      (ne_eqb t.generation (a.generation + 1) (λ e. (let h = b.0 in omega arith))) ∙ r.0,
-  changes_lift a s es ds b.1 r.1,
-)
+changes_lift a s es (Parting t ∷ ds) b r = grind (arith, ne_eqb, changes_lift a s es ds b.1 r.1)
+changes_lift a s es (Hole t j ∷ ds) b r = grind (arith, ne_eqb, changes_lift a s es ds b.1 r.1)
 
 pub line_changes : (k : ℕ) (es : List Entry) (a : Spot) → AreChanges (change_of a es) (line k a es)
 line_changes k [] a = tt
-line_changes k (Point p ∷ es) a = let rest = line_changes k es (moved a (Point p)) in
-    if_either (λ x. AreChanges (change_of a (Point p ∷ es)) (x ++ line k (moved a (Point p)) es))
-    (nat_lt k (workers_of a.strategy)) (Slicing a.generation a.strategy a.points p ∷ []) rest rest
-line_changes k (Change s ∷ es) a = let more : List Due = line k (moved a (Change s)) es in
-    let t : ChangeOfStrategy = change_at a s in
+line_changes k (Point p ∷ es) a = grind (arith, before_point, line_changes k es (moved a (Point p)))
+line_changes k (Change s ∷ es) a =
+    let more : List Due = line k (moved a (Change s)) es in
     let f : (ℕ → Option ChangeOfStrategy) = change_of a (Change s ∷ es) in
-    let here : f t.generation ≡ Some t =
-    ap (λ x. cond x (Some t) (change_of (moved a (Change s)) es t.generation))
-    (eq-eqb t.generation (a.generation + 1) refl) in
-    let rest : AreChanges f more =
-    changes_lift a s es more (line_above k es (moved a (Change s))) (line_changes k es (moved a (Change s))) in
-    behind_change (AreChanges f) k a s more (λ parts places.
-    let r : AreChanges f (cond places (place t) [] ++ more) =
-    if_either (λ x. AreChanges f (x ++ more)) places (place t)
-    (changes_holes f t (range_with_len 0 (workers_of t.old)) more here rest) rest in
-    if_either (λ x. AreChanges f (x ++ (cond places (place t) [] ++ more))) parts (Parting t ∷ []) (here, r) r)
+    let here : f (a.generation + 1) ≡ Some (change_at a s) = cc (eq-eqb (a.generation + 1) (a.generation + 1) refl) in
+    let rest = changes_lift a s es more (line_above k es (moved a (Change s)))
+    (line_changes k es (moved a (Change s))) in
+    before_change (AreChanges f) (AreChanges f) k a s more (λ ds r. (r, (here, r))) rest
+    (holes_before (AreChanges f) (change_at a s) (range_with_len 0 (workers_of a.strategy)) more
+    (λ i ds r. (here, r)) rest)

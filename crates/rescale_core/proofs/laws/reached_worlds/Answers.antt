@@ -1,7 +1,6 @@
 use Rattle.rescale_core.specs.Worlds.{first_world, run_steps}
-use Rattle.rescale_core.proofs.SeatLemmas.{first_sound}
-use Rattle.rescale_core.proofs.Soundness.{run_sound, has_of}
-use Rattle.rescale_core.proofs.Verdicts.{run_verdicts, first_verdicts}
+use Rattle.rescale_core.proofs.{SeatLemmas.first_sound, Soundness.run_sound, Soundness.has_of, Verdicts.run_verdicts}
+use Rattle.rescale_core.proofs.{Verdicts.first_verdicts}
 use Rattle.rescale_core.proofs.laws.reached_worlds.Goals as goal
 
 pub returns : goal.returns

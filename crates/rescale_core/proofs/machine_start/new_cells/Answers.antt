@@ -1,9 +1,6 @@
-use Rattle.std.proofs.Common.{◌≡◌, ◌+◌, ◌∷◌, ◌++◌, [], ap, ◌∙◌, sym, subst, length, length-append, ℕ, List}
-use Rattle.std.proofs.Common.{⊎_elim}
+use Rattle.std.proofs.Common.{◌≡◌, ◌+◌, ◌∷◌, ◌++◌, [], ap, ◌∙◌, sym, subst, length, length-append, ℕ, List, ⊎_elim}
 use Rattle.monitorable.specs.Cores.{core_form}
-use Rattle.rescale_core.specs.Cells.{IsCellOf}
-use Rattle.rescale_core.specs.Handing.{nth}
-use Rattle.rescale_core.specs.Worlds.{World, first_world}
+use Rattle.rescale_core.specs.{Cells.IsCellOf, Handing.nth, Worlds.World, Worlds.first_world}
 use Rattle.rescale_core.specs.declared.cell.Cell.{Cell}
 use Rattle.rescale_core.proofs.CellLemmas.{nth_last}
 use Rattle.rescale_core.proofs.machine_start.new_cells.Goals as goal

@@ -1,8 +1,6 @@
 use Rattle.std.proofs.Common.{◌≡◌, ℕ, Some, length}
 use Rattle.monitorable.specs.Cores.{core_form}
-use Rattle.rescale_core.specs.Cells.{IsCellOf}
-use Rattle.rescale_core.specs.Handing.{nth}
-use Rattle.rescale_core.specs.Worlds.{first_world}
+use Rattle.rescale_core.specs.{Cells.IsCellOf, Handing.nth, Worlds.first_world}
 use Rattle.rescale_core.specs.declared.cell.Cell.{Cell}
 use Rattle.rescale_core.proofs.machine_start.new_cells.Given as goal
 

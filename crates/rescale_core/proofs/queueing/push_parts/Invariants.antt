@@ -1,6 +1,5 @@
 use Rattle.std.proofs.Common.{◌≡◌, ◌++◌, ℕ, length}
-use Rattle.rescale_core.specs.Queues.{queue_at}
-use Rattle.rescale_core.specs.Routing.{part_below}
+use Rattle.rescale_core.specs.{Queues.queue_at, Routing.part_below}
 use Rattle.rescale_core.proofs.queueing.push_parts.Given as goal
 
 abbrev pub invariant-loop-k : goal.invariant-loop-k

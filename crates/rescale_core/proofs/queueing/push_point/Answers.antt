@@ -1,7 +1,5 @@
-use Rattle.std.proofs.Common.{◌++◌, sym, length, ap, ◌∙◌, arith}
+use Rattle.std.proofs.Common.{sym, length, ap, ◌∙◌, arith}
 use Rattle.monitorable.specs.Cores.{core_form}
-use Rattle.rescale_core.specs.Queues.{queue_at}
-use Rattle.rescale_core.specs.Routing.{slices_for}
 use Rattle.rescale_core.proofs.ReadingLemmas.{parts_are, slices_len}
 use Rattle.rescale_core.proofs.queueing.push_point.Goals as goal
 
@@ -22,16 +20,10 @@ push_slices-requires c =
 
 pub returns-then-workers-eq1-clause-queued : goal.returns-then-workers-eq1-clause-queued
 returns-then-workers-eq1-clause-queued c = λ q.
-    let core = core_form c.args.core.now in
-    let s = c.args.strategy.now in
-    c.in_ok-push_first.ensures.queued q
-    ∙ ap (λ ps. queue_at c.args.queues.now.items q ++ slices_for c.args.generation c.args.number 0 ps q)
-    (sym c.only_part.ensures ∙ parts_are core s c.args.point)
+    rw (← parts_are (core_form c.args.core.now) c.args.strategy.now c.args.point, c.only_part.ensures)
+    (c.in_ok-push_first.ensures.queued q)
 
 pub returns-clause-queued : goal.returns-clause-queued
 returns-clause-queued c = λ q.
-    let core = core_form c.args.core.now in
-    let s = c.args.strategy.now in
-    c.in_ok-push_slices.ensures.queued q
-    ∙ ap (λ ps. queue_at c.args.queues.now.items q ++ slices_for c.args.generation c.args.number 0 ps q)
-    (c.in_ok-slices.ensures ∙ parts_are core s c.args.point)
+    rw (← parts_are (core_form c.args.core.now) c.args.strategy.now c.args.point, ← c.in_ok-slices.ensures)
+    (c.in_ok-push_slices.ensures.queued q)

@@ -1,6 +1,5 @@
 use Rattle.std.proofs.Common.{◌≡◌, ◌≤◌, ◌++◌, ◌+◌, ℕ, length}
-use Rattle.rescale_core.specs.Queues.{queue_at}
-use Rattle.rescale_core.specs.Routing.{slices_for}
+use Rattle.rescale_core.specs.{Queues.queue_at, Routing.slices_for}
 use Rattle.rescale_core.proofs.queueing.push_slices.Given as goal
 
 abbrev pub invariant-loop-point : goal.invariant-loop-point

@@ -1,7 +1,5 @@
 use Rattle.std.proofs.Common.{◌≡◌, ◌++◌, ℕ, length}
-use Rattle.rescale_core.specs.Queues.{all_put, queue_at}
-use Rattle.rescale_core.specs.Routing.{MayAdd}
-use Rattle.rescale_core.specs.Worlds.{pieces_in, rows_in}
+use Rattle.rescale_core.specs.{Queues.all_put, Queues.queue_at, Routing.MayAdd, Worlds.pieces_in, Worlds.rows_in}
 use Rattle.rescale_core.proofs.router.collect_all.Given as goal
 
 abbrev pub invariant-loop-out : goal.invariant-loop-out

@@ -1,7 +1,5 @@
 use Rattle.std.proofs.Common.{◌≡◌, ◌++◌, List, length, map}
-use Rattle.rescale_core.specs.Chances.Chance.{Sure}
-use Rattle.rescale_core.specs.Queues.{chances}
-use Rattle.rescale_core.specs.Slots.{ready_of}
+use Rattle.rescale_core.specs.{Chances.Chance.Sure, Queues.chances, Slots.ready_of}
 use Rattle.rescale_core.specs.declared.slot.Slot.{Slot}
 use Rattle.rescale_core.proofs.router.take_front.Given as goal
 

@@ -1,4 +1,4 @@
-use Rattle.std.proofs.Common.{◌≡◌, Bool, ◌&&◌, List, filter, length, nat_eq, rules, subst, sym, tests, true, ◌∙◌}
+use Rattle.std.proofs.Common.{◌≡◌, Bool, ◌&&◌, List, length, nat_eq, rules, subst, sym, tests, true, ◌∙◌}
 use Rattle.std.proofs.lemmas.Fn.{filter_same}
 use Rattle.mfotl_model.specs.Tables.{all_sized}
 use Rattle.mfotl_model.specs.declared.value.Value.{Value}

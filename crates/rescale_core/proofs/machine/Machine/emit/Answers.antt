@@ -1,6 +1,5 @@
 use Rattle.std.proofs.Common.{refl}
-use Rattle.rescale_core.specs.Worlds.{world_after}
-use Rattle.rescale_core.specs.Worlds.Step.{Emit}
+use Rattle.rescale_core.specs.{Worlds.world_after, Worlds.Step.Emit}
 use Rattle.rescale_core.proofs.MachineLemmas.{machine_emitted}
 use Rattle.rescale_core.proofs.machine.Machine.emit.Goals as goal
 

@@ -1,10 +1,8 @@
 use Rattle.std.proofs.Common.{◌∙◌, ◌++◌, ap, sym, set}
 use Rattle.std.specs.List.{position}
 use Rattle.monitor_state.specs.declared.state.Piece.{Piece}
-use Rattle.rescale_core.specs.Queues.{queue_filled}
-use Rattle.rescale_core.specs.Slots.{lacks, sure}
-use Rattle.rescale_core.proofs.SlotLemmas.{unfilled, filled_at}
-use Rattle.rescale_core.proofs.SureLemmas.{sure_filled}
+use Rattle.rescale_core.specs.{Queues.queue_filled, Slots.lacks, Slots.sure}
+use Rattle.rescale_core.proofs.{SlotLemmas.unfilled, SlotLemmas.filled_at, SureLemmas.sure_filled}
 use Rattle.rescale_core.proofs.queue.Queue.fill.Goals as goal
 
 pub returns-in_default : goal.returns-in_default

@@ -1,5 +1,4 @@
-use Rattle.std.proofs.Common.{◌<◌, length}
-use Rattle.std.proofs.Common.{arith}
+use Rattle.std.proofs.Common.{◌<◌, length, arith}
 use Rattle.std.proofs.lemmas.Grind.{common_steps}
 use Rattle.rescale_core.proofs.SureLemmas.{sure_outside}
 use Rattle.rescale_core.proofs.queue.Queue.first_ends.Goals as goal

@@ -1,7 +1,6 @@
 use Rattle.std.proofs.Common.{ap, length, length-append, arith}
 use Rattle.rescale_core.specs.Slots.{ready_of}
-use Rattle.rescale_core.proofs.SlotLemmas.{ready_most}
-use Rattle.rescale_core.proofs.SureLemmas.{sure_ready}
+use Rattle.rescale_core.proofs.{SlotLemmas.ready_most, SureLemmas.sure_ready}
 use Rattle.rescale_core.proofs.queue.Queue.ready.Goals as goal
 
 pub overflow_add-result : goal.overflow_add-result

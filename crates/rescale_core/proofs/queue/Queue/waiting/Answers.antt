@@ -1,7 +1,6 @@
 use Rattle.std.proofs.Common.{ap, sum_by, arith}
 use Rattle.rescale_core.specs.Slots.{weight_of}
-use Rattle.rescale_core.proofs.SlotLemmas.{few_weigh}
-use Rattle.rescale_core.proofs.SureLemmas.{sure_weigh}
+use Rattle.rescale_core.proofs.{SlotLemmas.few_weigh, SureLemmas.sure_weigh}
 use Rattle.rescale_core.proofs.queue.Queue.waiting.Goals as goal
 
 pub overflow_add-result : goal.overflow_add-result

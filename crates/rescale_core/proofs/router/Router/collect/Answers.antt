@@ -10,7 +10,7 @@ collect_all-requires c =
 pub returns : goal.returns
 returns c = λ w is taken.
     let all = c.in_ok-collect_all.ensures in
-    outs_collected c.args.self.now _ w is c.args.worker c.args.taken c.args.outs.items taken refl refl refl refl
+    outs_collected c.args.self.now _ w is c.args.worker c.args.taken c.args.outs.items taken refl
     all.len all.filled c.requires.some c.lower.ensures.len c.lower.ensures.less all.gathered
 
 pub lower-requires-clause-low : goal.lower-requires-clause-low

@@ -1,6 +1,5 @@
 use Rattle.std.proofs.Common.{refl}
-use Rattle.rescale_core.proofs.MergeLemmas.{splits}
-use Rattle.rescale_core.proofs.PieceLemmas.{part_below, takes_part}
+use Rattle.rescale_core.proofs.{MergeLemmas.splits, PieceLemmas.part_below, PieceLemmas.takes_part}
 use Rattle.rescale_core.proofs.worker.Worker.part.Goals as goal
 
 pub split_state-requires : goal.split_state-requires

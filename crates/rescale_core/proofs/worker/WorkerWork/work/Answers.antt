@@ -3,8 +3,7 @@ use Rattle.rescale_core.proofs.Leading.{can_take, leads_by, leads_on, takes_seen
 use Rattle.rescale_core.proofs.worker.WorkerWork.work.Goals as goal
 
 pub take-requires : goal.take-requires
-take-requires c =
-    can_take c.args.self.now c.args.item (takes_seen c.args.self.now (c.args.item ∷ []) c.requires)
+take-requires c = can_take c.args.self.now c.args.item (takes_seen c.args.self.now (c.args.item ∷ []) c.requires)
 
 pub returns : goal.returns
 returns c =
