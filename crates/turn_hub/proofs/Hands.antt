@@ -60,8 +60,10 @@ module _ {W S I O : Type 0} (stands : S → List I → List O → W → Type 0) 
       → Allows (Ruled stands may) n id me k (λ y. y) (hand_looks stands may (step n k 0 0 none) me)
   hand_loads n id k me number nothing near s r wide seated small =
       let near' : k < length s.homes = omega arith in
-      let t = there r.main.lines k (omega (arith, r.lined)) in let l : Line S I O = t.0 in
-      let o = r.each_cell k l t.1 in let x : ℕ = slice_index s.words k in
+      let t = there r.main.lines k (omega (arith, r.lined)) in
+      let l : Line S I O = t.0 in
+      let o = r.each_cell k l t.1 in
+      let x : ℕ = slice_index s.words k in
       dite (ℕ_discrete x 1)
       (λ one. let h : Rests s.homes k (Due stands l) = ⊎_elim (λ h. h)
       (λ h. absurd (h.4 (rw (holder s r id k me.0 seated number near' l t.1 h.0 h.1 h.2 h.3).1 nothing)))
@@ -97,14 +99,19 @@ module _ {W S I O : Type 0} (stands : S → List I → List O → W → Type 0) 
       → me ≡ (looked v k x (Some cf), (k, Some c') ∷ more) → c ≡ cf → LeavesWord new c c'
       → Allows (Ruled stands may) n id me k (λ _. new) (λ _ m'. gives_back (step n k new 0 none) me new m')
   hand_stores n id k x me v more c cf c' new number near holds same turn s r wide seated small =
-      let near' : k < length s.homes = omega arith in let m : ℕ = length c.items.items in
-      let has : me.0.has ≡ Some c = rw (holds, same) in let number' : me.0.number ≡ Some k = rw holds number in
+      let near' : k < length s.homes = omega arith in
+      let m : ℕ = length c.items.items in
+      let has : me.0.has ≡ Some c = rw (holds, same) in
+      let number' : me.0.number ≡ Some k = rw holds number in
       let t = there r.main.lines k (omega (arith, r.lined)) in
-      let l : Line S I O = t.0 in let ok = r.each_cell k l t.1 in
-      let had = (r.each_hand id me.0 k seated number').has c has in let one : slice_index s.words k ≡ 1 = had.2 in
+      let l : Line S I O = t.0 in
+      let ok = r.each_cell k l t.1 in
+      let had = (r.each_hand id me.0 k seated number').has c has in
+      let one : slice_index s.words k ≡ 1 = had.2 in
       let due : Due stands l c = rw (some-injective had.0 l (sym had.1 ∙ t.1)) at had.3 in
       let not_mine : l.mine ≡ true → ⊥ = λ m. let z = ok.mine m in omega arith in
-      let kept = hand_moves s r id k me.0 seated number' near' l t.1 new (some (Some c')) (emptied me.0 new m) number' one
+      let kept = hand_moves s r id k me.0 seated number' near' l t.1 new (some (Some c'))
+      (emptied me.0 new m) number' one
       record {
         known = grind arith;
         allowed = ok.allowed;

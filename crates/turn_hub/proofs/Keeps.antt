@@ -169,8 +169,10 @@ module _ {W S I O : Type 0} (stands : S → List I → List O → W → Type 0) 
       → Allows (Ruled stands may) n id me k (λ y. y) (main_looks stands (step n k 0 0 none) me)
   main_loads n id k me is_first none_held lined near s r wide seated small =
       let is : me.0 ≡ r.main = some-injective me.0 r.main (sym seated ∙ rw is_first r.first) in
-      let nothing : r.main.has ≡ None = rw (← is) none_held in let near' : k < length s.homes = omega arith in
-      let t = there r.main.lines k (omega (arith, r.lined)) in let o = r.each_cell k t.0 t.1 in
+      let nothing : r.main.has ≡ None = rw (← is) none_held in
+      let near' : k < length s.homes = omega arith in
+      let t = there r.main.lines k (omega (arith, r.lined)) in
+      let o = r.each_cell k t.0 t.1 in
       let x : ℕ = slice_index s.words k in
       rw (is_first, is) (dite (ℕ_discrete x 0)
       (λ z. let h : Rests s.homes k (Ready stands t.0) = ⊎_elim (λ h. h) (λ h. absurd (h.0 nothing)) (o.ready z) in (
@@ -211,7 +213,8 @@ module _ {W S I O : Type 0} (stands : S → List I → List O → W → Type 0) 
       let is : me.0 ≡ r.main = some-injective me.0 r.main (sym seated ∙ rw is_first r.first) in
       let near' : k < length s.homes = omega arith in
       let line' : get_elem? r.main.lines k ≡ some l = rw (← is, holds) line in
-      let has : r.main.has ≡ Some c = rw (← is, holds, same) in let cell : r.main.cell ≡ k = rw (← is, holds) in
+      let has : r.main.has ≡ Some c = rw (← is, holds, same) in
+      let cell : r.main.cell ≡ k = rw (← is, holds) in
       let next : Line S I O = handed_over l c c' new in
       let home = set_here s.homes k (some (Some c')) near' in
       let held : Has stands s.words r.main.lines k 0 c (Ready stands) = rw cell at (r.has c has) in

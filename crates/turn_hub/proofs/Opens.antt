@@ -41,7 +41,8 @@ module _ {W S I O : Type 0} (stands : S → List I → List O → W → Type 0) 
         lined = length-map works (λ w. started (seed w)) ∙ sym wide ∙ sym homes;
         has = λ c e. absurd (none-some c e);
         each_cell = λ k l e. let t = from_map (λ w. started {I = I} {O = O} (seed w)) works k l e in
-            let f = fresh k t.0 t.1 in let zero_word = zeros k (omega (arith, long, within works k t.0 t.1)) in
+            let f = fresh k t.0 t.1 in
+            let zero_word = zeros k (omega (arith, long, within works k t.0 t.1)) in
             rw (← t.2) record {
               known = omega (arith, zero_word);
               allowed = none_may (seed t.0);
@@ -92,7 +93,9 @@ module _ {W S I O : Type 0} (stands : S → List I → List O → W → Type 0) 
           (λ t. record { below = omega (arith, t.1); has = (r.each_hand j u k t.0 num).has })
           (λ t. record { below = omega (arith, t.1); has = λ c h. absurd cc }) (split j u k e num);
       once = λ i j u y k e f num num'.
-          let a = split i u k e num in let b = split j y k f num' in let old = r.once i j u y k in grind arith;
+          let a = split i u k e num in
+          let b = split j y k f num' in
+          let old = r.once i j u y k in grind arith;
     }
 
   pub new_hands : (id : ℕ) (v : View W S I O) → id ≡ 0 → Splits (Ruled stands may) id v (one_more v) (new_hand v)

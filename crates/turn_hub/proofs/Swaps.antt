@@ -35,7 +35,8 @@ module _ {W S I O : Type 0} (stands : S → List I → List O → W → Type 0) 
       → LooksOnce m0.0 k 0 me'.0 × ((l : Line S I O) × (get_elem? m0.0.lines k ≡ some l) × (count ≡ l.last)
       × told l.seed l.handed (l.back ++ outs) × (me'.0.lines ≡ set m0.0.lines k (swapped_line l outs items)))
   swaps told tells n k a x m0 me me' y cf c' e zero same h ready count outs items count-is outs-are items-are turn =
-      let l = ready.0 in let outs-of : outs ≡ cf.outs.items = rw (← same) outs-are in
+      let l = ready.0 in
+      let outs-of : outs ≡ cf.outs.items = rw (← same) outs-are in
       let l-is : h.0 ≡ l = some-injective h.0 l (sym h.3 ∙ rw e ready.1) in
       let c-is : h.1 ≡ cf = same_Some h.1 cf (sym h.4 ∙ rw e) in
       let c'-is : h.2 ≡ c' = same_slot e h.5 in

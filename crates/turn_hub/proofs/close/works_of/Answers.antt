@@ -31,7 +31,9 @@ unreachable-requires g c = let i = c.loop-k.invariant in
 
 pub loop-k-preserved : goal.loop-k-preserved
 loop-k-preserved g c = let i = c.loop-k.invariant in let t = c.in-Some.ensures {u = tt} in let o = t.others in
-    let k : ℕ = c.loop-k.k in let p = c.push_reserved.ensures in let slots = c.loop-k.closed.slots in (
+    let k : ℕ = c.loop-k.k in
+    let p = c.push_reserved.ensures in
+    let slots = c.loop-k.closed.slots in (
       λ q above below. rw o.1 (still_full (slots_filled slots) k (slots_len slots) i.0 q above (rw o.2 at below)),
       λ q below. rw o.1 (all_taken (slots_filled slots) k (slots_len slots) (rw i.3 at c.loop-k-test.true) slots.ok.1
           i.1 q below),

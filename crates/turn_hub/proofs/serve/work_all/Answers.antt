@@ -4,7 +4,9 @@ use Rattle.turn_hub.proofs.serve.work_all.Goals as goal
 
 pub loop-item-init : goal.loop-item-init
 loop-item-init g c =
-    let out = c.in_ok-items.ensures {u = tt} in let kept = out.cell in let before = c.args.cell.now in
+    let out = c.in_ok-items.ensures {u = tt} in
+    let kept = out.cell in
+    let before = c.args.cell.now in
     let whole = sym out.items ∙ sym c.into_iter-item-iterator.ensures.into_iter_gives.0 in (
       whole,
       kept.1,
@@ -24,8 +26,11 @@ work_one-requires g c =
 
 pub loop-item-preserved : goal.loop-item-preserved
 loop-item-preserved g c =
-    let steps = (c.in-Some.ensures {u = tt}).steps in let i = c.loop-item.invariant in
-    let ok = c.in_ok-work_one.ensures {u = tt} in let did = ok.did in let before = i.3 in
+    let steps = (c.in-Some.ensures {u = tt}).steps in
+    let i = c.loop-item.invariant in
+    let ok = c.in_ok-work_one.ensures {u = tt} in
+    let did = ok.did in
+    let before = i.3 in
     let item = c.in-Some.item ∷ [] in (
       rw (append_assoc, ← steps.0) i.0,
       ok.count ∙ i.1,

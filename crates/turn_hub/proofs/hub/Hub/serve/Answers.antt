@@ -20,8 +20,10 @@ work_all-done-requires g c = let p = c.load-found.ensures.2.0 c.if-found-ne-HAND
 
 pub store-requires : goal.store-requires
 store-requires g c =
-    let p = c.load-found.ensures.2.0 c.if-found-ne-HAND_TURN.false in let m = c.requires.hand in
-    let out = c.take_cell-cell.ensures.seat in let back = c.put_cell.ensures.seat in
+    let p = c.load-found.ensures.2.0 c.if-found-ne-HAND_TURN.false in
+    let m = c.requires.hand in
+    let out = c.take_cell-cell.ensures.seat in
+    let back = c.put_cell.ensures.seat in
     let left = swapped_out p.1 c.take_cell-cell.ensures.cell out.2 back.2 in
     let ok = c.in-Ok.ensures {u = tt} in (
       back.0 ∙ out.0 ∙ c.load-found.ensures.0 ∙ m.0,
@@ -36,8 +38,10 @@ store-requires g c =
 
 pub store-requires-in-Err : goal.store-requires-in-Err
 store-requires-in-Err g c =
-    let p = c.load-found.ensures.2.0 c.if-found-ne-HAND_TURN.false in let m = c.requires.hand in
-    let out = c.take_cell-cell.ensures.seat in let back = c.put_cell.ensures.seat in
+    let p = c.load-found.ensures.2.0 c.if-found-ne-HAND_TURN.false in
+    let m = c.requires.hand in
+    let out = c.take_cell-cell.ensures.seat in
+    let back = c.put_cell.ensures.seat in
     let left = swapped_out p.1 c.take_cell-cell.ensures.cell out.2 back.2 in (
       back.0 ∙ out.0 ∙ c.load-found.ensures.0 ∙ m.0,
       rw c.args.self.now.sized m.4,

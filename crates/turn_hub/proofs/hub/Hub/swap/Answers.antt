@@ -16,10 +16,15 @@ take_cell-cell-requires-clause-has g c = let p = c.load-found.ensures.2.0.0 c.if
 
 pub store-requires : goal.store-requires
 store-requires g c =
-    let l = c.load-found.ensures in let p = l.2.0.0 c.if-found-ne-MAIN_TURN.false in let m = c.requires.main in
-    let may = c.requires.may in let out = c.take_cell-cell.ensures.seat in let back = c.put_cell.ensures.seat in
+    let l = c.load-found.ensures in
+    let p = l.2.0.0 c.if-found-ne-MAIN_TURN.false in
+    let m = c.requires.main in
+    let may = c.requires.may in
+    let out = c.take_cell-cell.ensures.seat in
+    let back = c.put_cell.ensures.seat in
     let left = swapped_out p.1 c.take_cell-cell.ensures.cell out.2 back.2 in
-    let new = c.refill-count.ensures.cell in let laid = ap (λ v. v.items) new.1 in (
+    let new = c.refill-count.ensures.cell in
+    let laid = ap (λ v. v.items) new.1 in (
       back.0 ∙ out.0 ∙ l.0 ∙ m.0.0,
       rw c.args.self.now.sized m.1,
       main_stores g.W.Work.stands g.W.Work.may _ _ _ _ _ c.args.main.now.seat.me.0 _ may.0 c.take_cell-cell.result _ _
@@ -51,7 +56,8 @@ returns-then-found-eq-HAND_TURN-clause-did g c =
 pub returns-then-found-ne-MAIN_TURN-clause-did : goal.returns-then-found-ne-MAIN_TURN-clause-did
 returns-then-found-ne-MAIN_TURN-clause-did g c =
     let below : c.load-found.result < 3 = c.load-found.ensures.2.0.2 in
-    let not_one = c.if-found-eq-HAND_TURN.false in let not_zero = c.if-found-ne-MAIN_TURN.true in
+    let not_one = c.if-found-eq-HAND_TURN.false in
+    let not_zero = c.if-found-ne-MAIN_TURN.true in
     let seen = looks_once g.W.Work.stands c.args.self.now.table.shared.table_id.slots c.args.number _ 2
     c.args.main.now.seat.me c.load-found.new.seat.me (omega arith) not_zero c.load-found.ensures.2 in
     (seen.0, refl, seen.1, seen.2)
