@@ -1,5 +1,5 @@
 -- Tokens that the reader accepts begin with what the grammar spells there: terms, atoms, comparisons.
-use Rattle.std.proofs.Common.{◌≡◌, ℕ, zero, suc, ◌<◌, ◌≤◌, true, false, List, [], ◌∷◌, ◌++◌, length, refl, ap, sym, ◌∙◌}
+use Rattle.std.proofs.Common.{◌≡◌, ℕ, zero, suc, ◌<◌, ◌≤◌, true, false, List, [], ◌∷◌, ◌++◌, length, refl, Option}
 use Rattle.std.proofs.Common.{arith}
 use Rattle.std.proofs.lemmas.List.{append_assoc, length-append}
 use Rattle.mfotl_lex.specs.Lexemes.{Lexeme}
@@ -10,25 +10,29 @@ use Rattle.mfotl_parse.specs.declared.{class.Class.Class, term.Side.Side}
 use Rattle.mfotl_parse.specs.declared.class.Class.TheVariants as classes
 use Rattle.mfotl_parse.specs.Arguments.{argument_move, first_move, taken_move, argument_marked_move}
 use Rattle.mfotl_parse.specs.{Classes.class_of, Operands.word_move, Operands.blank_move, Reading.transition}
-use Rattle.mfotl_parse.specs.{Reading.transition_at}
+use Rattle.mfotl_parse.specs.{Reading.transition_at, Transitions.Transition}
 use Rattle.mfotl_parse.specs.Grammar.{Bare, Asked, WrittenTerm, Named, Number, Quoted, WrittenArgument, Given, Hidden}
 use Rattle.mfotl_parse.specs.Grammar.{WrittenArguments, LastArgument, MoreArguments, Tree, BareAtom, AtomOf, Comparison}
 use Rattle.mfotl_parse.specs.Grammar.{term_spelling, argument_spelling, arguments_spelling, spelling, FitsTerm}
 use Rattle.mfotl_parse.specs.Grammar.{FitsArgument, FitsArguments, IsAtomName, Fits, is_shut}
 use Rattle.mfotl_parse.specs.Comparisons.{against_move, against_marked_move, compared_move, marked_move}
-use Rattle.mfotl_parse.specs.States.{Frame, Call, SymbolTable, AfterOperand, AfterWord, AfterBlank, AfterMark}
-use Rattle.mfotl_parse.specs.States.{ExpectSign, AfterSign, FirstArgument, NextArgument, AfterArgument, Partial}
+use Rattle.mfotl_parse.specs.States.{Frame, Call, SymbolTable, AfterOperand, ExpectSign, AfterSign, FirstArgument}
+use Rattle.mfotl_parse.specs.States.{NextArgument, AfterArgument, Partial}
 use Rattle.mfotl_parse.specs.Viability.{if_moved, is_whole, accepts}
 use Rattle.mfotl_parse.proofs.SpelledMoves.{at_place, context_at}
 
 pub refused : false ≡ true → (P : Type 0) → P
 refused h P = absurd cc
 
+-- tokens that are accepted behind this move of the first
+abbrev pub Turns : List PredOf → (Lexeme → Class → Option Transition) → (List Lexeme → Type 0) → Type 0
+Turns sig move P =
+    (t : Lexeme) (ts : List Lexeme) (c : Class) → class_of t ≡ c → if_moved (move t c) (accepts sig ts) ≡ true
+    → P (t ∷ ts)
+
 -- where the text can't end, accepted tokens begin with one that the grammar goes on with
 pub by_token : (sig : List PredOf) (P : List Lexeme → Type 0) (p : Partial) → is_whole p.now p.context.stack ≡ false
-    → ((t : Lexeme) (ts : List Lexeme) (c : Class) → class_of t ≡ c
-    → if_moved (transition_at p.now sig p.context t c) (accepts sig ts) ≡ true → P (t ∷ ts))
-    → (ts : List Lexeme) → accepts sig ts p ≡ true → P ts
+    → Turns sig (transition_at p.now sig p.context) P → (ts : List Lexeme) → accepts sig ts p ≡ true → P ts
 unfolding accepts transition
 by_token sig P p unfinished one [] h = absurd cc
 by_token sig P p unfinished one (t ∷ ts) h = one t ts (class_of t) refl h
@@ -78,25 +82,22 @@ module _ (sig : List PredOf) (stack : List Frame) where
       → RightSide sig stack (term_spelling right ++ ts)
   right_side form nodes names right ts fits h = grind arith
 
-  against_marked_back : (left : Side) (at mark_at : ℕ) (sign : Sign) (mark t : Lexeme) (ts : List Lexeme) (nodes : ℕ)
-      (names : SymbolTable) (c : Class) → class_of mark ≡ classes.Question → class_of t ≡ c
-      → if_moved (against_marked_move (context_at stack nodes names) left at sign mark_at t c) (accepts sig ts)
-      ≡ true → RightSide sig stack (mark ∷ t ∷ ts)
-  against_marked_back left at mark_at sign mark t ts nodes names classes.Name marks class h =
+  against_marked_one : (left : Side) (at : ℕ) (sign : Sign) (mark : Lexeme) (nodes : ℕ) (names : SymbolTable)
+      → class_of mark ≡ classes.Question
+      → Turns sig (against_marked_move (context_at stack nodes names) left at sign mark.at)
+      (λ us. RightSide sig stack (mark ∷ us))
+  against_marked_one left at sign mark nodes names marks t ts classes.Name class h =
       right_side _ _ _ (Named (Asked mark t)) ts (marks, class) h
-  against_marked_back left at mark_at sign mark t ts nodes names _ marks class h = refused h _
+  against_marked_one left at sign mark nodes names marks t ts _ class h = refused h _
 
-  against_one : (left : Side) (at : ℕ) (sign : Sign) (t : Lexeme) (ts : List Lexeme) (nodes : ℕ)
-      (names : SymbolTable) (c : Class) → class_of t ≡ c
-      → if_moved (against_move (context_at stack nodes names) left at sign t c) (accepts sig ts) ≡ true
-      → RightSide sig stack (t ∷ ts)
-  against_one left at sign t ts nodes names classes.Name class h = right_side _ _ _ (Named (Bare t)) ts class h
-  against_one left at sign t ts nodes names classes.Question class h =
-      by_token sig (λ us. RightSide sig stack (t ∷ us)) _ refl
-      (λ u us c. against_marked_back left at t.at sign t u us nodes names c class) ts h
-  against_one left at sign t ts nodes names (classes.Integer z) class h = right_side _ _ _ (Number t z) ts class h
-  against_one left at sign t ts nodes names classes.Text class h = right_side _ _ _ (Quoted t) ts class h
-  against_one left at sign t ts nodes names _ class h = refused h _
+  against_one : (left : Side) (at : ℕ) (sign : Sign) (nodes : ℕ) (names : SymbolTable)
+      → Turns sig (against_move (context_at stack nodes names) left at sign) (RightSide sig stack)
+  against_one left at sign nodes names t ts classes.Name class h = right_side _ _ _ (Named (Bare t)) ts class h
+  against_one left at sign nodes names t ts classes.Question class h =
+      by_token sig (λ us. RightSide sig stack (t ∷ us)) _ refl (against_marked_one left at sign t nodes names class) ts h
+  against_one left at sign nodes names t ts (classes.Integer z) class h = right_side _ _ _ (Number t z) ts class h
+  against_one left at sign nodes names t ts classes.Text class h = right_side _ _ _ (Quoted t) ts class h
+  against_one left at sign nodes names t ts _ class h = refused h _
 
   -- a comparison's sign, with what stands before it
   pub sign_back : (left : WrittenTerm) (side : Side) (at : ℕ) (t : Lexeme) (sign : Sign) (ts : List Lexeme)
@@ -104,47 +105,32 @@ module _ (sig : List PredOf) (stack : List Frame) where
       → accepts sig ts (at_place (AfterSign side at sign) stack nodes names) ≡ true
       → Primary sig stack (term_spelling left ++ t ∷ ts)
   sign_back left side at t sign ts nodes names fits class h =
-      let r = by_token sig (RightSide sig stack) _ refl
-      (λ u us c. against_one side at sign u us nodes names c) ts h in
-      let parts : term_spelling left ++ t ∷ ts ≡ (term_spelling left ++ t ∷ term_spelling r.right) ++ r.rest =
-      ap (λ (xs : List Lexeme). term_spelling left ++ t ∷ xs) r.parts
-      ∙ sym (append_assoc (term_spelling left) (t ∷ term_spelling r.right) r.rest) in
+      let r = by_token sig (RightSide sig stack) _ refl (against_one side at sign nodes names) ts h in
       record {
         tree = Comparison left t sign r.right;
         rest = r.rest;
         fits = λ rule. (fits, class, r.fits);
         shut = refl;
-        parts = parts;
+        parts = grind (arith, append_assoc, r.parts);
         shorter = omega (arith, r.shorter, length-append (term_spelling left) (t ∷ ts));
         behind = r.behind;
       }
 
-  compared_one : (left : WrittenTerm) (side : Side) (t : Lexeme) (ts : List Lexeme) (nodes : ℕ) (names : SymbolTable)
-      (c : Class) → FitsTerm left → class_of t ≡ c
-      → if_moved (compared_move (context_at stack nodes names) side t c) (accepts sig ts) ≡ true
-      → Primary sig stack (term_spelling left ++ t ∷ ts)
-  compared_one left side t ts nodes names c fits class h = grind (arith, sign_back, refused)
+  compared_one : (left : WrittenTerm) (side : Side) (nodes : ℕ) (names : SymbolTable) → FitsTerm left
+      → Turns sig (compared_move (context_at stack nodes names) side) (λ us. Primary sig stack (term_spelling left ++ us))
+  compared_one left side nodes names fits t ts c class h = grind (arith, sign_back, refused)
 
   pub compared_back : (left : WrittenTerm) (side : Side) (ts : List Lexeme) (nodes : ℕ) (names : SymbolTable)
       → FitsTerm left → accepts sig ts (at_place (ExpectSign side) stack nodes names) ≡ true
       → Primary sig stack (term_spelling left ++ ts)
   compared_back left side ts nodes names fits h =
-      by_token sig (λ us. Primary sig stack (term_spelling left ++ us)) _ refl
-      (λ t us c. compared_one left side t us nodes names c fits) ts h
+      by_token sig (λ us. Primary sig stack (term_spelling left ++ us)) _ refl (compared_one left side nodes names fits) ts h
 
-  marked_one : (mark t : Lexeme) (at : ℕ) (ts : List Lexeme) (nodes : ℕ) (names : SymbolTable) (c : Class)
-      → class_of mark ≡ classes.Question → class_of t ≡ c
-      → if_moved (marked_move (context_at stack nodes names) at t c) (accepts sig ts) ≡ true
-      → Primary sig stack (mark ∷ t ∷ ts)
-  marked_one mark t at ts nodes names classes.Name marks class h =
+  pub marked_one : (mark : Lexeme) (at nodes : ℕ) (names : SymbolTable) → class_of mark ≡ classes.Question
+      → Turns sig (marked_move (context_at stack nodes names) at) (λ us. Primary sig stack (mark ∷ us))
+  marked_one mark at nodes names marks t ts classes.Name class h =
       compared_back (Named (Asked mark t)) _ ts nodes _ (marks, class) h
-  marked_one mark t at ts nodes names _ marks class h = refused h _
-
-  pub marked_back : (mark : Lexeme) (at : ℕ) (ts : List Lexeme) (nodes : ℕ) (names : SymbolTable) → class_of mark
-      ≡ classes.Question
-      → accepts sig ts (at_place (AfterMark at) stack nodes names) ≡ true → Primary sig stack (mark ∷ ts)
-  marked_back mark at ts nodes names marks h =
-      by_token sig (λ us. Primary sig stack (mark ∷ us)) _ refl (λ t us c. marked_one mark t at us nodes names c marks) ts h
+  marked_one mark at nodes names marks t ts _ class h = refused h _
 
   -- ---- arguments
 
@@ -153,11 +139,10 @@ module _ (sig : List PredOf) (stack : List Frame) where
   Later n = (call : Call) (ts : List Lexeme) (nodes : ℕ) (names : SymbolTable) → length ts ≤ n
       → accepts sig ts (at_place (NextArgument call) stack nodes names) ≡ true → Inside sig stack ts
 
-  taken_one : (n : ℕ) (a : WrittenArgument) (call : Call) (t : Lexeme) (ts : List Lexeme) (nodes : ℕ)
-      (names : SymbolTable) (c : Class) → Later n → length ts ≤ n → FitsArgument a → class_of t ≡ c
-      → if_moved (taken_move (context_at stack nodes names) call t c) (accepts sig ts) ≡ true
-      → Inside sig stack (argument_spelling a ++ t ∷ ts)
-  taken_one n a call t ts nodes names classes.CloseParen later few fits class h =
+  taken_one : (n : ℕ) (a : WrittenArgument) (call : Call) (nodes : ℕ) (names : SymbolTable) → Later n → FitsArgument a
+      → Turns sig (taken_move (context_at stack nodes names) call)
+      (λ us. length us ≤ suc n → Inside sig stack (argument_spelling a ++ us))
+  taken_one n a call nodes names later fits t ts classes.CloseParen class h few =
       record {
         arguments = LastArgument a;
         closing = t;
@@ -168,21 +153,19 @@ module _ (sig : List PredOf) (stack : List Frame) where
         shorter = omega (arith, length-append (argument_spelling a) (t ∷ ts));
         behind = record { form = _; nodes = _; names = _; accepted = h };
       }
-  taken_one n a call t ts nodes names classes.Comma later few fits class h =
-      let more = later call ts nodes names few h in
+  taken_one n a call nodes names later fits t ts classes.Comma class h few =
+      let more = later call ts nodes names (omega (arith, few)) h in
       record {
         arguments = MoreArguments a t more.arguments;
         closing = more.closing;
         rest = more.rest;
         fits = (fits, class, more.fits);
         closes = more.closes;
-        parts = ap (λ (xs : List Lexeme). argument_spelling a ++ t ∷ xs) more.parts
-            ∙ sym (append_assoc (argument_spelling a) (t ∷ arguments_spelling more.arguments)
-            (more.closing ∷ more.rest));
+        parts = grind (arith, append_assoc, more.parts);
         shorter = omega (arith, more.shorter, length-append (argument_spelling a) (t ∷ ts));
         behind = more.behind;
       }
-  taken_one n a call t ts nodes names _ later few fits class h = refused h _
+  taken_one n a call nodes names later fits t ts _ class h few = refused h _
 
   taken_back : (n : ℕ) (a : WrittenArgument) (call : Call) (ts : List Lexeme) (nodes : ℕ) (names : SymbolTable)
       → Later n → length ts ≤ suc n → FitsArgument a
@@ -190,66 +173,58 @@ module _ (sig : List PredOf) (stack : List Frame) where
       → Inside sig stack (argument_spelling a ++ ts)
   taken_back n a call ts nodes names later few fits h =
       by_token sig (λ us. length us ≤ suc n → Inside sig stack (argument_spelling a ++ us)) _ refl
-      (λ t us c class moved most.
-      taken_one n a call t us nodes names c later (omega (arith, most)) fits class moved) ts h few
+      (taken_one n a call nodes names later fits) ts h few
 
-  argument_marked_one : (n : ℕ) (call : Call) (mark t : Lexeme) (at : ℕ) (ts : List Lexeme) (nodes : ℕ)
-      (names : SymbolTable) (c : Class) → Later n → length ts ≤ n → class_of mark ≡ classes.Question → class_of t ≡ c
-      → if_moved (argument_marked_move (context_at stack nodes names) call at t c) (accepts sig ts) ≡ true
-      → Inside sig stack (mark ∷ t ∷ ts)
-  argument_marked_one n call mark t at ts nodes names classes.Name later few marks class h =
+  argument_marked_one : (n : ℕ) (call : Call) (mark : Lexeme) (nodes : ℕ) (names : SymbolTable) → Later n
+      → class_of mark ≡ classes.Question → Turns sig (argument_marked_move (context_at stack nodes names) call mark.at)
+      (λ us. length us ≤ suc n → Inside sig stack (mark ∷ us))
+  argument_marked_one n call mark nodes names later marks t ts classes.Name class h few =
       taken_back n (Given (Named (Asked mark t))) _ ts nodes _ later (omega (arith, few)) (marks, class) h
-  argument_marked_one n call mark t at ts nodes names _ later few marks class h = refused h _
+  argument_marked_one n call mark nodes names later marks t ts _ class h few = refused h _
 
-  argument_one : (n : ℕ) (call : Call) (t : Lexeme) (ts : List Lexeme) (nodes : ℕ) (names : SymbolTable) (c : Class)
-      → Later n → length ts ≤ suc n → class_of t ≡ c
-      → if_moved (argument_move (context_at stack nodes names) call t c) (accepts sig ts) ≡ true
-      → Inside sig stack (t ∷ ts)
-  argument_one n call t ts nodes names classes.Name later few class h =
-      taken_back n (Given (Named (Bare t))) _ ts nodes _ later few class h
-  argument_one n call t ts nodes names classes.Question later few class h =
+  argument_one : (n : ℕ) (call : Call) (nodes : ℕ) (names : SymbolTable) → Later n
+      → Turns sig (argument_move (context_at stack nodes names) call) (λ us. length us ≤ suc n → Inside sig stack us)
+  argument_one n call nodes names later t ts classes.Name class h few =
+      taken_back n (Given (Named (Bare t))) _ ts nodes _ later (omega (arith, few)) class h
+  argument_one n call nodes names later t ts classes.Question class h few =
       by_token sig (λ us. length us ≤ suc n → Inside sig stack (t ∷ us)) _ refl
-      (λ u us c of_class moved most.
-      argument_marked_one n call t u t.at us nodes names c later (omega (arith, most)) class of_class moved) ts h few
-  argument_one n call t ts nodes names (classes.Integer z) later few class h =
-      taken_back n (Given (Number t z)) _ ts nodes _ later few class h
-  argument_one n call t ts nodes names classes.Text later few class h =
-      taken_back n (Given (Quoted t)) _ ts nodes _ later few class h
-  argument_one n call t ts nodes names classes.Blank later few class h =
-      taken_back n (Hidden t) _ ts (suc nodes) _ later few class h
-  argument_one n call t ts nodes names _ later few class h = refused h _
+      (argument_marked_one n call t nodes names later class) ts h (omega (arith, few))
+  argument_one n call nodes names later t ts (classes.Integer z) class h few =
+      taken_back n (Given (Number t z)) _ ts nodes _ later (omega (arith, few)) class h
+  argument_one n call nodes names later t ts classes.Text class h few =
+      taken_back n (Given (Quoted t)) _ ts nodes _ later (omega (arith, few)) class h
+  argument_one n call nodes names later t ts classes.Blank class h few =
+      taken_back n (Hidden t) _ ts (suc nodes) _ later (omega (arith, few)) class h
+  argument_one n call nodes names later t ts _ class h few = refused h _
 
   next_back : (n : ℕ) → Later n
   unfolding accepts transition
   next_back n call [] nodes names few h = refused h _
   next_back zero call (t ∷ ts) nodes names few h = absurd (omega (arith, few))
   next_back (suc n) call (t ∷ ts) nodes names few h =
-      argument_one n call t ts nodes names (class_of t) (next_back n) (omega (arith, few)) refl h
+      argument_one n call nodes names (next_back n) t ts (class_of t) refl h few
 
-  first_one : (name opening : Lexeme) (call : Call) (t : Lexeme) (ts : List Lexeme) (nodes : ℕ) (names : SymbolTable)
-      (c : Class) → IsAtomName name → class_of opening ≡ classes.OpenParen → class_of t ≡ c
-      → if_moved (first_move (context_at stack nodes names) call t c) (accepts sig ts) ≡ true
-      → Primary sig stack (name ∷ opening ∷ t ∷ ts)
-  first_one name opening call t ts nodes names classes.CloseParen named opens class h =
+  first_one : (name opening : Lexeme) (call : Call) (nodes : ℕ) (names : SymbolTable) → IsAtomName name
+      → class_of opening ≡ classes.OpenParen
+      → Turns sig (first_move (context_at stack nodes names) call) (λ us. Primary sig stack (name ∷ opening ∷ us))
+  first_one name opening call nodes names named opens t ts classes.CloseParen class h =
       record {
         tree = BareAtom name opening t;
         rest = ts;
-        fits = λ rule.
-            (named, opens, class);
+        fits = λ rule. (named, opens, class);
         shut = refl;
         parts = refl;
         shorter = omega arith;
         behind = record { form = _; nodes = _; names = _; accepted = h };
       }
-  first_one name opening call t ts nodes names c named opens class h =
-      let r = argument_one (length ts) call t ts nodes names c (next_back (length ts)) (omega arith) class h in
+  first_one name opening call nodes names named opens t ts c class h =
+      let r = argument_one (length ts) call nodes names (next_back (length ts)) t ts c class h (omega arith) in
       record {
         tree = AtomOf name opening r.arguments r.closing;
         rest = r.rest;
         fits = λ rule. (named, opens, r.fits, r.closes);
         shut = refl;
-        parts = ap (λ (xs : List Lexeme). name ∷ opening ∷ xs)
-            (r.parts ∙ sym (append_assoc (arguments_spelling r.arguments) (r.closing ∷ []) r.rest));
+        parts = grind (arith, append_assoc, r.parts);
         shorter = omega (arith, r.shorter);
         behind = r.behind;
       }
@@ -260,32 +235,15 @@ module _ (sig : List PredOf) (stack : List Frame) where
       → Primary sig stack (name ∷ opening ∷ ts)
   first_back name opening call ts nodes names named opens h =
       by_token sig (λ us. Primary sig stack (name ∷ opening ∷ us)) _ refl
-      (λ t us c. first_one name opening call t us nodes names c named opens) ts h
+      (first_one name opening call nodes names named opens) ts h
 
-  word_one : (name : Lexeme) (at : ℕ) (text : List ℕ) (t : Lexeme) (ts : List Lexeme) (nodes : ℕ)
-      (names : SymbolTable) (c : Class) → class_of name ≡ classes.Name → class_of t ≡ c
-      → if_moved (word_move sig (context_at stack nodes names) at text t c) (accepts sig ts) ≡ true
-      → Primary sig stack (name ∷ t ∷ ts)
-  word_one name at text t ts nodes names classes.OpenParen named class h = grind (arith, first_back)
-  word_one name at text t ts nodes names (classes.Sign sign) named class h =
+  pub word_one : (name : Lexeme) (at : ℕ) (text : List ℕ) (nodes : ℕ) (names : SymbolTable) → class_of name ≡ classes.Name
+      → Turns sig (word_move sig (context_at stack nodes names) at text) (λ us. Primary sig stack (name ∷ us))
+  word_one name at text nodes names named t ts classes.OpenParen class h = grind (arith, first_back)
+  word_one name at text nodes names named t ts (classes.Sign sign) class h =
       sign_back (Named (Bare name)) _ t.at t sign ts (suc nodes) _ named class h
-  word_one name at text t ts nodes names _ named class h = refused h _
+  word_one name at text nodes names named t ts _ class h = refused h _
 
-  pub word_back : (name : Lexeme) (at : ℕ) (text : List ℕ) (ts : List Lexeme) (nodes : ℕ) (names : SymbolTable)
-      → class_of name ≡ classes.Name
-      → accepts sig ts (at_place (AfterWord at text) stack nodes names) ≡ true → Primary sig stack (name ∷ ts)
-  word_back name at text ts nodes names named h =
-      by_token sig (λ us. Primary sig stack (name ∷ us)) _ refl
-      (λ t us c. word_one name at text t us nodes names c named) ts h
-
-  blank_one : (name : Lexeme) (at : ℕ) (t : Lexeme) (ts : List Lexeme) (nodes : ℕ) (names : SymbolTable) (c : Class)
-      → class_of name ≡ classes.Blank → class_of t ≡ c
-      → if_moved (blank_move sig (context_at stack nodes names) at c) (accepts sig ts) ≡ true
-      → Primary sig stack (name ∷ t ∷ ts)
-  blank_one name at t ts nodes names c named class h = grind (arith, first_back, refused)
-
-  pub blank_back : (name : Lexeme) (at : ℕ) (ts : List Lexeme) (nodes : ℕ) (names : SymbolTable) → class_of name
-      ≡ classes.Blank
-      → accepts sig ts (at_place (AfterBlank at) stack nodes names) ≡ true → Primary sig stack (name ∷ ts)
-  blank_back name at ts nodes names named h =
-      by_token sig (λ us. Primary sig stack (name ∷ us)) _ refl (λ t us c. blank_one name at t us nodes names c named) ts h
+  pub blank_one : (name : Lexeme) (at nodes : ℕ) (names : SymbolTable) → class_of name ≡ classes.Blank
+      → Turns sig (λ t. blank_move sig (context_at stack nodes names) at) (λ us. Primary sig stack (name ∷ us))
+  blank_one name at nodes names named t ts c class h = grind (arith, first_back, refused)

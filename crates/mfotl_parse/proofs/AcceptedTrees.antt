@@ -162,9 +162,7 @@ module _ (rule : ℕ) (below_six : rule < 6) where
             (remain_ones rule variables (holds_of hs) some) (inl some)
         | inr none ↦
             closes (HeldBound token quantifier variables dot) hs tree (Quantified token quantifier variables dot tree)
-            (append_assoc (held_tokens hs) (token ∷ (variables_spelling variables ++ dot ∷ [])) (spelling tree)
-            ∙ ap (λ (ts : List Lexeme). held_tokens hs ++ token ∷ ts)
-            (append_assoc (variables_spelling variables) (dot ∷ []) (spelling tree)))
+            (grind (arith, append_assoc))
             (drops_ones rule variables (holds_of hs) (omega (arith, none)))
             (close hs (Quantified token quantifier variables dot tree) fit.2 (fit.0.0, fit.0.1, fit.0.2, fits)
             (λ o e. (fit.0.0, fit.0.1, fit.0.2, fits)) (λ some. absurd (omega (arith, some, none))))
@@ -173,9 +171,7 @@ module _ (rule : ℕ) (below_six : rule < 6) where
       elim (cases_lt rule (right_precedence operator)) [
         | inl tight ↦
             closes (HeldLeft l token operator interval) hs tree (Joined l token operator interval tree)
-            (append_assoc (held_tokens hs) (spelling l ++ token ∷ interval_spelling interval) (spelling tree)
-            ∙ ap (λ (ts : List Lexeme). held_tokens hs ++ ts)
-            (append_assoc (spelling l) (token ∷ interval_spelling interval) (spelling tree)))
+            (grind (arith, append_assoc))
             (drops rule (right_precedence operator) (holds_of hs) tight)
             (close hs (Joined l token operator interval tree) fit.2 (fit.1, fit.0.0, fit.0.1, fit.0.2, fit.0.3, fits)
             (λ o e. (closes_left o operator (omega (arith, e, tight)), fit.0.0, fit.0.1, fit.0.2, fit.0.3, fits)) shut)

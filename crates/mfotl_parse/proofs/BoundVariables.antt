@@ -1,6 +1,6 @@
 -- No bound variable of a policy that was read is free in its formula.
-use Rattle.std.proofs.Common.{◌≡◌, ℕ, zero, suc, ◌+◌, ◌-◌, ◌<◌, ◌≤◌, ◌⊎◌, inl, inr, Bool, true, false, cond, not, ◌||◌}
-use Rattle.std.proofs.Common.{nat_eq, List, [], ◌∷◌, length, Option, Some, None, refl, sym, ap, ◌∙◌, arith}
+use Rattle.std.proofs.Common.{◌≡◌, ℕ, zero, suc, ◌+◌, ◌-◌, ◌<◌, ◌≤◌, ◌⊎◌, inl, inr, true, false, ◌||◌, nat_eq, List, []}
+use Rattle.std.proofs.Common.{◌∷◌, length, Option, Some, None, refl, arith}
 use Rattle.std.proofs.lemmas.Bool.{cases_lt, lt-ltb, or_cases, and_parts, eqb-true, eq-eqb, or_right}
 use Rattle.std.proofs.lemmas.List.{length-append}
 use Rattle.mfotl_model.specs.declared.{policy.Sort.Sort, term.Term.Term}
@@ -11,14 +11,14 @@ use Rattle.mfotl_model.proofs.{LogicLemmas.among_joined, LogicLemmas.among_witho
 use Rattle.mfotl_sig.specs.Preds.{PredOf}
 use Rattle.mfotl_parse.specs.declared.class.Quantifier.{Quantifier}
 use Rattle.mfotl_parse.specs.{Arguments.call_of, Arguments.blanks, SortsDue.due_sort, SortsDue.after_due}
-use Rattle.mfotl_parse.specs.{Occurrences.name_of, States.SymbolTable, Limits.max_free}
+use Rattle.mfotl_parse.specs.{Occurrences.name_of, States.SymbolTable, Limits.max_free, SymbolTable.bound_more}
+use Rattle.mfotl_parse.specs.{SymbolTable.term_of}
 use Rattle.mfotl_parse.specs.Grammar.{WrittenTerm, WrittenArgument, WrittenArguments, LastArgument, MoreArguments}
 use Rattle.mfotl_parse.specs.Grammar.{WrittenVariables, LastVariable, MoreVariables, Tree, Truth, BareAtom, AtomOf}
 use Rattle.mfotl_parse.specs.Grammar.{Comparison, Enclosed, Denied, Timed, Quantified, Joined}
 use Rattle.mfotl_parse.specs.Meanings.{Scope, no_scope, inside, operand_of, term_names, argument_term, argument_names}
 use Rattle.mfotl_parse.specs.Meanings.{arguments_terms, arguments_names, atom, variables_names, variables_scope}
-use Rattle.mfotl_parse.specs.Meanings.{quantify, interval_of, names_behind, value}
-use Rattle.mfotl_parse.specs.SymbolTable.{number_of, bound_or_free, occurring, bound_more, term_of}
+use Rattle.mfotl_parse.specs.Meanings.{quantify, names_behind, value}
 use Rattle.mfotl_parse.proofs.NamesOrder.{placed_grows, term_grows, argument_grows, arguments_grow, tree_grows}
 use Rattle.mfotl_parse.proofs.NamesOrder.{sides_grow, found_within}
 use Rattle.mfotl_parse.proofs.VariableOrder.{is_free, free_in, fewer, last_only, truth_order, one_order, moment_order}
@@ -38,15 +38,10 @@ module _ (y : ℕ) (above : max_free ≤ y) where
   only : (x : ℕ) → (nat_eq y x || false) ≡ true → y ≡ x
   only x e = elim (or_cases (nat_eq y x) false e) [ inl here ↦ eqb-true y x here | inr none ↦ absurd cc ]
 
-  name_escapes : (name : List ℕ) (at : ℕ) (n : SymbolTable) (bound : Option ℕ)
-      → length (occurring bound name at n).free ≤ max_free → y ≡ number_of (bound_or_free bound name n)
-      → (k : ℕ) × (bound ≡ Some k) × (y ≡ max_free + k)
-  name_escapes name at n bound few e = grind (arith, found_within, length-append)
-
   term_escapes : (t : WrittenTerm) (scope : Scope) (n : SymbolTable) → length (term_names t scope n).free ≤ max_free
       → Occurs (variable_in (term_of (operand_of t scope n))) → InScope scope
   unfolding Occurs
-  term_escapes t scope n few e = grind (arith, name_escapes, only)
+  term_escapes t scope n few e = grind (arith, found_within, length-append, only)
 
   -- a variable of a `_` between these
   Blank : ℕ → ℕ → Type 0
@@ -72,30 +67,21 @@ module _ (y : ℕ) (above : max_free ≤ y) where
       let between = argument_names a (due_sort places) scope n in
       let later = arguments_grow rest (after_due places) scope between in
       let first = argument_grows a (due_sort places) scope n in
-      let split = sym
-      (ap (λ (vs : List ℕ). among y vs)
-      (variables_in-cons (argument_term a scope n) (arguments_terms rest (after_due places) scope between))
-      ∙ among_joined y (variable_in (argument_term a scope n))
-      (variables_in (arguments_terms rest (after_due places) scope between))) ∙ e in
-      elim (or_cases _ _ split) [
-        | inl here ↦
-            elim (argument_escapes a (due_sort places) scope n (fewer between _ later few) here) [
-              | inl s ↦ inl s
-              | inr b ↦ inr (wider _ _ _ _ (omega arith) later.bound b)
-            ]
-        | inr there ↦
-            elim (arguments_escape rest (after_due places) scope between few there) [
-              | inl s ↦ inl s
-              | inr b ↦ inr (wider _ _ _ _ first.bound (omega arith) b)
-            ]
-      ]
-
-  not_same : (x : ℕ) (b : Bool) → nat_eq y x ≡ b → not b ≡ true → y ≡ x → ⊥
-  not_same x b e f same = grind arith
+      grind (
+        arith,
+        variables_in-cons,
+        among_joined,
+        or_cases,
+        wider,
+        later.bound,
+        first.bound,
+        argument_escapes a (due_sort places) scope n (fewer between _ later few),
+        arguments_escape rest (after_due places) scope between few,
+      )
 
   without_escapes : (x : ℕ) (xs : List ℕ) → Occurs (without x xs) → (y ≡ x → ⊥) × Occurs xs
   unfolding Occurs
-  without_escapes x xs e = grind (arith, and_parts, among_without, not_same)
+  without_escapes x xs e = grind (arith, and_parts, among_without)
 
   blanks_escape : (count first : ℕ) (f : Form) → Occurs (fv (blanks count first f)) → Occurs (fv f)
       × ((k : ℕ) → first ≤ k → k < first + count → y ≡ max_free + k → ⊥)
@@ -106,23 +92,12 @@ module _ (y : ℕ) (above : max_free ≤ y) where
       let inner = blanks_escape count (suc first) f outer.1 in (
         inner.0,
         λ k h l same. elim
-            (later_or_here first k h) [
+            (cases_lt first k) [
               | inl past ↦ inner.1 k past (omega (arith, l)) same
               | inr is ↦ outer.0
-                  (omega (arith, is, same))
+                  (omega (arith, is, h, same))
             ],
       )
-    where
-      later_or_here : (a k : ℕ) → a ≤ k → (suc a ≤ k) ⊎ (k ≡ a)
-      later_or_here zero zero h = inr refl
-      later_or_here zero (suc k) h = inl (omega arith)
-      later_or_here (suc a) zero h = absurd (omega (arith, h))
-      later_or_here (suc a) (suc k) h =
-          elim (later_or_here a k (omega (arith, h))) [
-            | inl past ↦ inl (omega (arith, past))
-            | inr is ↦ inr
-                (ap suc is)
-          ]
 
   atom_escapes : (found : Option PredOf) (args : List Term) (outer inner : ℕ) (scope : Scope)
       → (Occurs (variables_in args) → InScope scope ⊎ Blank outer inner) → Occurs (fv (atom found args outer inner))
@@ -143,12 +118,13 @@ module _ (y : ℕ) (above : max_free ≤ y) where
   unfolding Occurs
   quantify_escapes q (LastVariable v) n scope f inside e = grind (arith, without_escapes, one_order, scope_one)
   quantify_escapes q (MoreVariables v comma rest) n scope f inner e =
-      let k = length n.bound_sorts in
-      let body = quantify q rest (bound_more None n) f in
-      let parts = without_escapes (max_free + k) (fv body)
-      (sym (ap (λ (xs : List ℕ). among y xs) (one_order q k (name_of v) body)) ∙ e) in
-      scope_one (name_of v) k scope parts.0
-      (quantify_escapes q rest (bound_more None n) (inside (name_of v) k scope) f inner parts.1)
+      grind (
+        arith,
+        without_escapes,
+        one_order,
+        scope_one,
+        quantify_escapes q rest (bound_more None n) (inside (name_of v) (length n.bound_sorts) scope) f inner,
+      )
 
   tree_escapes : (sig : List PredOf) (tree : Tree) (scope : Scope) (n : SymbolTable)
       → length (names_behind sig tree scope n).free ≤ max_free → Occurs (fv (value sig tree scope n)) → InScope scope
@@ -162,35 +138,36 @@ module _ (y : ℕ) (above : max_free ≤ y) where
       let l = term_of (operand_of left scope n) in
       let r = term_of (operand_of right scope first) in
       let few_second = fewer second _ (sides_grow left right token.at scope n) few in
-      let split = sym
-      (ap (λ (vs : List ℕ). among y vs) (variables_in-cons l (r ∷ []))
-      ∙ among_joined y (variable_in l) (variables_in (r ∷ []))) ∙ e in
-      elim (or_cases _ _ split) [
-        | inl here ↦ term_escapes left scope n (fewer first second (term_grows right scope first) few_second) here
-        | inr there ↦ term_escapes right scope first few_second
-            (sym (ap (λ (vs : List ℕ). among y vs) (last_only r)) ∙ there)
-      ]
+      grind (
+        arith,
+        among_joined,
+        variables_in-cons,
+        last_only,
+        or_cases,
+        term_escapes left scope n,
+        few_second,
+        term_escapes right scope first,
+        fewer first second (term_grows right scope first),
+      )
   tree_escapes sig (Enclosed opening body closing) scope n few e = tree_escapes sig body scope n few e
   tree_escapes sig (Denied token body) scope n few e = tree_escapes sig body scope n few e
   tree_escapes sig (Timed token operator interval body) scope n few e =
-      tree_escapes sig body scope n few
-      (sym (ap (λ (xs : List ℕ). among y xs)
-      (moment_order operator (interval_of interval) (value sig body scope n))) ∙ e)
+      grind (arith, moment_order, tree_escapes sig body scope n few)
   tree_escapes sig (Quantified token quantifier variables dot body) scope n few e =
       let between = variables_names variables n in
       quantify_escapes quantifier variables n scope (value sig body (variables_scope variables n scope) between)
       (λ there. tree_escapes sig body (variables_scope variables n scope) between few there) e
   tree_escapes sig (Joined left token operator interval right) scope n few e =
       let between = names_behind sig left scope n in
-      let f = value sig left scope n in
-      let g = value sig right scope between in
-      let split = sym
-      (ap (λ (xs : List ℕ). among y xs) (joined_order operator (interval_of interval) f g)
-      ∙ among_joined y (fv f) (fv g)) ∙ e in
-      elim (or_cases _ _ split) [
-        | inl here ↦ tree_escapes sig left scope n (fewer between _ (tree_grows sig right scope between) few) here
-        | inr there ↦ tree_escapes sig right scope between few there
-      ]
+      grind (
+        arith,
+        joined_order,
+        among_joined,
+        or_cases,
+        tree_escapes sig left scope n,
+        tree_escapes sig right scope between,
+        fewer between _ (tree_grows sig right scope between) few,
+      )
 
   pub none_escapes : (sig : List PredOf) (tree : Tree) (n : SymbolTable)
       → length (names_behind sig tree no_scope n).free ≤ max_free → among y (fv (value sig tree no_scope n)) ≡ true → ⊥
@@ -201,12 +178,8 @@ module _ (y : ℕ) (above : max_free ≤ y) where
 all_free : (xs : List ℕ) → ((y : ℕ) → among y xs ≡ true → is_free y ≡ true) → free_in xs ≡ xs
 all_free [] each = refl
 all_free (x ∷ xs) each =
-    ap (λ (b : Bool). cond b (x ∷ free_in xs) (free_in xs)) (each x (here x (nat_eq x x) (eq-eqb x x refl)))
-    ∙ ap (λ (r : List ℕ). x ∷ r) (all_free xs (λ y e. each y (or_right (nat_eq y x) (among y xs) e)))
-  where
-    here : (z : ℕ) (b : Bool) → b ≡ true → (b || among z xs) ≡ true
-    here z true e = refl
-    here z false e = absurd cc
+    grind
+    (arith, all_free xs (λ y e. each y (or_right (nat_eq y x) (among y xs) e)), each x, eq-eqb x x refl)
 
 -- all free variables of a whole policy are numbered as free ones
 pub only_free : (sig : List PredOf) (tree : Tree) (n : SymbolTable)

@@ -12,16 +12,15 @@ use Rattle.mfotl_parse.specs.declared.fault.PolicyFault.TheVariants.{Syntax, Sor
 use Rattle.mfotl_parse.specs.Causes.{ShowsFault, IsCause, SortsClash, HasNinthVariable, IsLast}
 use Rattle.mfotl_parse.specs.Grammar.{Tree, Fits, spelling, IsFormula, BeginsFormula}
 use Rattle.mfotl_parse.specs.{GrammarLaws.table_clash, Limits.max_free, Meanings.all_names, Mentions.sort_clash}
-use Rattle.mfotl_parse.specs.{SymbolTable.uneven_pair, SymbolTable.clash_or_pair}
+use Rattle.mfotl_parse.specs.{SymbolTable.uneven_pair, SymbolTable.clash_or_pair, Transitions.Transition}
+use Rattle.mfotl_parse.specs.{Transitions.given, Viability.is_whole, Viability.accepts}
 use Rattle.mfotl_parse.specs.Reading.{PolicyOf, transition, step, sorted, ended_at, at_tail}
 use Rattle.mfotl_parse.specs.Shows.{Showing, silent, shown_by}
 use Rattle.mfotl_parse.specs.States.{Stage, Context, SymbolTable, Partial, nothing_read}
-use Rattle.mfotl_parse.specs.Transitions.{Limit, Transition, fault_of, given}
-use Rattle.mfotl_parse.specs.Viability.{if_moved, is_whole, accepts}
 use Rattle.mfotl_parse.proofs.{AcceptedLaw.accepted_formula, FreeNames.all_free, MentionClashes.clashes_agree}
-use Rattle.mfotl_parse.proofs.{TracedTrees.shows_whole, ViabilityLemmas.completes}
+use Rattle.mfotl_parse.proofs.{TracedTrees.shows_whole, ViabilityLemmas.completes, TracedMoves.broken}
+use Rattle.mfotl_parse.proofs.{TracedMoves.trace}
 use Rattle.mfotl_parse.proofs.ReadMoves.{kept_broken, first_broken, accepts_read, read_silent}
-use Rattle.mfotl_parse.proofs.TracedMoves.{broken, traced, trace}
 use Rattle.mfotl_parse.proofs.WholeTrees.{formula_accepted, read_viable, whole_formula, formula_whole, finished_by}
 
 -- ---- a token
@@ -32,29 +31,16 @@ place_behind : (front : List Lexeme) (later : Showing) → slice_get (silent fro
 place_behind [] later = refl
 place_behind (t ∷ front) later = place_behind front later
 
--- a rule's fault is caused as the formula shows
-rule_cause : (sig : List PredOf) (front : List Lexeme) (t : Lexeme) (limit : Limit) (at : ℕ)
-    → ShowsFault sig front t (fault_of limit at) → IsCause sig front t (fault_of limit at)
-rule_cause sig front t limit at s = grind arith
-
 -- what a token shows by its move
 abbrev shown_at : ℕ → Option Transition → List PolicyFault
 shown_at at None = Syntax at ∷ []
 shown_at at (Some m) = broken m.rules
 
-given_shown : (at : ℕ) (o : Option Transition) (fault : PolicyFault) (others : List PolicyFault)
-    → shown_at at o ≡ fault ∷ others → given at o ≡ Err fault
-given_shown at o fault others e = grind (arith, kept_broken)
-
 module _ (sig : List PredOf) (front : List Lexeme) (s : Partial) (t : Lexeme)
     (ran : run (step sig) front nothing_read ≡ Ok s) where
   shown_first : (more : List Lexeme) → slice_get (trace sig (t ∷ more) s) 0 ≡ Some (shown_at t.at (transition sig s t))
   unfolding trace
-  shown_first more = by_move (transition sig s t)
-    where
-      by_move : (o : Option Transition) → slice_get (traced t.at o (trace sig more)) 0 ≡ Some (shown_at t.at o)
-      by_move None = refl
-      by_move (Some m) = refl
+  shown_first more = grind arith
 
   -- the token's place in a formula that begins so
   shown_there : (tree : Tree) (more : List Lexeme) → Fits 1 tree → spelling tree ≡ front ++ t ∷ more
@@ -70,22 +56,20 @@ module _ (sig : List PredOf) (front : List Lexeme) (s : Partial) (t : Lexeme)
   begins_so m e =
       let due = completes sig m.next in (
         due.0,
-        accepted_formula sig (front ++ t ∷ due.0)
-            (accepts_read sig front (t ∷ due.0) nothing_read s ran ∙ ap (λ o. if_moved o (accepts sig due.0)) e
-            ∙ due.1),
+        accepted_formula sig (front ++ t ∷ due.0) (grind (arith, accepts_read sig front (t ∷ due.0) nothing_read s ran)),
       )
 
   -- where it doesn't, none does
   ends_so : transition sig s t ≡ None → BeginsFormula (front ++ t ∷ []) → ⊥
   unfolding accepts
   ends_so e b =
-      let all : accepts sig (front ++ t ∷ b.0) nothing_read ≡ true =
-      ap (λ ts. accepts sig ts nothing_read) (sym (append_assoc front (t ∷ []) b.0))
-      ∙ formula_accepted sig ((front ++ t ∷ []) ++ b.0) b.1 in
-      let none : false ≡ true =
-      ap (λ o. if_moved o (accepts sig b.0)) (sym e) ∙ sym (accepts_read sig front (t ∷ b.0) nothing_read s ran)
-      ∙ all in
-      absurd cc
+      grind (
+        arith,
+        e,
+        append_assoc front (t ∷ []) b.0,
+        formula_accepted sig ((front ++ t ∷ []) ++ b.0) b.1,
+        accepts_read sig front (t ∷ b.0) nothing_read s ran,
+      )
 
   caused : (o : Option Transition) (fault : PolicyFault) → transition sig s t ≡ o → given t.at o ≡ Err fault
       → IsCause sig front t fault
@@ -105,14 +89,14 @@ module _ (sig : List PredOf) (front : List Lexeme) (s : Partial) (t : Lexeme)
             ∙ ap (λ x. Some x) b.shown;
       } in
       subst (IsCause sig front t) b.is
-      (rule_cause sig front t b.limit b.at (subst (ShowsFault sig front t) (sym b.is) shows))
+      (grind arith)
 
   shows : (fault : PolicyFault) → ShowsFault sig front t fault → step sig s t ≡ Err fault
   unfolding step
   shows fault c =
       let here : Some (shown_at t.at (transition sig s t)) ≡ Some (fault ∷ c.others) =
       sym (shown_there c.tree c.more c.fits c.spelled) ∙ c.shown in
-      given_shown t.at (transition sig s t) fault c.others cc
+      (grind (arith, kept_broken))
 
   unviable : (o : Option Transition) (at : ℕ) → transition sig s t ≡ o
       → EndsViability BeginsFormula (λ token. token.at) front t at → given t.at o ≡ Err (Syntax at)
@@ -183,18 +167,27 @@ module _ (sig : List PredOf) (ts : List Lexeme) (s : Partial) (ran : run (step s
 
   clashes : (tail : Tail LexFault) (at : ℕ) → SortsClash sig ts tail at → at_tail tail s ≡ Err (SortClash at)
   clashes tail at c =
-      ap (λ x. at_tail x s) c.whole.ended
-      ∙ finished_by sig ts s ran c.tree c.whole.fits c.whole.spelled c.whole.end
-      ∙ sorted_clash _ (all_names sig c.tree).clash (uneven_pair (all_names sig c.tree)) _ at
-      (clashes_agree sig c.tree ∙ c.clash)
+      grind (
+        arith,
+        finished_by sig ts s ran c.tree c.whole.fits c.whole.spelled c.whole.end,
+        sorted_clash,
+        clashes_agree sig c.tree,
+        c.clash,
+        c.whole.ended,
+      )
 
   ninth : (tail : Tail LexFault) (at : ℕ) → HasNinthVariable sig ts tail at → at_tail tail s ≡ Err (TooManyVariables at)
   ninth tail at c =
-      ap (λ x. at_tail x s) c.whole.ended
-      ∙ finished_by sig ts s ran c.tree c.whole.fits c.whole.spelled c.whole.end
-      ∙ sorted_many _ (all_names sig c.tree).clash (uneven_pair (all_names sig c.tree))
-      (slice_get (all_names sig c.tree).free max_free) at (clashes_agree sig c.tree ∙ c.even)
-      (ap (λ free. ninth_place (slice_get free max_free)) (all_free sig c.tree) ∙ c.ninth)
+      grind (
+        arith,
+        finished_by sig ts s ran c.tree c.whole.fits c.whole.spelled c.whole.end,
+        sorted_many,
+        clashes_agree sig c.tree,
+        c.even,
+        c.whole.ended,
+        all_free sig c.tree,
+        c.ninth,
+      )
 
   last_shows : (tail : Tail LexFault) (fault : PolicyFault) → IsLast sig ts tail fault → at_tail tail s ≡ Err fault
   last_shows tail fault c = grind (arith, too_early, clashes, ninth)

@@ -1,6 +1,6 @@
 -- The columns of a policy that was read are the free variables of its formula, and its occurrences have their sorts.
-use Rattle.std.proofs.Common.{◌≡◌, ℕ, suc, ◌+◌, ◌-◌, ◌<◌, ◌≤◌, Bool, List, [], ◌∷◌, length, map, Option, Some, None}
-use Rattle.std.proofs.Common.{Result, Ok, Err, refl, sym, ap, subst, ◌∙◌, arith, cond}
+use Rattle.std.proofs.Common.{◌≡◌, ℕ, suc, ◌+◌, ◌-◌, ◌<◌, ◌≤◌, List, [], ◌∷◌, length, map, Option, Some, None, Result}
+use Rattle.std.proofs.Common.{Ok, Err, refl, sym, ap, subst, ◌∙◌, arith}
 use Rattle.std.proofs.lemmas.Bool.{lt-ltb}
 use Rattle.std.specs.{Prelude.slice_get, Prelude.IfOk, List.range_with_len}
 use Rattle.mfotl_model.specs.declared.{policy.Policy.Policy, policy.Sort.Sort}
@@ -26,13 +26,12 @@ unfolding vars_of
 columns_from given from [] sorts sized each = refl
 columns_from given from (known ∷ free) [] sized each = absurd (omega (arith, sized))
 columns_from given from (known ∷ free) (sort ∷ sorts) sized each =
-    let here : from + 0 ≡ from = omega arith in
-    let first : sort_or_integer sort ≡ sort_or_integer (given from) =
-    sym (ap sort_or_integer (ap given (sym here) ∙ each 0 (omega arith))) in
-    let later = columns_from given (from + 1) free sorts (omega (arith, sized))
-    (λ k below. ap given (next k) ∙ each (suc k) (omega (arith, below))) in
-    ap (λ (s : Sort). s ∷ map (λ v. v.sort) (vars_of free sorts)) first
-    ∙ ap (λ (ss : List Sort). sort_or_integer (given from) ∷ ss) later
+    grind (
+      arith,
+      each 0 (omega arith),
+      columns_from given (from + 1) free sorts (omega (arith, sized))
+          (λ k below. ap given (next k) ∙ each (suc k) (omega (arith, below))),
+    )
   where
     next : (k : ℕ) → from + 1 + k ≡ from + suc k
     next k = omega arith
@@ -62,14 +61,8 @@ module _ (sig : List PredOf) (tree : Tree) (rules : KeepsRules sig tree) where
       ∙ ap (λ (n : ℕ). map (λ x. sort_or_integer (given_by last x)) (range_with_len 0 n))
       (sym (length_vars_of last.free last.free_sorts))
     where
-      zero_more : (k : ℕ) → 0 + k ≡ k
-      zero_more k = omega arith
-
       low : (k : ℕ) → k < max_free → given_by last (0 + k) ≡ given_at (slice_get last.free_sorts k)
-      low k below =
-          ap (given_by last) (zero_more k)
-          ∙ ap (λ (b : Bool). cond b (given_at (slice_get last.free_sorts k))
-          (given_at (slice_get last.bound_sorts (k - max_free)))) (lt-ltb k max_free below)
+      low k below = grind (arith, lt-ltb k max_free below)
 
   none_open : (name : List ℕ) (k : ℕ) → no_scope name ≡ Some k → k < length (no_names).bound_sorts
   none_open name k e = absurd cc

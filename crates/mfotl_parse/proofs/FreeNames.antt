@@ -5,10 +5,10 @@ use Rattle.mfotl_sig.specs.Preds.{PredOf}
 use Rattle.mfotl_parse.specs.declared.term.Operand.{Operand}
 use Rattle.mfotl_parse.specs.{SortsDue.due_sort, SortsDue.after_due, Limits.max_free, States.SymbolTable}
 use Rattle.mfotl_parse.specs.{States.no_names}
-use Rattle.mfotl_parse.specs.Grammar.{WrittenArgument, WrittenArguments, LastArgument, MoreArguments, WrittenVariables}
-use Rattle.mfotl_parse.specs.Grammar.{LastVariable, MoreVariables, Tree, Truth, BareAtom, AtomOf, Comparison, Enclosed}
-use Rattle.mfotl_parse.specs.Grammar.{Denied, Timed, Quantified, Joined}
-use Rattle.mfotl_parse.specs.Meanings.{Scope, inside, argument_names, arguments_names, variables_names, variables_scope}
+use Rattle.mfotl_parse.specs.Grammar.{WrittenArguments, LastArgument, MoreArguments, WrittenVariables, LastVariable}
+use Rattle.mfotl_parse.specs.Grammar.{MoreVariables, Tree, Truth, BareAtom, AtomOf, Comparison, Enclosed, Denied, Timed}
+use Rattle.mfotl_parse.specs.Grammar.{Quantified, Joined}
+use Rattle.mfotl_parse.specs.Meanings.{Scope, argument_names, arguments_names, variables_names, variables_scope}
 use Rattle.mfotl_parse.specs.Meanings.{names_behind, no_scope, all_names}
 use Rattle.mfotl_parse.specs.Occurrences.{Occurrence, is_among, free_of_argument, free_of_arguments, names_bound}
 use Rattle.mfotl_parse.specs.Occurrences.{free_in, with_first, first_ones, free_variables, name_of}
@@ -27,15 +27,11 @@ compared_free l left_at at r right_at n = grind arith
 abbrev Binds : Scope → List (List ℕ) → Type 0
 Binds scope bound = (name : List ℕ) → is_some (scope name) ≡ is_among name bound
 
-binds_more : (scope : Scope) (bound : List (List ℕ)) (name : List ℕ) (variable : ℕ) → Binds scope bound
-    → Binds (inside name variable scope) (name ∷ bound)
-binds_more scope bound name variable binds other = grind arith
-
 variables_bind : (vs : WrittenVariables) (n : SymbolTable) (scope : Scope) (bound : List (List ℕ)) → Binds scope bound
     → Binds (variables_scope vs n scope) (names_bound vs bound)
-variables_bind (LastVariable v) n scope bound binds = binds_more scope bound (name_of v) _ binds
+variables_bind (LastVariable v) n scope bound binds = grind arith
 variables_bind (MoreVariables v comma rest) n scope bound binds =
-    variables_bind rest (bound_more None n) _ (name_of v ∷ bound) (binds_more scope bound (name_of v) _ binds)
+    variables_bind rest (bound_more None n) _ (name_of v ∷ bound) (grind arith)
 
 pub variables_free : (vs : WrittenVariables) (n : SymbolTable) → (variables_names vs n).free ≡ n.free
 variables_free (LastVariable v) n = refl
@@ -49,16 +45,12 @@ first_both before (one ∷ a) b = first_both (with_first before one) a b
 met_first : (name : List ℕ) (at : ℕ) (n : SymbolTable) → (occurring None name at n).free ≡ with_first n.free (name, at)
 met_first name at n = grind arith
 
-argument_free : (a : WrittenArgument) (sort : Sort) (scope : Scope) (bound : List (List ℕ)) (n : SymbolTable)
-    → Binds scope bound → (argument_names a sort scope n).free ≡ first_ones n.free (free_of_argument a bound)
-argument_free a sort scope bound n binds = grind arith
-
 arguments_free : (xs : WrittenArguments) (sorts : List Sort) (scope : Scope) (bound : List (List ℕ)) (n : SymbolTable)
     → Binds scope bound → (arguments_names xs sorts scope n).free ≡ first_ones n.free (free_of_arguments xs bound)
-arguments_free (LastArgument a) sorts scope bound n binds = argument_free a (due_sort sorts) scope bound n binds
+arguments_free (LastArgument a) sorts scope bound n binds = grind arith
 arguments_free (MoreArguments a comma rest) sorts scope bound n binds =
     arguments_free rest (after_due sorts) scope bound (argument_names a (due_sort sorts) scope n) binds
-    ∙ ap (λ free. first_ones free (free_of_arguments rest bound)) (argument_free a (due_sort sorts) scope bound n binds)
+    ∙ ap (λ free. first_ones free (free_of_arguments rest bound)) (grind arith)
     ∙ sym (first_both n.free (free_of_argument a bound) (free_of_arguments rest bound))
 
 tree_free : (sig : List PredOf) (tree : Tree) (scope : Scope) (bound : List (List ℕ)) (n : SymbolTable)

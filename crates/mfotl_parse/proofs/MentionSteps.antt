@@ -1,10 +1,9 @@
 -- Each step of the reader's symbol table gives to sorts what a mention in the text asks.
 use Rattle.std.proofs.Common.{◌≡◌, ℕ, suc, Bool, true, false, cond, not, List, [], ◌∷◌, ◌++◌, length, Option, Some}
-use Rattle.std.proofs.Common.{None, refl, sym, ap, subst, ◌∙◌, arith}
+use Rattle.std.proofs.Common.{None, refl, sym, ap, ◌∙◌, arith}
 use Rattle.std.proofs.{lemmas.Bool.eq-eqb, lemmas.Bool.eqb-true, lemmas.List.Folds.list_any-append}
 use Rattle.std.proofs.lemmas.List.{append-nil, append_assoc, length-append, length-set}
-use Rattle.std.specs.Prelude.{◌||◌, ◌&&◌, nat_eq, slice_get}
-use Rattle.std.specs.Str.{bytes_eq}
+use Rattle.std.specs.{Prelude.◌||◌, Prelude.slice_get, Str.bytes_eq}
 use Rattle.mfotl_model.specs.declared.policy.Sort.{Sort}
 use Rattle.mfotl_parse.specs.declared.{term.Pair.Pair, term.Variable.Variable}
 use Rattle.mfotl_parse.specs.declared.term.Variable.TheVariants as variables
@@ -12,7 +11,7 @@ use Rattle.mfotl_parse.specs.Mentions.{Binding, Unbound, BoundAs, same_binding, 
 use Rattle.mfotl_parse.specs.Mentions.{asks_other, ask_other, clashes, place_of_mention, first_clash, or_else}
 use Rattle.mfotl_parse.specs.{States.SymbolTable, WellSorted.same_sort}
 use Rattle.mfotl_parse.specs.SymbolTable.{free_place, bound_or_free, with_free, occurring, bound_more, given_at}
-use Rattle.mfotl_parse.specs.SymbolTable.{sort_of, with_sort, clashed, agreed, occurred, require_sort, differ}
+use Rattle.mfotl_parse.specs.SymbolTable.{sort_of, with_sort, agreed, occurred, require_sort, differ}
 use Rattle.mfotl_parse.proofs.NamesOrder.{HasPlace, never_first, same_sorts}
 use Rattle.mfotl_parse.proofs.PlaceLemmas.{place_of_name, stays_found, found_last, same_names, name_is, one_name}
 use Rattle.mfotl_parse.proofs.PlaceLemmas.{none_more, none_past, sort_more, sort_set}
@@ -48,35 +47,8 @@ same_is (BoundAs j) (BoundAs k) e = ap BoundAs (eqb-true j k e)
 set_free : (a d : List ℕ) (k : ℕ) (s : Sort) (n : SymbolTable) → place_of_name d n.free ≡ Some k
     → HasPlace (variables.Free k) n → given_to (Unbound a) (with_sort (variables.Free k) s n)
     ≡ cond (bytes_eq a d) (Some s) (given_to (Unbound a) n)
-set_free a d k s n r within = by_place (place_of_name a n.free) refl
-  where
-    unmet : (x : Bool) → bytes_eq a d ≡ x → place_of_name a n.free ≡ None → None ≡ cond x (Some s) None
-    unmet true e is =
-        let same = ap (λ (name : List ℕ). place_of_name name n.free) (same_names a d e) in
-        let here : None ≡ Some k = sym is ∙ same ∙ r in absurd cc
-    unmet false e is = refl
-
-    apart : (j : ℕ) (y : Bool) → nat_eq j k ≡ y → place_of_name a n.free ≡ Some j → bytes_eq a d ≡ false → y ≡ false
-    apart j true f is e =
-        let same = one_name a d n.free k (is ∙ ap (λ (i : ℕ). Some i) (eqb-true j k f)) r in
-        let here : true ≡ false = sym (name_is d) ∙ ap (λ (x : List ℕ). bytes_eq x d) (sym same) ∙ e in absurd cc
-    apart j false f is e = refl
-
-    test_is : (j : ℕ) (x : Bool) → bytes_eq a d ≡ x → place_of_name a n.free ≡ Some j → nat_eq j k ≡ x
-    test_is j true e is =
-        let same = ap (λ (name : List ℕ). place_of_name name n.free) (same_names a d e) in
-        let here : Some j ≡ Some k = sym is ∙ same ∙ r in
-        let number : j ≡ k = cc in eq-eqb j k number
-    test_is j false e is = apart j (nat_eq j k) refl is e
-
-    by_place : (o : Option ℕ) → place_of_name a n.free ≡ o
-        → place_sort o (with_sort (variables.Free k) s n).free_sorts
-        ≡ cond (bytes_eq a d) (Some s) (place_sort o n.free_sorts)
-    by_place None is = unmet (bytes_eq a d) refl is
-    by_place (Some j) is =
-        sort_set n.free_sorts k s j within
-        ∙ ap (λ (x : Bool). cond x (Some s) (given_at (slice_get n.free_sorts j)))
-        (test_is j (bytes_eq a d) refl is)
+set_free a d k s n r within =
+    grind (arith, same_names a d, name_is d, one_name a d n.free k, sort_set n.free_sorts k s, eqb-true, eq-eqb)
 
 set_given : (c b : Binding) (v : Variable) (s : Sort) (n : SymbolTable) → Refers b v n.free → HasPlace v n
     → given_to c (with_sort v s n) ≡ cond (same_binding c b) (Some s) (given_to c n)
@@ -150,12 +122,6 @@ pub record Follows (before : List SortMention) (count : ℕ) (n : SymbolTable) :
 nothing_more : (b : Bool) → (b || (false || false)) ≡ b
 nothing_more b = grind arith
 
-once_more : (b : Bool) → (b || (b || false)) ≡ b
-once_more b = grind arith
-
-only_later : (b : Bool) → (false || (b || false)) ≡ b
-only_later b = grind arith
-
 module _ (before : List SortMention) (count : ℕ) (n : SymbolTable) (f : Follows before count n) where
   clash_is : (m : SortMention) (x : Bool) → (n.clash ≡ None → clashes before m ≡ x)
       → or_else n.clash (cond x (Some (place_of_mention m)) None) ≡ first_clash [] (before ++ m ∷ [])
@@ -167,27 +133,26 @@ module _ (before : List SortMention) (count : ℕ) (n : SymbolTable) (f : Follow
   pairs_same : (m : SortMention) → PairsOf n.free (m ∷ []) [] → PairsOf n.free (before ++ m ∷ []) n.pairs
   pairs_same m none = grind (arith, append-nil n.pairs, pairs_append n.free before (m ∷ []) n.pairs)
 
-  -- nothing changes
-  kept : (m : SortMention) → PairsOf n.free (m ∷ []) [] → (n.clash ≡ None → clashes before m ≡ false)
-      → (n.clash ≡ None → (c : Binding) (t : Sort) → (differ (given_to c n) (Some t) || (asks_other c t m || false))
-      ≡ differ (given_to c n) (Some t)) → Follows (before ++ m ∷ []) count n
-  kept m none test same = grind (arith, same_clash n.clash, clash_is m false test, list_any-append, pairs_same m none)
-
-  -- it clashes
-  clashed_by : (m : SortMention) → PairsOf n.free (m ∷ []) [] → (n.clash ≡ None → clashes before m ≡ true)
-      → Follows (before ++ m ∷ []) count (clashed (place_of_mention m) n)
-  clashed_by m none test = grind (arith, clash_is m true test, never_first, pairs_same m none)
+  -- it asks this sort of what has that one
+  matched : (l s : Sort) (m : SortMention) → PairsOf n.free (m ∷ []) []
+      → (n.clash ≡ None → clashes before m ≡ not (same_sort l s))
+      → (same_sort l s ≡ true → n.clash ≡ None → (c : Binding) (t : Sort)
+      → (differ (given_to c n) (Some t) || (asks_other c t m || false)) ≡ differ (given_to c n) (Some t))
+      → Follows (before ++ m ∷ []) count (agreed l (place_of_mention m) s n)
+  matched l s m none test same =
+      grind (
+        arith,
+        same_clash n.clash,
+        clash_is m (not (same_sort l s)) test,
+        list_any-append,
+        never_first,
+        pairs_same m none,
+      )
 
   pub stands : (given : Sort) (at : ℕ) (sort : Sort)
       → Follows (before ++ Stands given at sort ∷ []) count (agreed given at sort n)
-  stands given at sort = by_same (same_sort given sort) refl
-    where
-      by_same : (x : Bool) → same_sort given sort ≡ x
-          → Follows (before ++ Stands given at sort ∷ []) count (cond x n (clashed at n))
-      by_same true e =
-          kept (Stands given at sort) refl (λ none. ap not e)
-          (λ none c t. nothing_more (differ (given_to c n) (Some t)))
-      by_same false e = clashed_by (Stands given at sort) refl (λ none. ap not e)
+  stands given at sort =
+      matched given sort (Stands given at sort) refl (λ none. refl) (λ e none c t. nothing_more (differ (given_to c n) (Some t)))
 
   -- a variable that had no sort
   first_sort : (b : Binding) (at : ℕ) (s : Sort) (later : ℕ) (m : SymbolTable) → given_to b n ≡ None
@@ -197,73 +162,32 @@ module _ (before : List SortMention) (count : ℕ) (n : SymbolTable) (f : Follow
   first_sort b at s later m none given counted sized free clash pairs = record {
     counted = counted;
     sized = sized ∙ f.sized ∙ ap length (sym free);
-    clash = clash ∙ same_clash n.clash
-        ∙ clash_is (Occurs b at s) false
-        (λ e. f.sorts e b s ∙ ap (λ (o : Option Sort). differ o (Some s)) none);
-    sorts = λ e c t. list_any-append (asks_other c t) before (Occurs b at s ∷ [])
-        ∙ ap (λ (x : Bool). x || (asks_other c t (Occurs b at s) || false)) (f.sorts (sym clash ∙ e) c t)
-        ∙ by_test c t (same_binding c b) refl
-        ∙ ap (λ (o : Option Sort). differ o (Some t)) (sym (given c));
-    pairs = subst (λ (ps : List Pair). PairsOf m.free (before ++ Occurs b at s ∷ []) ps) (sym pairs)
-        (subst (λ (fs : List (List ℕ × ℕ)). PairsOf fs (before ++ Occurs b at s ∷ []) n.pairs) (sym free)
-        (pairs_same (Occurs b at s) refl));
+    clash = clash ∙ same_clash n.clash ∙ clash_is (Occurs b at s) false (λ e. grind (arith, f.sorts e b s, none));
+    sorts = λ e c t. grind (arith, list_any-append, f.sorts (sym clash ∙ e) c t, same_is c b, given c, none);
+    pairs = grind (arith, pairs, free, pairs_same (Occurs b at s) refl);
   }
-    where
-      by_test : (c : Binding) (t : Sort) (x : Bool) → same_binding c b ≡ x
-          → (differ (given_to c n) (Some t) || ((x && not (same_sort s t)) || false))
-          ≡ differ (cond x (Some s) (given_to c n)) (Some t)
-      by_test c t true e =
-          ap (λ (o : Option Sort). differ o (Some t) || (not (same_sort s t) || false))
-          (ap (λ (d : Binding). given_to d n) (same_is c b e) ∙ none)
-          ∙ only_later (not (same_sort s t))
-      by_test c t false e = nothing_more (differ (given_to c n) (Some t))
 
   pub occurs : (b : Binding) (v : Variable) (at : ℕ) (s : Sort) → Refers b v n.free → HasPlace v n
       → Follows (before ++ Occurs b at s ∷ []) count (require_sort v at s n)
   occurs b v at s r within = by_given (sort_of v n) (refers_sort b v n r)
     where
-      by_same : (l : Sort) (x : Bool) → same_sort l s ≡ x → given_to b n ≡ Some l
-          → Follows (before ++ Occurs b at s ∷ []) count (cond x n (clashed at n))
-      by_same l true e is =
-          kept (Occurs b at s) refl
-          (λ none. f.sorts none b s ∙ ap (λ (o : Option Sort). differ o (Some s)) is ∙ ap not e)
-          (λ none c t. by_test c t (same_binding c b) refl)
-        where
-          by_test : (c : Binding) (t : Sort) (y : Bool) → same_binding c b ≡ y
-              → (differ (given_to c n) (Some t) || ((y && not (same_sort s t)) || false))
-              ≡ differ (given_to c n) (Some t)
-          by_test c t true g =
-              let has : given_to c n ≡ Some s = ap (λ (d : Binding). given_to d n) (same_is c b g) ∙ is
-              ∙ ap (λ (q : Sort). Some q) (same_sorts l s e) in
-              ap (λ (o : Option Sort). differ o (Some t) || (not (same_sort s t) || false)) has
-              ∙ once_more (not (same_sort s t)) ∙ ap (λ (o : Option Sort). differ o (Some t)) (sym has)
-          by_test c t false g = nothing_more (differ (given_to c n) (Some t))
-      by_same l false e is =
-          clashed_by (Occurs b at s) refl
-          (λ none. f.sorts none b s ∙ ap (λ (o : Option Sort). differ o (Some s)) is ∙ ap not e)
-
       by_given : (given : Option Sort) → given_to b n ≡ given
           → Follows (before ++ Occurs b at s ∷ []) count (occurred given v at s n)
       by_given None is =
           let o = only_sorts v s n in
           first_sort b at s count (with_sort v s n) is (λ c. set_given c b v s n r within) (o.bound ∙ f.counted)
           o.sized o.free o.clash o.pairs
-      by_given (Some l) is = by_same l (same_sort l s) refl is
+      by_given (Some l) is =
+          matched l s (Occurs b at s) refl (λ none. f.sorts none b s ∙ ap (λ (o : Option Sort). differ o (Some s)) is)
+          (λ e none c t. grind (arith, same_is c b, same_sorts l s e))
 
   -- a `_`
   pub blank : (at : ℕ) (s : Sort)
       → Follows (before ++ Occurs (BoundAs count) at s ∷ []) (suc count) (bound_more (Some s) n)
   blank at s =
       first_sort (BoundAs count) at s (suc count) (bound_more (Some s) n)
-      (none_past n.bound_sorts count (omega (arith, f.counted))) given
+      (none_past n.bound_sorts count (omega (arith, f.counted))) (λ c. grind (arith, sort_more, f.counted))
       (omega (arith, f.counted, length-append n.bound_sorts (Some s ∷ []))) refl refl refl refl
-    where
-      given : (c : Binding) → given_to c (bound_more (Some s) n)
-          ≡ cond (same_binding c (BoundAs count)) (Some s) (given_to c n)
-      given (Unbound name) = refl
-      given (BoundAs k) =
-          sort_more n.bound_sorts s k
-          ∙ ap (λ (j : ℕ). cond (nat_eq k j) (Some s) (given_at (slice_get n.bound_sorts k))) f.counted
 
   pub compares : (left right : Binding) (v w : Variable) (at : ℕ) → Refers left v n.free → Refers right w n.free
       → Follows (before ++ Compares left right at ∷ []) count
@@ -275,16 +199,9 @@ module _ (before : List SortMention) (count : ℕ) (n : SymbolTable) (f : Follow
         counted = f.counted;
         sized = f.sized;
         clash = same_clash n.clash ∙ clash_is (Compares left right at) false (λ e. refl);
-        sorts = λ e c t. list_any-append (asks_other c t) before (Compares left right at ∷ [])
-            ∙ ap (λ (b : Bool). b || (false || false)) (f.sorts e c t)
-            ∙ nothing_more (differ (given_to c n) (Some t))
-            ∙ ap (λ (o : Option Sort). differ o (Some t)) (given pair c);
+        sorts = λ e c t. grind (arith, list_any-append, f.sorts e c t);
         pairs = pairs_append n.free before (Compares left right at ∷ []) n.pairs (pair ∷ []) f.pairs (is, refl);
       }
-    where
-      given : (pair : Pair) (c : Binding) → given_to c n ≡ given_to c (record n { pairs = n.pairs ++ pair ∷ [] })
-      given pair (Unbound name) = refl
-      given pair (BoundAs k) = refl
 
   -- a quantified variable
   pub bound : Follows before (suc count) (bound_more None n)
@@ -292,13 +209,9 @@ module _ (before : List SortMention) (count : ℕ) (n : SymbolTable) (f : Follow
     counted = omega (arith, f.counted, length-append n.bound_sorts (None ∷ []));
     sized = f.sized;
     clash = f.clash;
-    sorts = λ e b s. f.sorts e b s ∙ ap (λ (o : Option Sort). differ o (Some s)) (sym (given b));
+    sorts = λ e b s. grind (arith, f.sorts e b s, none_more);
     pairs = f.pairs;
   }
-    where
-      given : (c : Binding) → given_to c (bound_more None n) ≡ given_to c n
-      given (Unbound name) = refl
-      given (BoundAs k) = none_more n.bound_sorts k
 
 -- ---- names
 
@@ -325,25 +238,8 @@ pub met_follows : (before : List SortMention) (count : ℕ) (n : SymbolTable) (b
 met_follows before count n (Some k) name at f = f
 met_follows before count n None name at f = by_place (free_place name n) refl
   where
-    at_place : (x : Bool) → place_sort (cond x (Some (length n.free)) None) (n.free_sorts ++ None ∷ []) ≡ None
-    at_place true =
-        none_more n.free_sorts (length n.free) ∙ none_past n.free_sorts (length n.free) (omega (arith, f.sized))
-    at_place false = refl
-
-    by_name : (other : List ℕ) (o : Option ℕ) → place_of_name other n.free ≡ o → free_place name n ≡ None
-        → given_to (Unbound other) (with_free None name at n) ≡ place_sort o n.free_sorts
-    by_name other None is e =
-        ap (λ (p : Option ℕ). place_sort p (n.free_sorts ++ None ∷ []))
-        (found_last (λ (known : List ℕ × ℕ). bytes_eq other known.0) n.free (name, at) is)
-        ∙ at_place (bytes_eq other name)
-    by_name other (Some k) is e =
-        ap (λ (p : Option ℕ). place_sort p (n.free_sorts ++ None ∷ []))
-        (stays_found (λ (known : List ℕ × ℕ). bytes_eq other known.0) n.free (name, at) k is)
-        ∙ none_more n.free_sorts k
-
     given : (c : Binding) → free_place name n ≡ None → given_to c (with_free None name at n) ≡ given_to c n
-    given (Unbound other) e = by_name other (place_of_name other n.free) refl e
-    given (BoundAs k) e = refl
+    given c e = grind (arith, found_last, stays_found, none_more, none_past, f.sized)
 
     by_place : (place : Option ℕ) → free_place name n ≡ place → Follows before count (with_free place name at n)
     by_place (Some k) e = f

@@ -11,15 +11,11 @@ prefix_len_map : {A B : Type 0} (p : B → Bool) (f : A → B) (xs : List A) →
 prefix_len_map p f [] = refl
 prefix_len_map p f (x ∷ xs) = ap (λ (n : ℕ). cond (p (f x)) (1 + n) 0) (prefix_len_map p f xs)
 
-position_map : {A B : Type 0} (p : B → Bool) (f : A → B) (xs : List A) → position p (map f xs)
-    ≡ position (λ x. p (f x)) xs
-position_map p f xs = simp (ltb, prefix_len_map, length-map)
-
 -- the place of a key is that of its name
 pub place_of_key : (name : List ℕ) (entries : List (Vec ℕ × ℕ))
     → position (λ (k : Vec ℕ). bytes_eq name k.items) (map (λ e. e.0) entries)
     ≡ position (λ (known : List ℕ × ℕ). bytes_eq name known.0) (map known_of entries)
-place_of_key name entries = simp (position_map)
+place_of_key name entries = simp (ltb, prefix_len_map, length-map)
 
 -- one more free variable of those in the map
 pub known_more : (entries : List (Vec ℕ × ℕ)) (key : Vec ℕ) (name : List ℕ) (at : ℕ) → key.items ≡ name

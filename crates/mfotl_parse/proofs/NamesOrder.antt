@@ -1,8 +1,9 @@
 -- How the names that were met grow: what was given stays.
-use Rattle.std.proofs.Common.{◌≡◌, ℕ, zero, suc, ◌<◌, ◌≤◌, Bool, true, cond, List, [], ◌∷◌, ◌++◌, length, Option, Some}
-use Rattle.std.proofs.Common.{None, refl, sym, arith}
+use Rattle.std.proofs.Common.{◌≡◌, ℕ, zero, suc, ◌<◌, ◌≤◌, true, List, [], ◌∷◌, ◌++◌, length, Option, Some, None, refl}
+use Rattle.std.proofs.Common.{sym, arith}
 use Rattle.std.proofs.lemmas.List.{append-nil, append_assoc, length-append, length-set}
-use Rattle.std.proofs.{lemmas.List.Quantifiers.position-Some, lemmas.Grind.common_steps}
+use Rattle.mfotl_parse.proofs.PlaceLemmas.{sort_more, sort_set}
+use Rattle.std.proofs.{lemmas.Bool.eq-eqb, lemmas.List.Quantifiers.position-Some, lemmas.Grind.common_steps}
 use Rattle.std.specs.{Prelude.slice_get, Prelude.slice_set, Str.bytes_eq}
 use Rattle.mfotl_model.specs.declared.policy.Sort.{Sort}
 use Rattle.mfotl_sig.specs.Preds.{PredOf}
@@ -19,8 +20,8 @@ use Rattle.mfotl_parse.specs.Meanings.{Scope, inside, operand_of, term_names, ar
 use Rattle.mfotl_parse.specs.Meanings.{variables_names, variables_scope, names_behind}
 use Rattle.mfotl_parse.specs.Occurrences.{name_of, place_of_variable, place_of}
 use Rattle.mfotl_parse.specs.SymbolTable.{free_place, bound_or_free, occurring, bound_more, given_at, sort_of}
-use Rattle.mfotl_parse.specs.SymbolTable.{with_sort, earlier_clash, clashed, agreed, occurred, require_sort}
-use Rattle.mfotl_parse.specs.SymbolTable.{constrain_term, with_comparison, inner_or}
+use Rattle.mfotl_parse.specs.SymbolTable.{with_sort, earlier_clash, agreed, require_sort, constrain_term}
+use Rattle.mfotl_parse.specs.SymbolTable.{with_comparison}
 
 -- these names came to be those: what was given stays, and what was met
 pub record Grows (n m : SymbolTable) : Type 0 where
@@ -63,13 +64,10 @@ given_set (y ∷ xs) (suc k) (suc j) x s none e = given_set xs k j x s none e
 
 given_there : (xs : List (Option Sort)) (k : ℕ) (s : Sort) → k < length xs
     → given_at (slice_get (slice_set xs k (Some s)) k) ≡ Some s
-given_there [] k s within = absurd (omega (arith, within))
-given_there (y ∷ xs) zero s within = refl
-given_there (y ∷ xs) (suc k) s within = given_there xs k s (omega (arith, within))
+given_there xs k s within = grind (arith, sort_set xs k s k within, eq-eqb)
 
 pub given_last : (xs : List (Option Sort)) (s : Sort) → given_at (slice_get (xs ++ Some s ∷ []) (length xs)) ≡ Some s
-given_last [] s = refl
-given_last (y ∷ xs) s = given_last xs s
+given_last xs s = grind (arith, sort_more xs s (length xs), eq-eqb)
 
 -- ---- each step
 
@@ -85,18 +83,11 @@ sort_grows v sort n none = grind (arith, grows_by, length-set, append-nil, given
 pub never_first : (before : Option ℕ) (at : ℕ) → earlier_clash before at ≡ None → ⊥
 never_first before at e = grind arith
 
-clash_grows : (at : ℕ) (n : SymbolTable) → Grows n (clashed at n)
-clash_grows at n = grind (arith, grows_by, never_first, append-nil)
-
 agreed_grows : (before : Sort) (at : ℕ) (sort : Sort) (n : SymbolTable) → Grows n (agreed before at sort n)
-agreed_grows before at sort n = grind (arith, grows_not, clash_grows)
+agreed_grows before at sort n = grind (arith, grows_not, grows_by, never_first, append-nil)
 
 occurs_grows : (v : Variable) (at : ℕ) (sort : Sort) (n : SymbolTable) → Grows n (require_sort v at sort n)
-occurs_grows v at sort n = by_given (sort_of v n) refl
-  where
-    by_given : (given : Option Sort) → sort_of v n ≡ given → Grows n (occurred given v at sort n)
-    by_given None e = sort_grows v sort n e
-    by_given (Some before) e = agreed_grows before at sort n
+occurs_grows v at sort n = grind (arith, sort_grows v sort n, agreed_grows)
 
 pub placed_grows : (o : Operand) (at : ℕ) (sort : Sort) (n : SymbolTable) → Grows n (constrain_term o at sort n)
 placed_grows (operands.Variable v) at sort n = occurs_grows v at sort n
@@ -179,22 +170,12 @@ Inside scope n = (name : List ℕ) (k : ℕ) → scope name ≡ Some k → k < l
 pub inside_grows : (scope : Scope) (n m : SymbolTable) → Inside scope n → Grows n m → Inside scope m
 inside_grows scope n m inside g name k e = omega (arith, inside name k e, g.bound)
 
-inner_one : (b : Bool) (variable : ℕ) (outer : Option ℕ) (n : SymbolTable) (k : ℕ)
-    → ((j : ℕ) → outer ≡ Some j → j < length n.bound_sorts) → variable ≡ length n.bound_sorts
-    → inner_or (cond b (Some variable) None) outer ≡ Some k → k < suc (length n.bound_sorts)
-inner_one b variable outer n k within is e = grind arith
-
--- a quantifier's variable is bound inside it
-inside_one : (name : List ℕ) (scope : Scope) (n : SymbolTable) → Inside scope n
-    → Inside (inside name (length n.bound_sorts) scope) (bound_more None n)
-inside_one bound scope n within name k e = grind (arith, common_steps, inner_one, bound_grows)
-
 pub inside_all : (vs : WrittenVariables) (scope : Scope) (n : SymbolTable) → Inside scope n
     → Inside (variables_scope vs n scope) (variables_names vs n)
-inside_all (LastVariable v) scope n within = inside_one (name_of v) scope n within
+inside_all (LastVariable v) scope n within = grind (arith, common_steps, bound_grows)
 inside_all (MoreVariables v comma rest) scope n within =
     inside_all rest (inside (name_of v) (length n.bound_sorts) scope) (bound_more None n)
-    (inside_one (name_of v) scope n within)
+    (grind (arith, common_steps, bound_grows))
 
 pub found_within : (name : List ℕ) (n : SymbolTable) (place : ℕ) → free_place name n ≡ Some place
     → place < length n.free
@@ -213,9 +194,6 @@ pub agreed_sort : (before : Sort) (at : ℕ) (sort : Sort) (n : SymbolTable) →
     → before ≡ sort
 agreed_sort before at sort n e = grind arith
 
-sort_there : (v : Variable) (sort : Sort) (n : SymbolTable) → HasPlace v n → sort_of v (with_sort v sort n) ≡ Some sort
-sort_there v sort n within = grind (arith, given_there)
-
 pub occurs_sort : (v : Variable) (at : ℕ) (sort : Sort) (n : SymbolTable) → HasPlace v n
     → (require_sort v at sort n).clash ≡ None → sort_of v (require_sort v at sort n) ≡ Some sort
-occurs_sort v at sort n within e = grind (arith, sort_there, agreed_grows, agreed_sort)
+occurs_sort v at sort n within e = grind (arith, given_there, agreed_grows, agreed_sort)

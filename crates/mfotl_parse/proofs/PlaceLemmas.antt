@@ -1,6 +1,6 @@
 -- The place of a name in a list that grows at its end, and the sorts at places.
-use Rattle.std.proofs.Common.{◌≡◌, ℕ, zero, suc, ◌<◌, ◌≤◌, Bool, true, false, cond, List, [], ◌∷◌, ◌++◌, length}
-use Rattle.std.proofs.Common.{Option, Some, None, refl, sym, ap, ◌∙◌, arith}
+use Rattle.std.proofs.Common.{◌≡◌, ℕ, zero, suc, ◌<◌, ◌≤◌, Bool, true, cond, List, [], ◌∷◌, ◌++◌, length, Option, Some}
+use Rattle.std.proofs.Common.{None, refl, sym, ap, ◌∙◌, arith}
 use Rattle.std.proofs.Math.Dec.{eqb-suc-zero, eqb-zero-suc, eqb-suc-suc}
 use Rattle.std.proofs.{lemmas.List.Quantifiers.position-Some, lemmas.Option.slice_get_past}
 use Rattle.std.proofs.{lemmas.Slice.Eq.bytes_eq-Decides, lemmas.Grind.common_steps}
@@ -22,25 +22,7 @@ stays_found p xs x k e = grind (arith, common_steps, position_cons)
 pub found_last : {X : Type 0} (p : X → Bool) (xs : List X) (x : X) → position p xs ≡ None
     → position p (xs ++ x ∷ []) ≡ cond (p x) (Some (length xs)) None
 found_last p [] x e = position_cons p x []
-found_last p (y ∷ xs) x e =
-    position_cons p y (xs ++ x ∷ [])
-    ∙ by_test (λ is. found_last p xs x is) (p y) (sym (position_cons p y xs) ∙ e)
-  where
-    suc_of : (b : Bool) → option_map suc (cond b (Some (length xs)) None) ≡ cond b (Some (suc (length xs))) None
-    suc_of true = refl
-    suc_of false = refl
-
-    by_rest : (position p xs ≡ None → position p (xs ++ x ∷ []) ≡ cond (p x) (Some (length xs)) None)
-        → (o : Option ℕ) → position p xs ≡ o → option_map suc o ≡ None
-        → option_map suc (position p (xs ++ x ∷ [])) ≡ cond (p x) (Some (suc (length xs))) None
-    by_rest later None is f = ap (option_map suc) (later is) ∙ suc_of (p x)
-    by_rest later (Some j) is f = absurd cc
-
-    by_test : (position p xs ≡ None → position p (xs ++ x ∷ []) ≡ cond (p x) (Some (length xs)) None) → (b : Bool)
-        → cond b (Some 0) (option_map suc (position p xs)) ≡ None
-        → cond b (Some 0) (option_map suc (position p (xs ++ x ∷ []))) ≡ cond (p x) (Some (suc (length xs))) None
-    by_test later true f = absurd cc
-    by_test later false f = by_rest later (position p xs) refl f
+found_last p (y ∷ xs) x e = grind (arith, position_cons, found_last p xs x)
 
 -- ---- names
 

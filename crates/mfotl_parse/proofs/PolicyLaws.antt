@@ -109,11 +109,14 @@ spelled_is_read sig bytes policy v =
     let there = at_place (AfterOperand t.form) t.stack (0 + node_count v.tree) (all_names sig v.tree) in
     let ran = ap (λ ts. run (step sig) ts nothing_read) v.spelled
     ∙ moves_read sig (spelling v.tree) nothing_read there t.rules t.reached kept in
-    ap (λ r. r >>= λ p. at_tail x.tail p) ran
-    ∙ ap (λ tail. at_tail tail there) v.whole
-    ∙ finished_by sig x.list there ran v.tree v.fits v.spelled (length bytes)
-    ∙ finishes sig v.tree v.rules
-    ∙ ap (λ r. Ok r) (sym v.value)
+    grind (
+      arith,
+      ran,
+      v.whole,
+      finished_by sig x.list there ran v.tree v.fits v.spelled (length bytes),
+      finishes sig v.tree v.rules,
+      v.value,
+    )
 
 pub one_answer : OneAnswer
 one_answer sig =
@@ -172,8 +175,7 @@ module _ (sig : List PredOf) (ts : List Lexeme) where
         more = f.0;
         spelled = sym f.1.2;
         later = trace sig f.0 p;
-        shown = sym (shows_whole sig f.1.0 f.1.1) ∙ ap (λ us. trace sig us nothing_read) (sym f.1.2)
-            ∙ read_silent sig ts f.0 nothing_read p ran;
+        shown = grind (arith, shows_whole sig f.1.0 f.1.1, f.1.2, read_silent sig ts f.0 nothing_read p ran);
       }
 
 pub silent_are_read : SilentAreRead

@@ -5,8 +5,7 @@ use Rattle.mfotl_lex.specs.{FirstFault.run, Lexemes.Lexeme}
 use Rattle.mfotl_lex.proofs.FirstFaultLaws.{bind_ok, run_none, run_token}
 use Rattle.mfotl_sig.specs.Preds.{PredOf}
 use Rattle.mfotl_parse.specs.declared.fault.PolicyFault.{PolicyFault}
-use Rattle.mfotl_parse.specs.{Reading.transition, Reading.step, States.Partial}
-use Rattle.mfotl_parse.specs.Shows.{Showing, silent, if_broken}
+use Rattle.mfotl_parse.specs.{Reading.transition, Reading.step, States.Partial, Shows.Showing, Shows.silent}
 use Rattle.mfotl_parse.specs.Transitions.{Limit, Rule, Transition, goes, fault_of, kept, given}
 use Rattle.mfotl_parse.specs.Viability.{if_moved, accepts, goes_through}
 use Rattle.mfotl_parse.proofs.SpelledMoves.{moves, moves_nothing, moves_first, moves_cons, AreKept, kept_both}
@@ -51,10 +50,6 @@ pub first_broken : (rules : List Rule) (next : Partial) (fault : PolicyFault) �
 first_broken [] next fault e = absurd cc
 first_broken (rule ∷ rules) next fault e = by_broken rule.broken refl (first_broken rules next fault) e
   where
-    shows : (b : Bool) → rule.broken ≡ b
-        → broken (rule ∷ rules) ≡ if_broken b (fault_of rule.limit rule.at) (broken rules)
-    shows b is = ap (λ x. if_broken x (fault_of rule.limit rule.at) (broken rules)) is
-
     by_broken : (b : Bool) → rule.broken ≡ b → (kept rules next ≡ Err fault → BrokenFirst rules fault)
         → cond b (Err (fault_of rule.limit rule.at)) (kept rules next) ≡ Err fault → BrokenFirst (rule ∷ rules) fault
     by_broken true is later f =
@@ -64,11 +59,11 @@ first_broken (rule ∷ rules) next fault e = by_broken rule.broken refl (first_b
           at = rule.at;
           is = one;
           others = broken rules;
-          shown = shows true is ∙ ap (λ x. x ∷ broken rules) one;
+          shown = grind (arith, broken, is, one);
         }
     by_broken false is later f =
         let b = later f in
-        record { limit = b.limit; at = b.at; is = b.is; others = b.others; shown = shows false is ∙ b.shown }
+        record { limit = b.limit; at = b.at; is = b.is; others = b.others; shown = grind (arith, broken, is, b.shown) }
 
 module _ (sig : List PredOf) where
   -- ---- one token
@@ -188,10 +183,4 @@ module _ (sig : List PredOf) where
       → goes_through sig ts p ≡ true
   unfolding goes_through accepts
   goes_on_front [] more p ends = refl
-  goes_on_front (t ∷ ts) more p ends = by_move (transition sig p t) (λ n so. goes_on_front ts more n so) ends
-    where
-      by_move : (m : Option Transition)
-          → ((n : Partial) → accepts sig (ts ++ more) n ≡ true → goes_through sig ts n ≡ true)
-          → if_moved m (accepts sig (ts ++ more)) ≡ true → if_moved m (goes_through sig ts) ≡ true
-      by_move None further so = absurd cc
-      by_move (Some m) further so = further m.next so
+  goes_on_front (t ∷ ts) more p ends = grind (arith, goes_on_front ts more)

@@ -1,7 +1,7 @@
 -- Each occurrence in a policy that was read has the sort of its variable.
 use Rattle.std.proofs.Common.{◌≡◌, ℕ, zero, suc, ◌-◌, ◌<◌, ◌≤◌, Bool, true, false, cond, not, List, [], ◌∷◌, ◌++◌}
 use Rattle.std.proofs.Common.{length, Option, Some, None, sym, ◌∙◌, arith}
-use Rattle.std.proofs.lemmas.List.{append_assoc}
+use Rattle.std.proofs.{lemmas.List.append_assoc, lemmas.List.Folds.find-append}
 use Rattle.std.specs.Prelude.{slice_get, find, nat_lt, Contains}
 use Rattle.mfotl_model.specs.declared.{interval.Interval.Interval, policy.Sort.Sort}
 use Rattle.mfotl_model.specs.declared.policy.Sort.TheVariants as sorts
@@ -54,13 +54,7 @@ found_known {X = X} p (y ∷ ys) x e = by_test (p y) (λ f. found_known p ys x f
 
 none_passes : {X : Type 0} (p : X → Bool) (xs : List X) (y : X) (ys : List X) → find p (xs ++ y ∷ ys) ≡ None → p y
     ≡ false
-none_passes p [] y ys e = grind arith
-none_passes p (x ∷ xs) y ys e = by_test (p x) (λ f. none_passes p xs y ys f) e
-  where
-    by_test : (b : Bool) → (find p (xs ++ y ∷ ys) ≡ None → p y ≡ false) → cond b (Some x) (find p (xs ++ y ∷ ys))
-        ≡ None → p y ≡ false
-    by_test true later f = absurd cc
-    by_test false later f = later f
+none_passes p xs y ys e = grind (arith, find-append)
 
 even_sorts : (s t : Sort) → not (same_sort s t) ≡ false → s ≡ t
 even_sorts s t e = grind arith

@@ -9,8 +9,8 @@ use Rattle.mfotl_sig.specs.Preds.{PredOf}
 use Rattle.mfotl_parse.specs.declared.{class.Class.Class, class.Operator.Operator, term.Side.Side}
 use Rattle.mfotl_parse.specs.declared.class.Class.TheVariants as classes
 use Rattle.mfotl_parse.specs.declared.term.Operand.TheVariants as operands
-use Rattle.mfotl_parse.specs.{Classes.class_of, Intervals.any_distance, Operands.operand_move, Operands.fresh_move}
-use Rattle.mfotl_parse.specs.{Lookahead.maybe_move, Reading.transition, Limits.max_levels}
+use Rattle.mfotl_parse.specs.{Classes.class_of, Intervals.any_distance, Operands.operand_move, Lookahead.maybe_move}
+use Rattle.mfotl_parse.specs.{Reading.transition, Limits.max_levels}
 use Rattle.mfotl_parse.specs.Transitions.{Rule, Transition, goes, first_keeps, within_depth, within_nodes}
 use Rattle.mfotl_parse.specs.Operators.{joined_move, enclosed_move, around, deepening, now_behind}
 use Rattle.mfotl_parse.specs.Reduction.{Reduced, reduce, hold, closed, operator_form}
@@ -127,22 +127,15 @@ module _ (sig : List PredOf) where
       let there : reduce (precedence o) l.form l.stack
       ≡ record { form = v; stack = base } = l.reduces (precedence o) apart
       ∙ reduce_here (precedence o) v base loose in
-      let whole : Takes sig
-      (at_place (now_behind (is_timed o)) (Left o any_distance v ∷ base) (suc nodes) names) rs base edge
-      (operator_form o i v w) more others behind =
-      takes_closed _ rs (Left o i v) base edge w more others behind tight r in
       let rules : List Rule = deepening (deepens o) t.at base (within_nodes t.at nodes ∷ []) in
-      let front : moves sig (ls ++ t ∷ []) p
-      ≡ goes (l.rules ++ rules)
-      (at_place (now_behind (is_timed o)) (Left o any_distance v ∷ base) (suc nodes) names) =
-      moves_both sig ls (t ∷ []) p _ _ l.rules rules l.reached
-      (moves_one sig t _ _ rules (joins l.form l.stack base v nodes names o t class there)) in
       rw (← append_assoc ls (t ∷ []) rs)
-      (takes_behind p _ (ls ++ t ∷ []) rs base edge (operator_form o i v w) more others behind all
-      (l.rules ++ rules) front
+      (takes_behind p _ (ls ++ t ∷ []) rs base edge (operator_form o i v w) more others behind all (l.rules ++ rules)
+      (moves_both sig ls (t ∷ []) p _ _ l.rules rules l.reached
+      (moves_one sig t _ _ rules (joins l.form l.stack base v nodes names o t class there)))
       (λ a. kept_both l.rules rules (l.kept.0 (b a)) (k a)) h
       (λ d a. opens d (kept_back l.rules rules a))
-      (λ d a e. back (kept_back l.rules rules a) (l.kept.1 d (kept_front l.rules rules a)) e) whole)
+      (λ d a e. back (kept_back l.rules rules a) (l.kept.1 d (kept_front l.rules rules a)) e)
+      (takes_closed _ rs (Left o i v) base edge w more others behind tight r))
 
 -- ---- behind a temporal operator an operand is read as anywhere
 
@@ -198,17 +191,12 @@ module _ (sig : List PredOf) (stack : List Frame) (nodes : ℕ) (names : SymbolT
   open_too at q0 r0 [] rules q have h = absurd (not_have (λ n. n) h have)
   open_too at q0 r0 (t ∷ ts) rules q have h = after_open at q0 r0 t ts rules q (class_of t) have h
 
-  after_fresh : (t : Lexeme) (ts : List Lexeme) (rules : List Rule) (q : Partial) (c : Class) → IsHave q.now
-      → then_moves (operand_move (context_at stack nodes names) t c) (moves sig ts) ≡ goes rules q
-      → then_moves (fresh_move (context_at stack nodes names) t c) (moves sig ts) ≡ goes rules q
-  after_fresh t ts rules q c have h = grind (arith, no_move, open_too, at_place)
-
   pub fresh_too : (ts : List Lexeme) (rules : List Rule) (q : Partial) → IsHave q.now
       → moves sig ts (at_place ExpectOperand stack nodes names) ≡ goes rules q
       → moves sig ts (at_place AfterTemporal stack nodes names) ≡ goes rules q
   unfolding moves transition
   fresh_too [] rules q have h = absurd (not_have (λ n. n) h have)
-  fresh_too (t ∷ ts) rules q have h = after_fresh t ts rules q (class_of t) have h
+  fresh_too (t ∷ ts) rules q have h = grind (arith, no_move, open_too, at_place)
 
   -- an operand where an interval may stand
   pub takes_fresh : (ts : List Lexeme) (base : List Frame) (edge : ℕ) (v : Form) (more : ℕ) (others : SymbolTable)

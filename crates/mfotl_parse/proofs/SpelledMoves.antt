@@ -1,5 +1,5 @@
 -- What several tokens do, one behind the other, and the rules that they have to keep.
-use Rattle.std.proofs.Common.{◌≡◌, ℕ, ◌≤◌, false, List, [], ◌∷◌, ◌++◌, Option, Some, None, refl, ap, sym, ◌∙◌}
+use Rattle.std.proofs.Common.{◌≡◌, ℕ, ◌≤◌, false, List, [], ◌∷◌, ◌++◌, Option, Some, None, refl, ap, ◌∙◌, arith}
 use Rattle.std.proofs.lemmas.List.{append-nil, append_assoc}
 use Rattle.mfotl_lex.specs.Lexemes.{Lexeme}
 use Rattle.mfotl_sig.specs.Preds.{PredOf}
@@ -49,33 +49,12 @@ pub moves_one : (sig : List PredOf) (t : Lexeme) (p q : Partial) (rules : List R
 moves_one sig t p q rules e =
     moves_first sig t [] p q q rules [] e (moves_nothing sig q) ∙ ap (λ x. goes x q) (append-nil rules)
 
-moves_both_at : (sig : List PredOf) (b : List Lexeme) (m : Option Transition) (f : Partial → Option Transition)
-    (g : Partial → Option Transition) → ((p : Partial) → g p ≡ then_moves (f p) (moves sig b)) → then_moves m g
-    ≡ then_moves (then_moves m f) (moves sig b)
-moves_both_at sig b None f g each = refl
-moves_both_at sig b (Some m) f g each = ap (behind_move m) (each m.next) ∙ associated m (f m.next)
-  where
-    behind_all : (m n : Transition) (o : Option Transition) → behind_move m (behind_move n o)
-        ≡ behind_move (record { rules = m.rules ++ n.rules; next = n.next }) o
-    behind_all m n None = refl
-    behind_all m n (Some o) = ap (λ x. goes x o.next) (sym (append_assoc m.rules n.rules o.rules))
-
-    associated : (m : Transition) (n : Option Transition) → behind_move m (then_moves n (moves sig b))
-        ≡ then_moves (behind_move m n) (moves sig b)
-    associated m None = refl
-    associated m (Some n) = behind_all m n (moves sig b n.next)
-
 -- one list of tokens, and then another
 pub moves_append : (sig : List PredOf) (a b : List Lexeme) (p : Partial) → moves sig (a ++ b) p
     ≡ then_moves (moves sig a p) (moves sig b)
 unfolding moves
-moves_append sig [] b p = nothing_before (moves sig b p)
-  where
-    nothing_before : (m : Option Transition) → m ≡ behind_move (record { rules = []; next = p }) m
-    nothing_before None = refl
-    nothing_before (Some m) = refl
-moves_append sig (t ∷ a) b p =
-    moves_both_at sig b (transition sig p t) (moves sig a) (moves sig (a ++ b)) (moves_append sig a b)
+moves_append sig [] b p = grind arith
+moves_append sig (t ∷ a) b p = grind (arith, moves_append sig a b, append_assoc)
 
 pub moves_both : (sig : List PredOf) (a b : List Lexeme) (p q r : Partial) (rules others : List Rule)
     → moves sig a p ≡ goes rules q → moves sig b q ≡ goes others r → moves sig (a ++ b) p ≡ goes (rules ++ others) r

@@ -1,6 +1,6 @@
 -- How atoms, comparisons and intervals are read, and what their tokens show.
 use Rattle.std.proofs.Common.{◌≡◌, ℕ, suc, ◌+◌, ◌*◌, ◌<◌, ◌≤◌, Bool, true, false, List, [], ◌∷◌, ◌++◌, length, Option}
-use Rattle.std.proofs.Common.{Some, None, refl, ap, ◌∙◌, arith}
+use Rattle.std.proofs.Common.{Some, None, refl, ◌∙◌, arith}
 use Rattle.std.proofs.{lemmas.Bool.lt-leb, lemmas.Bool.leb-false, lemmas.List.append_assoc}
 use Rattle.std.specs.Prelude.{◌&&◌, not}
 use Rattle.mfotl_lex.specs.Lexemes.{Lexeme}
@@ -155,16 +155,12 @@ module _ (sig : List PredOf) where
       → (is_empty sorts ≡ false) × (length (after_due sorts) ≡ n)
   due_more sorts n h = grind arith
 
-  argument_kept : (a : WrittenArgument) (sorts : List Sort) (n nodes : ℕ) → length sorts ≡ suc n
-      → nodes + hidden_count a ≤ max_nodes → AreKept (argument_rules a sorts nodes)
-  argument_kept a sorts n nodes h few_nodes = grind arith
-
   pub arguments_kept : (xs : WrittenArguments) (sorts : List Sort) (nodes : ℕ) → length sorts ≡ argument_count xs
       → nodes + blank_count xs ≤ max_nodes → AreKept (arguments_rules xs sorts nodes)
-  arguments_kept (LastArgument a) sorts nodes h few_nodes = argument_kept a sorts 0 nodes h few_nodes
+  arguments_kept (LastArgument a) sorts nodes h few_nodes = grind arith
   arguments_kept (MoreArguments a comma rest) sorts nodes h few_nodes =
       kept_both (argument_rules a sorts nodes) (arguments_rules rest (after_due sorts) (argument_nodes a nodes))
-      (argument_kept a sorts (argument_count rest) nodes h (omega (arith, few_nodes)))
+      (grind arith)
       (arguments_kept rest (after_due sorts) (argument_nodes a nodes) (due_more sorts (argument_count rest) h).1
       (omega (arith, few_nodes, argument_nodes_are a nodes)))
 
@@ -197,45 +193,13 @@ module _ (sig : List PredOf) where
   -- ---- atoms
 
   -- an atom's name and its `(`
-  name_leads : (name opening : Lexeme) (stack : List Frame) (nodes : ℕ) (names : SymbolTable) → IsAtomName name
-      → class_of opening ≡ classes.OpenParen
+  name_leads : (found : Option PredOf) (name opening : Lexeme) (stack : List Frame) (nodes : ℕ) (names : SymbolTable)
+      → named name.text sig ≡ found → IsAtomName name → class_of opening ≡ classes.OpenParen
       → Leads sig (name ∷ opening ∷ []) (at_place ExpectOperand stack nodes names)
-      (at_place (FirstArgument (call_of (named name.text sig) (length names.bound_sorts))) stack (suc nodes) names)
-      (known name.at (named name.text sig) ∷ within_nodes name.at nodes ∷ [])
-      ([] ∷ name_shown (named name.text sig) name.at nodes ∷ [])
+      (at_place (FirstArgument (call_of found (length names.bound_sorts))) stack (suc nodes) names)
+      (known name.at found ∷ within_nodes name.at nodes ∷ []) ([] ∷ name_shown found name.at nodes ∷ [])
   unfolding moves trace transition
-  name_leads name opening stack nodes names h opens = grind (arith, blank_text)
-
-  -- the `)` of an atom without arguments
-  bare_leads : (found : Option PredOf) (closing : Lexeme) (stack : List Frame) (nodes : ℕ) (names : SymbolTable)
-      → class_of closing ≡ classes.CloseParen → Leads sig (closing ∷ [])
-      (at_place (FirstArgument (call_of found (length names.bound_sorts))) stack nodes names)
-      (at_place (AfterOperand (atom found [] (length names.bound_sorts) (length names.bound_sorts))) stack nodes names)
-      (none_due closing.at (call_of found 0).rest ∷ []) (closing_shown closing.at (places_of found) ∷ [])
-  unfolding moves trace transition
-  bare_leads found closing stack nodes names class = grind arith
-
-  -- arguments and their `)`
-  closes_leads : (found : Option PredOf) (xs : WrittenArguments) (closing : Lexeme) (stack : List Frame) (nodes : ℕ)
-      (names : SymbolTable) → FitsArguments xs → class_of closing ≡ classes.CloseParen
-      → Leads sig (arguments_spelling xs ++ closing ∷ [])
-      (at_place (FirstArgument (call_of found (length names.bound_sorts))) stack nodes names) (at_place (AfterOperand
-      (atom found (arguments_terms xs (call_of found 0).rest (scope_of stack) names) (length names.bound_sorts)
-      (length (arguments_names xs (call_of found 0).rest (scope_of stack) names).bound_sorts)))
-      stack (arguments_nodes xs nodes) (arguments_names xs (call_of found 0).rest (scope_of stack) names))
-      (arguments_rules xs (call_of found 0).rest nodes
-      ++ none_due closing.at (sorts_behind xs (call_of found 0).rest) ∷ [])
-      (arguments_shown xs (places_of found) nodes ++ closing_shown closing.at (sorts_behind xs (places_of found)) ∷ [])
-  closes_leads None xs closing stack nodes names fits class =
-      let call = call_of None (length names.bound_sorts) in
-      leads_both (arguments_leads (FirstArgument call) call xs stack nodes names (first_takes call) fits)
-      (leads_one closing classes.CloseParen (at_place (AfterArgument (call_behind xs call (scope_of stack) names)) stack
-      (arguments_nodes xs nodes) (arguments_names xs call.rest (scope_of stack) names)) class refl)
-  closes_leads (Some pred) xs closing stack nodes names fits class =
-      let call = call_of (Some pred) (length names.bound_sorts) in
-      leads_both (arguments_leads (FirstArgument call) call xs stack nodes names (first_takes call) fits)
-      (leads_one closing classes.CloseParen (at_place (AfterArgument (call_behind xs call (scope_of stack) names)) stack
-      (arguments_nodes xs nodes) (arguments_names xs call.rest (scope_of stack) names)) class refl)
+  name_leads found name opening stack nodes names is h opens = grind (arith, blank_text)
 
   arity_kept : (found : Option PredOf) (n at : ℕ) → HasArity found n
       → ((known at found).broken ≡ false) × (length (call_of found 0).rest ≡ n)
@@ -254,27 +218,33 @@ module _ (sig : List PredOf) where
       ∷ none_due closing.at (call_of (named name.text sig) 0).rest ∷ [])
       ([] ∷ name_shown (named name.text sig) name.at nodes
       ∷ closing_shown closing.at (places_of (named name.text sig)) ∷ [])
-  bare_atom_leads name opening closing stack nodes names named_so opens closes =
-      leads_both (name_leads name opening stack nodes names named_so opens)
-      (bare_leads (named name.text sig) closing stack (suc nodes) names closes)
+  unfolding moves trace transition
+  bare_atom_leads name opening closing stack nodes names named_so opens closes = grind (arith, blank_text)
 
-  pub atom_leads : (name opening : Lexeme) (xs : WrittenArguments) (closing : Lexeme) (stack : List Frame)
-      (nodes : ℕ) (names : SymbolTable) → IsAtomName name → class_of opening ≡ classes.OpenParen → FitsArguments xs
-      → class_of closing ≡ classes.CloseParen
+  pub atom_leads : (found : Option PredOf) (name opening : Lexeme) (xs : WrittenArguments) (closing : Lexeme)
+      (stack : List Frame) (nodes : ℕ) (names : SymbolTable) → named name.text sig ≡ found → IsAtomName name
+      → class_of opening ≡ classes.OpenParen → FitsArguments xs → class_of closing ≡ classes.CloseParen
       → Leads sig (name ∷ opening ∷ arguments_spelling xs ++ closing ∷ []) (at_place ExpectOperand stack nodes names)
       (at_place (AfterOperand
-      (atom (named name.text sig) (arguments_terms xs (call_of (named name.text sig) 0).rest (scope_of stack) names)
-      (length names.bound_sorts)
-      (length (arguments_names xs (call_of (named name.text sig) 0).rest (scope_of stack) names).bound_sorts))) stack
-      (arguments_nodes xs (suc nodes)) (arguments_names xs (call_of (named name.text sig) 0).rest (scope_of stack) names))
-      (known name.at (named name.text sig) ∷ within_nodes name.at nodes
-      ∷ arguments_rules xs (call_of (named name.text sig) 0).rest (suc nodes)
-      ++ none_due closing.at (sorts_behind xs (call_of (named name.text sig) 0).rest) ∷ [])
-      ([] ∷ name_shown (named name.text sig) name.at nodes ∷ arguments_shown xs (places_of (named name.text sig))
-      (suc nodes) ++ closing_shown closing.at (sorts_behind xs (places_of (named name.text sig))) ∷ [])
-  atom_leads name opening xs closing stack nodes names named_so opens fits closes =
-      leads_both (name_leads name opening stack nodes names named_so opens)
-      (closes_leads (named name.text sig) xs closing stack (suc nodes) names fits closes)
+      (atom found (arguments_terms xs (call_of found 0).rest (scope_of stack) names) (length names.bound_sorts)
+      (length (arguments_names xs (call_of found 0).rest (scope_of stack) names).bound_sorts))) stack
+      (arguments_nodes xs (suc nodes)) (arguments_names xs (call_of found 0).rest (scope_of stack) names))
+      (known name.at found ∷ within_nodes name.at nodes ∷ arguments_rules xs (call_of found 0).rest (suc nodes)
+      ++ none_due closing.at (sorts_behind xs (call_of found 0).rest) ∷ [])
+      ([] ∷ name_shown found name.at nodes ∷ arguments_shown xs (places_of found) (suc nodes)
+      ++ closing_shown closing.at (sorts_behind xs (places_of found)) ∷ [])
+  atom_leads None name opening xs closing stack nodes names is named_so opens fits closes =
+      let call = call_of None (length names.bound_sorts) in
+      leads_both (name_leads None name opening stack nodes names is named_so opens)
+      (leads_both (arguments_leads (FirstArgument call) call xs stack (suc nodes) names (first_takes call) fits)
+      (leads_one closing classes.CloseParen (at_place (AfterArgument (call_behind xs call (scope_of stack) names)) stack
+      (arguments_nodes xs (suc nodes)) (arguments_names xs call.rest (scope_of stack) names)) closes refl))
+  atom_leads (Some pred) name opening xs closing stack nodes names is named_so opens fits closes =
+      let call = call_of (Some pred) (length names.bound_sorts) in
+      leads_both (name_leads (Some pred) name opening stack nodes names is named_so opens)
+      (leads_both (arguments_leads (FirstArgument call) call xs stack (suc nodes) names (first_takes call) fits)
+      (leads_one closing classes.CloseParen (at_place (AfterArgument (call_behind xs call (scope_of stack) names)) stack
+      (arguments_nodes xs (suc nodes)) (arguments_names xs call.rest (scope_of stack) names)) closes refl))
 
   -- what the rules of an atom want
   pub bare_exactly : (found : Option PredOf) (at closing_at nodes levels : ℕ)
@@ -289,19 +259,23 @@ module _ (sig : List PredOf) where
   atom_exactly found xs at closing_at nodes levels =
       let sorts = (call_of found 0).rest in
       let inner = arguments_rules xs sorts (suc nodes) in (
-        λ k. (
-          (arity_kept found (argument_count xs) at k.1).0,
-          (
-            node_fits nodes at (omega (arith, k.0)),
-            kept_both inner (none_due closing_at (sorts_behind xs sorts) ∷ [])
-                (arguments_kept xs sorts (suc nodes) (arity_kept found (argument_count xs) at k.1).1 (omega (arith, k.0)))
-                (ap not (none_behind xs sorts (arity_kept found (argument_count xs) at k.1).1), tt),
-          ),
+        λ k. grind (
+          arith,
+          arity_kept found (argument_count xs) at,
+          node_fits nodes at,
+          none_behind xs sorts,
+          arguments_kept xs sorts (suc nodes),
+          kept_both inner (none_due closing_at (sorts_behind xs sorts) ∷ []),
         ),
-        λ d a.
-            let due = arguments_due xs sorts (suc nodes) (kept_front inner _ a.1.1)
-            (omega (arith, node_fitted nodes at a.1.0)) (kept_back inner _ a.1.1).0 in
-            (omega (arith, due.1, arguments_nodes_are xs (suc nodes)), arity_is found (argument_count xs) at a.0 due.0),
+        λ d a. grind (
+          arith,
+          arguments_due xs sorts (suc nodes),
+          kept_front inner _ a.1.1,
+          kept_back inner _ a.1.1,
+          node_fitted nodes at a.1.0,
+          arguments_nodes_are xs (suc nodes),
+          arity_is found (argument_count xs) at,
+        ),
       )
 
   -- ---- comparisons
@@ -358,9 +332,6 @@ module _ (sig : List PredOf) where
   abbrev above_rules : WrittenBound → List Rule
   above_rules (Count token n) = in_range token.at n ∷ []
   above_rules (Counted token n unit seconds) = in_range token.at (n * seconds) ∷ []
-
-  above_kept : (low : WrittenBound) → InRange low → AreKept (above_rules low)
-  above_kept low h = grind arith
 
   low_leads : (at : ℕ) (low : WrittenBound) (comma : Lexeme) (stack : List Frame) (nodes : ℕ) (names : SymbolTable)
       → FitsBound low → class_of comma ≡ classes.Comma
@@ -436,7 +407,7 @@ module _ (sig : List PredOf) where
 
   interval_kept : (timed : Bool) (interval : WrittenInterval) → FitsOperator timed interval → IntervalKeeps interval
       → AreKept (interval_rules interval)
-  interval_kept timed interval omitted k = grind (arith, kept_both, low_kept, end_kept, above_kept)
+  interval_kept timed interval omitted k = grind (arith, kept_both, low_kept, end_kept)
 
   interval_reached : (interval : WrittenInterval) → AreKept (interval_rules interval) → IntervalKeeps interval
   interval_reached interval a = grind arith
@@ -451,13 +422,6 @@ module _ (sig : List PredOf) where
   unfolding depth
   same_depth i frame base frames h = rw (← frames i, level_framed i (frame any_distance)) h
 
-  -- an operand is read alike where an interval may stand
-  takes_any : (timed : Bool) (stack lower : List Frame) (ts : List Lexeme) (nodes edge more : ℕ)
-      (names others : SymbolTable) (v : Form) (keeps : Type 0)
-      → Takes sig (at_place ExpectOperand stack nodes names) ts lower edge v more others keeps
-      → Takes sig (at_place (now_behind timed) stack nodes names) ts lower edge v more others keeps
-  takes_any timed stack lower ts nodes edge more names others v keeps t = grind (arith, takes_fresh)
-
   -- an operand behind an operator and its interval
   pub takes_interval : (timed : Bool) (interval : WrittenInterval) (frame : Interval → Frame)
       (base lower : List Frame) (ts : List Lexeme) (nodes edge more : ℕ) (names others : SymbolTable) (v : Form)
@@ -471,4 +435,4 @@ module _ (sig : List PredOf) where
       (interval_leads timed interval frame base nodes names fits frames).moved
       (λ k. interval_kept timed interval fits k.0) (λ k. k.1)
       (λ d a. same_depth (interval_of interval) frame base frames d) (λ d a k. (interval_reached interval a, k))
-      (takes_any (timed && is_omitted interval) _ lower ts nodes edge more names others v keeps t)
+      (grind (arith, takes_fresh))

@@ -1,8 +1,7 @@
 -- How a whole tree is read, by what is written in it.
-use Rattle.std.proofs.Common.{◌≡◌, ℕ, suc, ◌+◌, ◌<◌, ◌≤◌, Bool, true, false, List, [], ◌∷◌, ◌++◌, length, None, refl}
-use Rattle.std.proofs.Common.{sym, ◌∙◌, arith}
+use Rattle.std.proofs.Common.{◌≡◌, ℕ, suc, ◌+◌, ◌<◌, ◌≤◌, true, false, List, [], ◌∷◌, ◌++◌, length, None, refl, sym}
+use Rattle.std.proofs.Common.{◌∙◌, arith}
 use Rattle.std.proofs.{lemmas.Bool.lt-leb, lemmas.Bool.leb-false, lemmas.List.append_assoc}
-use Rattle.std.specs.Prelude.{cond}
 use Rattle.mfotl_lex.specs.Lexemes.{Lexeme}
 use Rattle.mfotl_model.specs.declared.interval.Interval.{Interval}
 use Rattle.mfotl_model.specs.Formulas.{Form}
@@ -11,15 +10,14 @@ use Rattle.mfotl_parse.specs.declared.{class.Class.Class, class.Operator.Operato
 use Rattle.mfotl_parse.specs.declared.class.Class.TheVariants as classes
 use Rattle.mfotl_parse.specs.{Classes.class_of, Intervals.any_distance, Reading.transition, Shows.variable_shown}
 use Rattle.mfotl_parse.specs.{SymbolTable.binder_of, SymbolTable.bound_more, Operands.truth, Quantifiers.bound_move}
-use Rattle.mfotl_parse.specs.{Operators.deepening, Limits.max_levels, Limits.max_nodes}
+use Rattle.mfotl_parse.specs.{Limits.max_levels, Limits.max_nodes}
 use Rattle.mfotl_parse.specs.Grammar.{WrittenVariable, WrittenVariables, LastVariable, MoreVariables, Tree, Truth}
 use Rattle.mfotl_parse.specs.Grammar.{BareAtom, AtomOf, Comparison, Enclosed, Denied, Timed, Quantified, Joined}
 use Rattle.mfotl_parse.specs.Grammar.{variable_spelling, variables_spelling, interval_spelling, spelling, FitsVariable}
 use Rattle.mfotl_parse.specs.Grammar.{FitsVariables, Fits, left_precedence, is_shut, precedence, right_precedence}
-use Rattle.mfotl_parse.specs.Grammar.{is_timed, deepens}
+use Rattle.mfotl_parse.specs.Grammar.{is_timed}
 use Rattle.mfotl_parse.specs.Meanings.{Scope, variables_names, variables_scope, quantify, interval_of, names_behind}
-use Rattle.mfotl_parse.specs.Meanings.{value, node_count, right_levels, nesting, IntervalKeeps, PartsKeep, HasArity}
-use Rattle.mfotl_parse.specs.Meanings.{argument_count}
+use Rattle.mfotl_parse.specs.Meanings.{value, node_count, nesting, PartsKeep, HasArity, argument_count}
 use Rattle.mfotl_parse.specs.Occurrences.{variable_count, blank_count, name_of, place_of_variable}
 use Rattle.mfotl_parse.specs.Transitions.{Rule, goes, within_nodes, within_depth}
 use Rattle.mfotl_parse.specs.States.{Frame, Parens, Negation, Moment, Binding, Left, depth, SymbolTable, Stage, Partial}
@@ -158,25 +156,7 @@ module _ (sig : List PredOf) where
       (λ d a. omega (arith, depth_fitted stack (place_of_variable x) a.0))
       (λ d a k. (omega (arith, k.0), omega (arith, k.1), k.2)) inner)
 
-  -- ---- operators
-
-  joins_kept : (deep : Bool) (at nodes inner : ℕ) (stack : List Frame)
-      → depth stack + right_levels deep inner ≤ max_levels → nodes < max_nodes
-      → AreKept (deepening deep at stack (within_nodes at nodes ∷ []))
-  joins_kept deep at nodes inner stack h k = grind arith
-
-  joins_open : (deep : Bool) (at nodes : ℕ) (stack : List Frame) → depth stack ≤ max_levels
-      → AreKept (deepening deep at stack (within_nodes at nodes ∷ []))
-      → cond deep (suc (depth stack)) (depth stack) ≤ max_levels
-  joins_open deep at nodes stack h k = grind arith
-
-  right_fitted : (deep : Bool) (inner levels : ℕ) → cond deep (suc levels) levels + inner ≤ max_levels
-      → levels + right_levels deep inner ≤ max_levels
-  right_fitted deep inner levels h = grind arith
-
-  right_fits : (deep : Bool) (inner levels : ℕ) → levels + right_levels deep inner ≤ max_levels
-      → cond deep (suc levels) levels + inner ≤ max_levels
-  right_fits deep inner levels h = grind arith
+  -- ---- formulas
 
   -- a tree that fits is read, with any frames below that are loose enough
   pub reads : (tree : Tree) (rule edge : ℕ) → Fits rule tree → Reaches rule edge → (is_shut tree ≡ false → edge ≤ 1)
@@ -189,11 +169,8 @@ module _ (sig : List PredOf) where
       takes_as _ (token ∷ []) (token ∷ []) _ _ _ (suc nodes) _ _ _ _ refl (omega arith) (λ k. k) (λ d k. k)
       (takes_whole sig (at_place ExpectOperand stack nodes names) (token ∷ []) stack edge (truth which)
       (suc nodes) names (Keeps sig (Truth token which) nodes (depth stack)) (within_nodes token.at nodes ∷ [])
-      (one sig (at_place ExpectOperand stack nodes names) _ token (classes.Truth which) _ fits refl) (
-        λ k. (node_fits nodes token.at (omega (arith, k.0)), tt),
-        λ d a.
-            (omega (arith, node_fitted nodes token.at a.0), omega (arith, d), tt),
-      ))
+      (one sig (at_place ExpectOperand stack nodes names) _ token (classes.Truth which) _ fits refl)
+      (λ k. grind (arith, node_fits nodes token.at), λ d a. grind (arith, node_fitted nodes token.at)))
   reads (BareAtom name opening closing) rule edge fits reach ends stack nodes names loose =
       takes_as _ _ _ _ _ _ (suc nodes) _ _ _ _ refl (omega arith) (λ k. (omega (arith, k.0), k.2))
       (λ d k. (omega (arith, k.0), omega (arith, d), k.1))
@@ -206,7 +183,7 @@ module _ (sig : List PredOf) where
       (λ d k. (omega (arith, k.0), omega (arith, d), k.1))
       (takes_whole sig _ _ stack edge _ _ _
       ((nodes + suc (blank_count arguments) ≤ max_nodes) × HasArity (named name.text sig) (argument_count arguments)) _
-      (atom_leads sig name opening arguments closing stack nodes names fits.0 fits.1 fits.2 fits.3).moved
+      (atom_leads sig _ name opening arguments closing stack nodes names refl fits.0 fits.1 fits.2 fits.3).moved
       (atom_exactly sig (named name.text sig) arguments name.at closing.at nodes (depth stack)))
   reads (Comparison left token sign right) rule edge fits reach ends stack nodes names loose =
       takes_as _ _ _ _ _ _ (suc nodes) _ _ _ _ refl (omega arith) (λ k. omega (arith, k.0))
@@ -272,44 +249,22 @@ module _ (sig : List PredOf) where
       (takes_variables quantifier variables dot (spelling body) edge (value sig body) (names_behind sig body)
       (node_count body) (nesting body) (PartsKeep sig body) stack nodes names low fits.1 fits.2 inner)
   reads (Joined left token operator interval right) rule edge fits reach ends stack nodes names loose =
-      let scope = scope_of stack in
-      let v = value sig left scope names in
-      let i = interval_of interval in
-      let frame : Interval → Frame = λ j. Left operator j v in
+      let v = value sig left (scope_of stack) names in
       let middle = nodes + node_count left in
-      let between = names_behind sig left scope names in
-      let whole = Keeps sig (Joined left token operator interval right) nodes (depth stack) in
-      let later = Keeps sig right (suc middle) (cond (deepens operator) (suc (depth stack)) (depth stack)) in
-      let w = value sig right scope between in
-      let after = names_behind sig right scope between in
+      let between = names_behind sig left (scope_of stack) names in
       let before = reads left (left_precedence operator) (suc (precedence operator)) fits.1 (left_reaches operator)
       (λ e. absurd (cc (e, fits.2))) stack nodes names
       (looser rule (left_precedence operator) stack (omega (arith, fits.0, (levels operator).left)) loose) in
-      let inner : Takes sig (at_place ExpectOperand (Left operator i v ∷ stack) (suc middle) between)
-      (spelling right) (Left operator i v ∷ stack) edge w (suc middle + node_count right) after later =
-      reads right (right_precedence operator) edge fits.5 (right_reaches operator rule edge fits.0 reach) ends
-      (Left operator i v ∷ stack) (suc middle) between (omega arith) in
-      let behind = takes_interval sig (is_timed operator) interval frame stack (Left operator i v ∷ stack)
-      (spelling right) (suc middle) edge (suc middle + node_count right) between after w later fits.4
-      (λ j. refl) inner in
-      let both = takes_joined sig (at_place ExpectOperand stack nodes names) (spelling left)
-      (interval_spelling interval ++ spelling right) token operator i stack
-      (suc (precedence operator)) edge v w middle (suc middle + node_count right) between after
-      (Keeps sig left nodes (depth stack)) (IntervalKeeps interval × later) whole
+      let inner = reads right (right_precedence operator) edge fits.5 (right_reaches operator rule edge fits.0 reach) ends
+      (Left operator (interval_of interval) v ∷ stack) (suc middle) between (omega arith) in
+      let behind = takes_interval sig (is_timed operator) interval (λ j. Left operator j v) stack _ (spelling right)
+      (suc middle) edge _ between _ _ _ fits.4 (λ j. refl) inner in
+      takes_as _ _ _ _ _ _ (suc middle + node_count right) _ _ _ _ refl (omega arith) (λ k. k) (λ d k. k)
+      (takes_joined sig (at_place ExpectOperand stack nodes names) (spelling left)
+      (interval_spelling interval ++ spelling right) token operator (interval_of interval) stack
+      (suc (precedence operator)) edge v _ middle _ between _ _ _
+      (Keeps sig (Joined left token operator interval right) nodes (depth stack))
       fits.3 (omega arith) (reach.1 operator fits.0) (looser rule (precedence operator) stack fits.0 loose)
-      (λ k. (omega (arith, k.0), omega (arith, k.1), k.2.0))
-      (λ k. joins_kept (deepens operator) token.at middle (nesting right) stack (omega (arith, k.1))
-      (omega (arith, k.0)))
-      (λ k. (
-        k.2.1,
-        (omega (arith, k.0), right_fits (deepens operator) (nesting right) (depth stack) (omega (arith, k.1)), k.2.2),
-      ))
-      (λ d a. joins_open (deepens operator) token.at middle stack d a)
-      (λ a b e. (
-        omega (arith, e.1.0),
-        omega
-            (arith, b.1, right_fitted (deepens operator) (nesting right) (depth stack) e.1.1),
-        (b.2, e.0, e.1.2),
-      ))
-      before behind in
-      takes_as _ _ _ _ _ _ (suc middle + node_count right) _ _ _ _ refl (omega arith) (λ k. k) (λ d k. k) both
+      (λ k. (omega (arith, k.0), omega (arith, k.1), k.2.0)) (λ k. (grind arith))
+      (λ k. grind arith) (λ d a. (grind arith))
+      (λ a b e. grind arith) before behind)

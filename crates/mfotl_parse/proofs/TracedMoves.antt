@@ -66,11 +66,11 @@ module _ (sig : List PredOf) where
   unfolding trace
   trace_any false t ts c stack nodes names class square round = refl
   trace_any true t ts c stack nodes names class square round =
-      let here : Context = record { stack = stack; nodes = nodes; names = names } in
-      let fresh = move_is sig (at_place AfterTemporal stack nodes names) t c class in
-      let want = move_is sig (at_place ExpectOperand stack nodes names) t c class in
-      ap (λ (m : Option Transition). traced t.at m (trace sig ts))
-      (fresh ∙ fresh_same here t c square round ∙ sym want)
+      cc (
+        move_is sig (at_place AfterTemporal stack nodes names) t c class,
+        move_is sig (at_place ExpectOperand stack nodes names) t c class,
+        fresh_same (record { stack = stack; nodes = nodes; names = names }) t c square round,
+      )
 
 module _ {sig : List PredOf} where
   pub leads_move : {p q : Partial} {rules : List Rule} (t : Lexeme) → transition sig p t ≡ goes rules q

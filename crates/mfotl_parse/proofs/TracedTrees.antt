@@ -1,12 +1,12 @@
 -- What each token of a whole tree shows.
 use Rattle.std.proofs.Common.{◌≡◌, ℕ, ℤ, suc, ◌+◌, ◌≤◌, Bool, true, false, List, [], ◌∷◌, ◌++◌, length, Option, Some}
-use Rattle.std.proofs.Common.{None, refl, ap, sym, ◌∙◌, arith}
+use Rattle.std.proofs.Common.{None, refl, ap, ◌∙◌, arith}
 use Rattle.std.proofs.lemmas.List.{append_assoc}
 use Rattle.std.specs.Prelude.{cond, ◌&&◌}
 use Rattle.mfotl_lex.specs.Lexemes.{Lexeme}
 use Rattle.mfotl_model.specs.declared.interval.Interval.{Interval}
 use Rattle.mfotl_sig.specs.Preds.{PredOf}
-use Rattle.mfotl_parse.specs.declared.{class.Class.Class, class.Quantifier.Quantifier, fault.PolicyFault.PolicyFault}
+use Rattle.mfotl_parse.specs.declared.{class.Class.Class, class.Quantifier.Quantifier}
 use Rattle.mfotl_parse.specs.declared.class.Class.TheVariants as classes
 use Rattle.mfotl_parse.specs.{Classes.class_of, Intervals.any_distance, Occurrences.variable_count, Occurrences.name_of}
 use Rattle.mfotl_parse.specs.{SymbolTable.binder_of, SymbolTable.bound_more, Operands.operand_move}
@@ -14,14 +14,14 @@ use Rattle.mfotl_parse.specs.{Comparisons.compared_move, Lookahead.maybe_move, L
 use Rattle.mfotl_parse.specs.{Operators.deepening, Operators.now_behind, Reading.transition, Reduction.reduce}
 use Rattle.mfotl_parse.specs.Grammar.{WrittenTerm, WrittenVariables, LastVariable, MoreVariables, Tree, Truth, BareAtom}
 use Rattle.mfotl_parse.specs.Grammar.{AtomOf, Comparison, Enclosed, Denied, Timed, Quantified, Joined, term_spelling}
-use Rattle.mfotl_parse.specs.Grammar.{variable_spelling, variables_spelling, interval_spelling, spelling, FitsTerm}
-use Rattle.mfotl_parse.specs.Grammar.{FitsVariables, Fits, IsAtomName, left_precedence, is_shut, precedence}
-use Rattle.mfotl_parse.specs.Grammar.{right_precedence, is_timed, deepens}
+use Rattle.mfotl_parse.specs.Grammar.{variables_spelling, interval_spelling, spelling, FitsTerm, FitsVariables, Fits}
+use Rattle.mfotl_parse.specs.Grammar.{IsAtomName, left_precedence, is_shut, precedence, right_precedence, is_timed}
+use Rattle.mfotl_parse.specs.Grammar.{deepens}
 use Rattle.mfotl_parse.specs.Meanings.{interval_of, names_behind, value, node_count}
 use Rattle.mfotl_parse.specs.Transitions.{Rule, Transition, goes, first_keeps, within_depth, within_nodes}
 use Rattle.mfotl_parse.specs.Shows.{Showing, level_first, postponed, is_integer, begins_with_number, enclosed_shown}
-use Rattle.mfotl_parse.specs.Shows.{prefix_shown, variable_shown, variables_shown, joint_shown, levels_right}
-use Rattle.mfotl_parse.specs.Shows.{interval_shown, is_omitted, tree_shown, shown_by}
+use Rattle.mfotl_parse.specs.Shows.{prefix_shown, variables_shown, joint_shown, levels_right, is_omitted, tree_shown}
+use Rattle.mfotl_parse.specs.Shows.{shown_by}
 use Rattle.mfotl_parse.specs.States.{Frame, Parens, Negation, Moment, Binding, Left, depth, SymbolTable, Partial}
 use Rattle.mfotl_parse.specs.States.{ExpectOperand, AfterTemporal, AfterOperand, ExpectSign, ExpectVariable}
 use Rattle.mfotl_parse.specs.States.{AfterVariable, AfterParen, AfterParenNumber, no_names, nothing_read}
@@ -104,9 +104,6 @@ module _ (sig : List PredOf) where
       (stack : List Frame) (nodes : ℕ) (names : SymbolTable) → IsLoose 1 stack
       → trace sig ts (at_place ExpectOperand stack nodes names) ≡ shown (depth stack) nodes
 
-  shown_at : (shown : ℕ → ℕ → Showing) (l k n m : ℕ) → l ≡ k → n ≡ m → shown l n ≡ shown k m
-  shown_at shown l k n m e f = cc
-
   variables_trace : (q : Quantifier) (vs : WrittenVariables) (dot : Lexeme) (ts : List Lexeme)
       (shown : ℕ → ℕ → Showing) (stack : List Frame) (nodes : ℕ) (names : SymbolTable)
       → FitsVariables vs → class_of dot ≡ classes.Dot → BodyShows ts shown
@@ -116,30 +113,26 @@ module _ (sig : List PredOf) where
   unfolding depth
   variables_trace q (LastVariable v) dot ts shown stack nodes names fits class body =
       let frame = Binding q (length names.bound_sorts) (name_of v) in
-      leads_then (dot ∷ ts) (variable_leads sig q v stack nodes names fits)
-      ∙ ap (λ (s : Showing). variable_shown v (depth stack) nodes ++ s)
-      (trace_first sig dot ts classes.Dot
-      (at_place (AfterVariable q) (frame ∷ stack) (suc nodes) (bound_more None names))
-      (at_place ExpectOperand (frame ∷ stack) (suc nodes) (bound_more None names)) [] class refl
-      ∙ ap (λ (s : Showing). [] ∷ s) (body (frame ∷ stack) (suc nodes) (bound_more None names) (omega arith)
-      ∙ shown_at shown (suc (depth stack)) (depth stack + 1) (suc nodes) (nodes + 1) (omega arith) (omega arith)))
+      grind (
+        arith,
+        leads_then (dot ∷ ts) (variable_leads sig q v stack nodes names fits),
+        trace_first sig dot ts classes.Dot
+            (at_place (AfterVariable q) (frame ∷ stack) (suc nodes) (bound_more None names))
+            (at_place ExpectOperand (frame ∷ stack) (suc nodes) (bound_more None names)) [] class refl,
+        body (frame ∷ stack) (suc nodes) (bound_more None names) (omega arith),
+      )
   variables_trace q (MoreVariables v comma rest) dot ts shown stack nodes names fits class body =
       let frame = Binding q (length names.bound_sorts) (name_of v) in
-      let n = variable_count rest in
-      ap (λ (xs : List Lexeme). trace sig xs (at_place (ExpectVariable q) stack nodes names))
-      (append_assoc (variable_spelling v) (comma ∷ variables_spelling rest) (dot ∷ ts))
-      ∙ leads_then (comma ∷ variables_spelling rest ++ dot ∷ ts) (variable_leads sig q v stack nodes names fits.0)
-      ∙ ap (λ (s : Showing). variable_shown v (depth stack) nodes ++ s)
-      (trace_first sig comma (variables_spelling rest ++ dot ∷ ts) classes.Comma
-      (at_place (AfterVariable q) (frame ∷ stack) (suc nodes) (bound_more None names))
-      (at_place (ExpectVariable q) (frame ∷ stack) (suc nodes) (bound_more None names)) [] fits.1 refl
-      ∙ ap (λ (s : Showing). [] ∷ s)
-      (variables_trace q rest dot ts shown (frame ∷ stack) (suc nodes) (bound_more None names) fits.2 class body
-      ∙ ap (λ (s : Showing). variables_shown rest (suc (depth stack)) (suc nodes) ++ [] ∷ s)
-      (shown_at shown (suc (depth stack) + n) (depth stack + suc n) (suc nodes + n) (nodes + suc n) (omega arith)
-      (omega arith))))
-      ∙ sym (append_assoc (variable_shown v (depth stack) nodes)
-      ([] ∷ variables_shown rest (suc (depth stack)) (suc nodes)) ([] ∷ shown (depth stack + suc n) (nodes + suc n)))
+      grind (
+        arith,
+        append_assoc,
+        leads_then (comma ∷ variables_spelling rest ++ dot ∷ ts)
+            (variable_leads sig q v stack nodes names fits.0),
+        trace_first sig comma (variables_spelling rest ++ dot ∷ ts) classes.Comma
+            (at_place (AfterVariable q) (frame ∷ stack) (suc nodes) (bound_more None names))
+            (at_place (ExpectVariable q) (frame ∷ stack) (suc nodes) (bound_more None names)) [] fits.1 refl,
+        variables_trace q rest dot ts shown (frame ∷ stack) (suc nodes) (bound_more None names) fits.2 class body,
+      )
 
   -- ---- operators
 
@@ -149,13 +142,6 @@ module _ (sig : List PredOf) where
 
   levels_are : (deep : Bool) (levels : ℕ) → cond deep (suc levels) levels ≡ levels_right deep levels
   levels_are deep levels = grind arith
-
-  -- an operand is read alike where an interval may stand
-  reached_any : (timed : Bool) (ts : List Lexeme) (stack : List Frame) (nodes : ℕ) (names : SymbolTable)
-      (rules : List Rule) (q : Partial) → IsHave q.now
-      → moves sig ts (at_place ExpectOperand stack nodes names) ≡ goes rules q
-      → moves sig ts (at_place (now_behind timed) stack nodes names) ≡ goes rules q
-  reached_any timed ts stack nodes names rules q have e = grind (arith, fresh_too)
 
   comparison_any : (timed : Bool) (left : WrittenTerm) (ts : List Lexeme) (stack : List Frame) (nodes : ℕ)
       (names : SymbolTable) → FitsTerm left
@@ -182,7 +168,7 @@ module _ (sig : List PredOf) where
       ∙ (bare_atom_leads sig name opening closing stack nodes names fits.0 fits.1 fits.2).shows
   shows (AtomOf name opening arguments closing) rule edge fits reach ends timed stack nodes names loose =
       atom_any timed name _ stack nodes names fits.0
-      ∙ (atom_leads sig name opening arguments closing stack nodes names fits.0 fits.1 fits.2 fits.3).shows
+      ∙ (atom_leads sig _ name opening arguments closing stack nodes names refl fits.0 fits.1 fits.2 fits.3).shows
   shows (Comparison left token sign right) rule edge fits reach ends timed stack nodes names loose =
       comparison_any timed left _ stack nodes names fits.0
       ∙ (comparison_leads sig left token sign right stack nodes names fits.0 fits.1 fits.2).shows
@@ -193,14 +179,14 @@ module _ (sig : List PredOf) where
       let last = enclosed sig t.form t.stack stack _ _ _ closing fits.2 all in
       let moved = moves_both sig (spelling body) (closing ∷ []) _ _ _ t.rules [] t.reached
       (moves_one sig closing _ _ [] last) in
-      enclosed_trace sig stack nodes names timed opening (spelling body ++ closing ∷ []) _ _ fits.0 tt moved
-      ∙ ap (enclosed_shown timed opening.at (depth stack) (spelling body ++ closing ∷ []))
-      (trace_both sig (spelling body) (closing ∷ []) _ _ t.rules t.reached
-      ∙ ap (λ (s : Showing). trace sig (spelling body) (at_place ExpectOperand (Parens ∷ stack) nodes names) ++ s)
-      (leads_move closing last).shows
-      ∙ ap (λ (s : Showing). s ++ [] ∷ [])
-      (shows body 1 1 fits.1 (one_reaches 1 (omega arith)) (λ e. omega arith) false (Parens ∷ stack) nodes names
-      (omega arith)))
+      grind (
+        arith,
+        enclosed_trace sig stack nodes names timed opening (spelling body ++ closing ∷ []) _ _ fits.0 tt moved,
+        trace_both sig (spelling body) (closing ∷ []) _ _ t.rules t.reached,
+        (leads_move closing last).shows,
+        shows body 1 1 fits.1 (one_reaches 1 (omega arith)) (λ e. omega arith) false (Parens ∷ stack) nodes names
+            (omega arith),
+      )
   shows (Denied token body) rule edge fits reach ends timed stack nodes names loose =
       trace_any sig timed token _ classes.Not stack nodes names fits.0 (λ e. cc) (λ e. cc)
       ∙ trace_first sig token (spelling body) classes.Not (at_place ExpectOperand stack nodes names)
@@ -211,16 +197,17 @@ module _ (sig : List PredOf) where
   shows (Timed token operator interval body) rule edge fits reach ends timed stack nodes names loose =
       let frame : Interval → Frame = λ i. Moment operator i in
       let i = interval_of interval in
-      trace_any sig timed token _ (classes.Temporal operator) stack nodes names fits.0 (λ e. cc) (λ e. cc)
-      ∙ trace_first sig token (interval_spelling interval ++ spelling body) (classes.Temporal operator)
-      (at_place ExpectOperand stack nodes names)
-      (at_place AfterTemporal (Moment operator any_distance ∷ stack) (suc nodes) names) _ fits.0 refl
-      ∙ ap (λ (s : Showing). prefix_shown token.at (depth stack) nodes ∷ s)
-      (leads_then (spelling body)
-      (interval_leads sig true interval frame stack (suc nodes) names fits.1 (λ j. refl))
-      ∙ ap (λ (s : Showing). interval_shown interval ++ s)
-      (shows body 6 edge fits.2 (unary_reaches rule edge reach) ends (is_omitted interval)
-      (Moment operator i ∷ stack) (suc nodes) names (omega arith)))
+      grind (
+        arith,
+        trace_any sig timed token (interval_spelling interval ++ spelling body) (classes.Temporal operator) stack
+            nodes names fits.0 (λ e. cc) (λ e. cc),
+        trace_first sig token (interval_spelling interval ++ spelling body) (classes.Temporal operator)
+            (at_place ExpectOperand stack nodes names)
+            (at_place AfterTemporal (Moment operator any_distance ∷ stack) (suc nodes) names) _ fits.0 refl,
+        leads_then (spelling body) (interval_leads sig true interval frame stack (suc nodes) names fits.1 (λ j. refl)),
+        shows body 6 edge fits.2 (unary_reaches rule edge reach) ends (is_omitted interval)
+            (Moment operator i ∷ stack) (suc nodes) names (omega arith),
+      )
   shows (Quantified token quantifier variables dot body) rule edge fits reach ends timed stack nodes names loose =
       let low : edge ≤ 1 = ends refl in
       trace_any sig timed token _ (classes.Quantifier quantifier) stack nodes names fits.0 (λ e. cc) (λ e. cc)
@@ -247,30 +234,22 @@ module _ (sig : List PredOf) where
       t.reduces (precedence operator) (omega arith)
       ∙ reduce_here (precedence operator) v stack (looser rule (precedence operator) stack fits.0 loose) in
       let sign = joins sig t.form t.stack stack v middle between operator token fits.3 all in
-      let before : trace sig (spelling left) (at_place (now_behind timed) stack nodes names)
-      ≡ tree_shown sig left timed (depth stack) nodes =
-      shows left (left_precedence operator) (suc (precedence operator)) fits.1 (left_reaches operator)
-      (λ e. absurd (cc (e, fits.2))) timed stack nodes names looser_left in
-      let behind : trace sig (spelling right)
-      (at_place (now_behind fresh) (Left operator i v ∷ stack) (suc middle) between)
-      ≡ tree_shown sig right fresh (levels_right (deepens operator) (depth stack)) (suc middle) =
-      shows right (right_precedence operator) edge fits.5 (right_reaches operator rule edge fits.0 reach) ends fresh
-      (Left operator i v ∷ stack) (suc middle) between (omega arith)
-      ∙ ap (λ (n : ℕ). tree_shown sig right fresh n (suc middle)) (levels_are (deepens operator) (depth stack)) in
-      trace_both sig (spelling left) (token ∷ (interval_spelling interval ++ spelling right)) _ _ t.rules
-      (reached_any timed (spelling left) stack nodes names t.rules _ tt t.reached)
-      ∙ ap (λ (s : Showing). s
-      ++ trace sig (token ∷ (interval_spelling interval ++ spelling right))
-      (at_place (AfterOperand t.form) t.stack middle between)) before
-      ∙ ap (λ (s : Showing). tree_shown sig left timed (depth stack) nodes ++ s)
-      (trace_move sig token (interval_spelling interval ++ spelling right) _ _ _ sign
-      ∙ ap (λ (s : List PolicyFault). s ∷ trace sig (interval_spelling interval ++ spelling right)
-      (at_place (now_behind (is_timed operator)) (Left operator any_distance v ∷ stack) (suc middle) between))
-      (joint_broken (deepens operator) token.at middle stack)
-      ∙ ap (λ (s : Showing). joint_shown (deepens operator) token.at (depth stack) middle ∷ s)
-      (leads_then (spelling right)
-      (interval_leads sig (is_timed operator) interval frame stack (suc middle) between fits.4 (λ j. refl))
-      ∙ ap (λ (s : Showing). interval_shown interval ++ s) behind))
+      let first = trace_both sig (spelling left) (token ∷ (interval_spelling interval ++ spelling right))
+      (at_place (now_behind timed) stack nodes names) (at_place (AfterOperand t.form) t.stack middle between) t.rules
+      (grind (arith, fresh_too)) in
+      grind (
+        arith,
+        first,
+        joint_broken (deepens operator) token.at middle stack,
+        shows left (left_precedence operator) (suc (precedence operator)) fits.1 (left_reaches operator)
+            (λ e. absurd (cc (e, fits.2))) timed stack nodes names looser_left,
+        trace_move sig token (interval_spelling interval ++ spelling right) _ _ _ sign,
+        leads_then (spelling right)
+            (interval_leads sig (is_timed operator) interval frame stack (suc middle) between fits.4 (λ j. refl)),
+        shows right (right_precedence operator) edge fits.5 (right_reaches operator rule edge fits.0 reach) ends fresh
+            (Left operator i v ∷ stack) (suc middle) between (omega arith),
+        levels_are (deepens operator) (depth stack),
+      )
 
 -- what each token of a whole formula shows
 pub shows_whole : (sig : List PredOf) (tree : Tree) → Fits 1 tree

@@ -1,6 +1,6 @@
 -- The free variables of a policy that was read are numbered in the order in which they first occur.
-use Rattle.std.proofs.Common.{◌≡◌, ℕ, zero, suc, ◌+◌, ◌<◌, ◌≤◌, Bool, true, false, cond, not, ◌&&◌, ◌||◌, nat_eq}
-use Rattle.std.proofs.Common.{List, [], ◌∷◌, ◌++◌, length, Option, Some, None, refl, sym, ap, ◌∙◌, arith}
+use Rattle.std.proofs.Common.{◌≡◌, ℕ, zero, suc, ◌+◌, ◌<◌, ◌≤◌, Bool, true, false, cond, not, ◌&&◌, nat_eq, List, []}
+use Rattle.std.proofs.Common.{◌∷◌, ◌++◌, length, Option, Some, None, refl, sym, ap, ◌∙◌, arith}
 use Rattle.std.proofs.lemmas.Bool.{lt-ltb, le-ltb, eqb-true}
 use Rattle.std.proofs.{lemmas.List.append-nil, lemmas.List.length-append, lemmas.List.Elements.filter-append}
 use Rattle.std.proofs.{lemmas.Map.Views.any-filter_same, lemmas.Grind.common_steps}
@@ -18,8 +18,8 @@ use Rattle.mfotl_parse.specs.Grammar.{WrittenTerm, WrittenArgument, WrittenArgum
 use Rattle.mfotl_parse.specs.Grammar.{WrittenVariables, LastVariable, MoreVariables, Tree, Truth, BareAtom, AtomOf}
 use Rattle.mfotl_parse.specs.Grammar.{Comparison, Enclosed, Denied, Timed, Quantified, Joined}
 use Rattle.mfotl_parse.specs.Meanings.{Scope, operand_of, term_names, argument_term, argument_names, arguments_terms}
-use Rattle.mfotl_parse.specs.Meanings.{arguments_names, atom, variables_names, variables_scope, quantify, interval_of}
-use Rattle.mfotl_parse.specs.Meanings.{names_behind, value}
+use Rattle.mfotl_parse.specs.Meanings.{arguments_names, atom, variables_names, variables_scope, quantify, names_behind}
+use Rattle.mfotl_parse.specs.Meanings.{value}
 use Rattle.mfotl_parse.specs.SymbolTable.{number_of, free_place, free_or_new, with_free, bound_or_free, occurring}
 use Rattle.mfotl_parse.specs.SymbolTable.{bound_more, term_of}
 use Rattle.mfotl_parse.specs.Reduction.{momentary, operator_form, quantified}
@@ -65,12 +65,7 @@ seen n = range_with_len 0 (length n.free)
 
 past_range : (a k n : ℕ) → a + n ≤ k → among k (range_with_len a n) ≡ false
 past_range a k zero above = refl
-past_range a k (suc n) above = by_head (nat_eq k a) refl (past_range (a + 1) k n (omega (arith, above)))
-  where
-    by_head : (b : Bool) → nat_eq k a ≡ b → among k (range_with_len (a + 1) n) ≡ false
-        → (b || among k (range_with_len (a + 1) n)) ≡ false
-    by_head true e later = absurd (omega (arith, eqb-true k a e, above))
-    by_head false e later = later
+past_range a k (suc n) above = grind (arith, past_range (a + 1) k n, eqb-true k a)
 
 range_more : (n : ℕ) → range_with_len 0 (suc n) ≡ range_with_len 0 n ++ n ∷ []
 range_more n = go 0 n n (omega arith)
@@ -103,12 +98,13 @@ name_order name at n None few = by_place (free_place name n) refl few
     by_place : (place : Option ℕ) → free_place name n ≡ place → length (with_free place name at n).free ≤ max_free
         → joined (seen n) (free_in (number_of (free_or_new place n) ∷ [])) ≡ seen (with_free place name at n)
     by_place (Some place) e below =
-        let within = found_within name n place e in
-        let same : place ≡ 0 + place = omega arith in
-        ap (joined (seen n)) (free_one place (omega (arith, within, below)))
-        ∙ joined_known (seen n) place
-        (ap (λ (k : ℕ). among k (seen n)) same
-        ∙ among_range 0 (length n.free) (0 + place) (omega arith) (omega (arith, within)))
+        grind (
+          arith,
+          found_within name n place e,
+          free_one place,
+          joined_known (seen n) place,
+          among_range 0 (length n.free) place,
+        )
     by_place None e below =
         let longer = length-append n.free ((name, at) ∷ []) in
         let one_more : suc (length n.free) ≡ length (n.free ++ (name, at) ∷ []) = omega (arith, longer) in
@@ -147,14 +143,16 @@ arguments_order : (xs : WrittenArguments) (places : List Sort) (scope : Scope) (
 arguments_order (LastArgument a) places scope n few = search (last_only, argument_order)
 arguments_order (MoreArguments a comma rest) places scope n few =
     let between = argument_names a (due_sort places) scope n in
-    ap (λ (vs : List ℕ). joined (seen n) (free_in vs))
-    (variables_in-cons (argument_term a scope n) (arguments_terms rest (after_due places) scope between))
-    ∙ one_then n between (arguments_names rest (after_due places) scope between)
-    (variable_in (argument_term a scope n)) _
-    (argument_order a (due_sort places) scope n
-    (fewer between (arguments_names rest (after_due places) scope between)
-    (arguments_grow rest (after_due places) scope between) few))
-    (arguments_order rest (after_due places) scope between few)
+    grind (
+      arith,
+      common_steps,
+      variables_in-cons,
+      one_then n between,
+      argument_order a (due_sort places) scope n,
+      fewer between,
+      arguments_grow rest (after_due places) scope between,
+      arguments_order rest (after_due places) scope between few,
+    )
 
 blanks_order : (count first : ℕ) (f : Form) → free_in (fv (blanks count first f)) ≡ free_in (fv f)
 unfolding fv
@@ -211,18 +209,20 @@ tree_order sig (Denied token body) scope n few = tree_order sig body scope n few
 tree_order sig (Timed token operator interval body) scope n few = simp (moment_order, tree_order sig body scope n few)
 tree_order sig (Quantified token quantifier variables dot body) scope n few =
     let between = variables_names variables n in
-    let same = variables_free variables n in
-    ap (λ (vs : List ℕ). joined (seen n) vs)
-    (quantify_order quantifier variables n (value sig body (variables_scope variables n scope) between))
-    ∙ ap (λ (s : List ℕ). joined s (free_in (fv (value sig body (variables_scope variables n scope) between))))
-    (seen_same n between (sym same))
-    ∙ tree_order sig body (variables_scope variables n scope) between few
+    cc (
+      quantify_order quantifier variables n (value sig body (variables_scope variables n scope) between),
+      seen_same n between (sym (variables_free variables n)),
+      tree_order sig body (variables_scope variables n scope) between few,
+    )
 tree_order sig (Joined left token operator interval right) scope n few =
     let between = names_behind sig left scope n in
-    let f = value sig left scope n in
-    let g = value sig right scope between in
-    ap (λ (vs : List ℕ). joined (seen n) (free_in vs)) (joined_order operator (interval_of interval) f g)
-    ∙ one_then n between (names_behind sig right scope between) (fv f) (fv g)
-    (tree_order sig left scope n
-    (fewer between (names_behind sig right scope between) (tree_grows sig right scope between) few))
-    (tree_order sig right scope between few)
+    grind (
+      arith,
+      common_steps,
+      joined_order,
+      one_then n between,
+      fewer between,
+      tree_grows sig right scope between,
+      tree_order sig left scope n,
+      tree_order sig right scope between few,
+    )

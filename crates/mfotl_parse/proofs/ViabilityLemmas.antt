@@ -9,7 +9,7 @@ use Rattle.mfotl_model.specs.Formulas.{Form}
 use Rattle.mfotl_sig.specs.Preds.{PredOf}
 use Rattle.mfotl_parse.specs.Classes.{word_class, operator_class, temporal_class}
 use Rattle.mfotl_parse.specs.{Transitions.Transition, Reading.transition, Reduction.reduce, Reduction.closed}
-use Rattle.mfotl_parse.specs.{Viability.if_moved, Viability.accepts}
+use Rattle.mfotl_parse.specs.{Viability.accepts}
 use Rattle.mfotl_parse.specs.States.{Frame, Parens, Negation, Moment, Binding, Left, Context, Partial, Stage}
 use Rattle.mfotl_parse.specs.States.{with_stack, ExpectOperand, AfterTemporal, AfterOperand, AfterWord, AfterBlank}
 use Rattle.mfotl_parse.specs.States.{AfterMark, ExpectSign, AfterSign, AfterSignMark, FirstArgument, NextArgument}
@@ -149,13 +149,7 @@ accepts_behind : (sig : List PredOf) (ts more : List Lexeme) (p q : Partial) →
     → accepts sig more q ≡ true → accepts sig (ts ++ more) p ≡ true
 unfolding accepts shifts
 accepts_behind sig [] more p q same ends = let one : p ≡ q = cc in ap (accepts sig more) one ∙ ends
-accepts_behind sig (t ∷ ts) more p q same ends =
-    by_move (transition sig p t) (λ n so. accepts_behind sig ts more n q so ends) same
-  where
-    by_move : (m : Option Transition) → ((n : Partial) → shifts sig ts n ≡ Some q → accepts sig (ts ++ more) n ≡ true)
-        → moved m (shifts sig ts) ≡ Some q → if_moved m (accepts sig (ts ++ more)) ≡ true
-    by_move None further same = absurd cc
-    by_move (Some m) further same = further m.next same
+accepts_behind sig (t ∷ ts) more p q same ends = grind (arith, accepts_behind sig ts more)
 
 pub completes : (sig : List PredOf) (p : Partial) → Completes sig p
 completes sig p =

@@ -1,13 +1,13 @@
 -- A whole formula is accepted from the start on, and where the reader stands behind it.
-use Rattle.std.proofs.Common.{◌≡◌, ℕ, ◌+◌, true, List, [], ◌++◌, Ok, refl, ap, sym, subst, ◌∙◌, arith}
+use Rattle.std.proofs.Common.{◌≡◌, ℕ, ◌+◌, true, List, [], ◌++◌, Ok, refl, sym, subst, ◌∙◌, arith}
 use Rattle.std.proofs.lemmas.List.{append-nil}
 use Rattle.mfotl_lex.specs.{FirstFault.run, Lexemes.Lexeme}
 use Rattle.mfotl_sig.specs.Preds.{PredOf}
 use Rattle.mfotl_parse.specs.Grammar.{Tree, Fits, spelling, IsFormula, BeginsFormula}
-use Rattle.mfotl_parse.specs.{GrammarLaws.AcceptedExactly, Reduction.Reduced, Reduction.reduce, SymbolTable.binder_of}
-use Rattle.mfotl_parse.specs.{Transitions.Rule, Transitions.goes}
+use Rattle.mfotl_parse.specs.{GrammarLaws.AcceptedExactly, Reduction.reduce, SymbolTable.binder_of, Transitions.Rule}
+use Rattle.mfotl_parse.specs.{Transitions.goes}
 use Rattle.mfotl_parse.specs.Meanings.{no_scope, all_names, value, node_count}
-use Rattle.mfotl_parse.specs.Reading.{step, checked_at_end, ended_at, is_closed}
+use Rattle.mfotl_parse.specs.Reading.{step, checked_at_end, ended_at}
 use Rattle.mfotl_parse.specs.States.{no_names, depth, Partial, AfterOperand, nothing_read}
 use Rattle.mfotl_parse.specs.Viability.{is_whole, accepts, IsViable}
 use Rattle.mfotl_parse.proofs.{AcceptedLaw.accepted_formula, SpelledForms.Takes, SpelledForms.reduce_here}
@@ -35,10 +35,13 @@ accepts_nothing sig p = refl
 
 accepted : (sig : List PredOf) (tree : Tree) → Fits 1 tree → accepts sig (spelling tree) nothing_read ≡ true
 accepted sig tree fits =
-    ap (λ ts. accepts sig ts nothing_read) (sym (append-nil (spelling tree)))
-    ∙ accepts_moves sig (spelling tree) [] nothing_read _ _ (whole sig tree fits).reached
-    ∙ accepts_nothing sig _
-    ∙ ap (λ (r : Reduced). is_closed r.stack) (all_closed sig tree fits)
+    grind (
+      arith,
+      append-nil (spelling tree),
+      all_closed sig tree fits,
+      accepts_nothing sig,
+      accepts_moves sig (spelling tree) [] nothing_read _ _ (whole sig tree fits).reached,
+    )
 
 pub formula_accepted : (sig : List PredOf) (ts : List Lexeme) → IsFormula ts → accepts sig ts nothing_read ≡ true
 formula_accepted sig ts formula = cc (accepted sig formula.0 formula.1)

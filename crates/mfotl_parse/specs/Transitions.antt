@@ -1,6 +1,6 @@
 -- What a token does: what is read with it as far as the grammar goes, and the limits and rules that it has
 -- to keep, in the order in which they are tried. No move is a token that the grammar can't go on with.
-use Rattle.std.specs.Prelude.{ℕ, Bool, true, false, not, List, [], ◌∷◌, Option, Some, None, Result, Ok, Err, nat_le}
+use Rattle.std.specs.Prelude.{ℕ, Bool, not, List, [], ◌∷◌, Option, Some, None, Result, Ok, Err, nat_le}
 use Rattle.std.specs.Prelude.{if◌then◌else◌}
 use Rattle.mfotl_model.specs.declared.policy.Sort.{Sort}
 use Rattle.mfotl_parse.specs.declared.fault.PolicyFault.{PolicyFault}
