@@ -1,42 +1,28 @@
 -- What one worker alone writes are the lines of the verdicts.
-use Rattle.std.proofs.Common.{◌≡◌, ◌∙◌, ap, ap₂, subst, sym, refl, arith, ℕ, zero, suc, ◌+◌, ◌-◌, ◌<◌, ◌≤◌}
-use Rattle.std.proofs.Common.{List, [], ◌∷◌, ◌++◌, Option, length, map, drop, get_or, slice_index}
-use Rattle.std.proofs.Common.{append-nil, length-append}
-use Rattle.std.proofs.KnownBytes.{Appends-nil, Appends-trans}
-use Rattle.std.proofs.lemmas.Grind.{flat_map-append}
+use Rattle.std.proofs.Common.{◌≡◌, ◌∙◌, ap, ap₂, subst, sym, refl, arith, ℕ, ◌+◌, ◌-◌, ◌<◌, ◌≤◌, List, [], ◌∷◌, ◌++◌}
+use Rattle.std.proofs.Common.{Option, length, drop, slice_index, length-append}
+use Rattle.std.proofs.{KnownBytes.Appends-nil, KnownBytes.Appends-trans, lemmas.List.FromFn.map-range_with_len_more}
 use Rattle.std.proofs.lemmas.List.{get_or-drop, get_or_append_left, length-drop, length-map}
-use Rattle.std.proofs.lemmas.List.FromFn.{map-range_with_len_more}
-use Rattle.std.specs.List.{range_with_len}
 use Rattle.mon_outside.specs.Sink.{Appends, AppendsFront}
-use Rattle.mfotl_model.specs.Counts.{settled_count}
-use Rattle.mfotl_model.specs.Exact.{AllExact, Exact}
-use Rattle.mfotl_model.specs.Log.{times}
-use Rattle.mfotl_model.specs.Satisfaction.{time_at}
-use Rattle.mfotl_model.specs.Tables.{TableOf}
-use Rattle.mfotl_model.specs.VerdictText.{VerdictOf, line_of}
-use Rattle.mfotl_model.specs.declared.event.TimePoint.{TimePoint}
-use Rattle.mfotl_model.specs.declared.value.Value.{Value}
+use Rattle.mfotl_model.specs.{Counts.settled_count, Exact.AllExact, Exact.Exact, Log.times, Satisfaction.time_at}
+use Rattle.mfotl_model.specs.{Tables.TableOf, VerdictText.VerdictOf, VerdictText.line_of}
+use Rattle.mfotl_model.specs.declared.{event.TimePoint.TimePoint, value.Value.Value}
 use Rattle.monitorable.proofs.TableLaw.{tables_satisfy}
-use Rattle.monitorable.specs.CoreForms.{CoreForm, meaning}
-use Rattle.monitorable.specs.Fragment.{IsMonitorable}
-use Rattle.monitorable.specs.Laws.{whole_view}
+use Rattle.monitorable.specs.{CoreForms.CoreForm, CoreForms.meaning, Fragment.IsMonitorable, Laws.whole_view}
 use Rattle.monitor_state.proofs.LawProofs.{lone_worker_steps}
-use Rattle.monitor_state.specs.Beginnings.{Begins}
-use Rattle.monitor_state.specs.MonitorView.{MonitorOf, monitor_of}
-use Rattle.monitor_state.specs.Stands.{StateOf, Stands}
-use Rattle.monitor_state.specs.Steps.{News, Steps}
+use Rattle.monitor_state.specs.{Beginnings.Begins, MonitorView.MonitorOf, MonitorView.monitor_of, Stands.StateOf}
+use Rattle.monitor_state.specs.{Stands.Stands, Steps.News, Steps.Steps}
 use Rattle.monitor_state.specs.declared.monitor.Monitor.{Monitor}
 use Rattle.relations.specs.Tables.{IsTable}
 use Rattle.rescale_core.proofs.LogLemmas.{settled_more, settled_within, times_more, viol_final}
-use Rattle.rescale_core.specs.Settlings.{IsKept}
+use Rattle.rescale_core.specs.{Settlings.IsKept, Worlds.verdict_on}
 use Rattle.rescale_core.specs.Workers.{IsEvaluable, MayFollow, settled_in, violations_at}
-use Rattle.rescale_core.specs.Worlds.{verdict_on}
 use Rattle.worker_pool.specs.Alone.{Owes, WritesAlone, told_of}
-use Rattle.worker_pool.specs.Courses.{Settles}
-use Rattle.worker_pool.specs.Texts.{lines, tally_of}
+use Rattle.worker_pool.specs.{Courses.Settles, Texts.lines, Texts.tally_of}
 use Rattle.worker_pool.specs.Writing.{Falls, all_verdicts, first_verdicts, seen}
 use Rattle.worker_pool.specs.declared.tally.Tally.{Tally}
-use Rattle.worker_pool.proofs.SinkLemmas.{front_behind, whole_front}
+use Rattle.worker_pool.proofs.{SinkLemmas.front_behind, SinkLemmas.whole_front, VerdictLemmas.lines_more}
+use Rattle.worker_pool.proofs.{VerdictLemmas.same_below}
 
 -- ---- the verdicts on the first positions
 
@@ -44,43 +30,21 @@ verdicts_more : (core : CoreForm) (points : List TimePoint) (n : ℕ)
     → first_verdicts core points (n + 1) ≡ first_verdicts core points n ++ seen (verdict_on core points n) ∷ []
 verdicts_more core points n = map-range_with_len_more (λ i. seen (verdict_on core points i)) 0 n n (omega arith)
 
-lines_more : (vs : List VerdictOf) (v : VerdictOf) → lines (vs ++ v ∷ []) ≡ lines vs ++ line_of v
-lines_more vs v =
-    flat_map-append line_of vs (v ∷ []) ∙ ap (λ (l : List ℕ). lines vs ++ l) (append-nil (line_of v))
-
-same_below : (f g : ℕ → VerdictOf) (j n : ℕ) → ((i : ℕ) → i < j + n → f i ≡ g i)
-    → map f (range_with_len j n) ≡ map g (range_with_len j n)
-same_below f g j zero same = refl
-same_below f g j (suc n) same =
-    ap₂ (λ x xs. x ∷ xs) (same j (omega arith)) (same_below f g (j + 1) n (λ i below. same i (omega arith)))
-
 module _ (core : CoreForm) (points : List TimePoint) (point : TimePoint) (fits : IsMonitorable core)
     (follows : MayFollow points point) where
   verdict_stays : (i : ℕ) → i < settled_in core points
       → seen (verdict_on core points i) ≡ seen (verdict_on core (points ++ point ∷ []) i)
-  verdict_stays i below =
-      let within = settled_within core points in
-      let count : length (times points) ≡ length points = length-map points (λ (p : TimePoint). p.ts) in
-      let time : time_at (times (points ++ point ∷ [])) i ≡ time_at (times points) i =
-      ap (λ ts. time_at ts i) (times_more points point)
-      ∙ get_or_append_left (times points) (point.ts ∷ []) 0 i (omega arith) in
-      ap₂ (λ (t : ℕ) (rows : List (List Value)). record { point = i; ts = t; rows = rows }) (sym time)
-      (viol_final core points point i fits follows below)
+  verdict_stays i below = grind (arith, settled_within, length-map, times_more, get_or_append_left, ap₂, viol_final)
 
   -- where one time-point more is read, the verdicts on the settled positions stay
   verdicts_stay : all_verdicts core points ≡ first_verdicts core (points ++ point ∷ []) (settled_in core points)
-  verdicts_stay =
-      same_below (λ i. seen (verdict_on core points i)) (λ i. seen (verdict_on core (points ++ point ∷ []) i)) 0
-      (settled_in core points) (λ i below. verdict_stays i (omega arith))
+  verdicts_stay = grind (arith, same_below, verdict_stays)
 
 -- ---- what tables tell
 
 dated_by : (state : StateOf) (points : List TimePoint) (i : ℕ) → state.times ≡ drop state.first (times points)
     → state.first ≤ i → slice_index state.times (i - state.first) ≡ time_at (times points) i
-dated_by state points i dated low =
-    let at : state.first + (i - state.first) ≡ i = omega arith in
-    ap (λ (ts : List ℕ). slice_index ts (i - state.first)) dated
-    ∙ get_or-drop state.first (times points) (i - state.first) 0 ∙ ap (λ m. get_or (times points) m 0) at
+dated_by state points i dated low = grind (arith, slice_index, get_or-drop)
 
 -- what an exact table tells of a position is the verdict on it
 told_verdict : (core : CoreForm) (points : List TimePoint) (state : StateOf) (i : ℕ) (table : TableOf)
@@ -96,10 +60,7 @@ told_verdict core points state i table fits dated low exact is =
 -- one table less is to be told of
 pub kept_on : (state : StateOf) (i : ℕ) (table : TableOf) (rest tables : List TableOf) → tables ≡ table ∷ rest
     → IsKept state i (length tables) → IsKept state (i + 1) (length rest)
-kept_on state i table rest tables is kept =
-    let one : length tables ≡ length (table ∷ rest) = ap length is in
-    let upto = kept.upto in let few = kept.few in let from = kept.from in
-    record { from = omega arith; upto = omega arith; few = omega arith }
+kept_on state i table rest tables is kept = grind arith
 
 module _ {core : CoreForm} {points : List TimePoint} {start now : Option (List ℕ)} {state : StateOf} {tally : Tally}
     {i : ℕ} {table : TableOf} {rest tables : List TableOf} (is : tables ≡ table ∷ rest)
@@ -109,10 +70,7 @@ module _ {core : CoreForm} {points : List TimePoint} {start now : Option (List �
   owes = subst (λ (ts : List TableOf). Owes core points start state now tally i ts) is debt
 
   one_more : first_verdicts core points (i + 1) ≡ first_verdicts core points i ++ told_of state i table ∷ []
-  one_more =
-      verdicts_more core points i
-      ∙ ap (λ v. first_verdicts core points i ++ v ∷ [])
-      (sym (told_verdict core points state i table owes.fits owes.dated low owes.exact.0 tabled))
+  one_more = grind (arith, verdicts_more, told_verdict)
 
   lines_next : lines (first_verdicts core points (i + 1))
       ≡ lines (first_verdicts core points i) ++ line_of (told_of state i table)
@@ -134,11 +92,7 @@ module _ {core : CoreForm} {points : List TimePoint} {start now : Option (List �
   -- it was written in part
   pub pays_part : {then : Option (List ℕ)} → AppendsFront now then (line_of (told_of state i table))
       → Falls core points start then
-  pays_part {then} part = record {
-    count = i + 1;
-    settled = (let count = owes.count in omega (arith, count));
-    front = subst (AppendsFront start then) (sym lines_next) (front_behind start now then _ _ owes.text part);
-  }
+  pays_part {then} part = grind (arith, lines_next, front_behind)
 
 -- ---- one time-point more
 
@@ -156,11 +110,7 @@ falls_short {core} {start} {now} {points = points} {point = point} follows w = r
 -- and of what is due for these
 pub falls_none : {core : CoreForm} {start now : Option (List ℕ)} {monitor : Monitor} {tally : Tally}
     {points : List TimePoint} → WritesAlone core start monitor now tally points → Falls core points start now
-falls_none {core} {start} {now} {points = points} w = record {
-  count = settled_in core points;
-  settled = omega arith;
-  front = whole_front start now _ w.settles.text;
-}
+falls_none {core} {start} {now} {points = points} w = grind (arith, whole_front)
 
 module _ {core : CoreForm} {start now : Option (List ℕ)} {old : Monitor} (new : Monitor) {tally : Tally}
     {points : List TimePoint} {point : TimePoint} {tables : List TableOf} (follows : MayFollow points point)

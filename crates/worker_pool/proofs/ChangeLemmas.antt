@@ -1,26 +1,21 @@
 -- Changes of the strategy: what is to come fits, and just what is due is read.
-use Rattle.std.proofs.Common.{◌≡◌, ◌≤◌, ◌<◌, ◌∙◌, arith, ℕ, List, [], ◌∷◌, ◌++◌, Option, Some, OnOk, Ok, Err}
-use Rattle.std.proofs.Common.{ap, sym, subst, refl, suc, All, append-nil, append_assoc}
+use Rattle.std.proofs.Common.{◌≡◌, ◌≤◌, ◌∙◌, arith, ℕ, List, [], ◌∷◌, ◌++◌, Option, Some, OnOk, Ok, Err, sym, subst}
+use Rattle.std.proofs.Common.{refl, suc, append-nil, append_assoc}
 use Rattle.std.specs.Prelude.{Result}
-use Rattle.std.specs.declared.collections.VecDeque.{VecDeque}
-use Rattle.std.specs.Global.{Global}
 use Rattle.mfotl_model.specs.Strategies.{Strategy, workers_of}
 use Rattle.mfotl_model.specs.declared.event.TimePoint.{TimePoint}
 use Rattle.monitorable.specs.CoreForms.{CoreForm}
-use Rattle.rescale_core.specs.Moving.{IsDriverOf, core_of}
-use Rattle.rescale_core.specs.Workers.{IsFor, MayFollow}
-use Rattle.rescale_core.specs.Worlds.{World, spot_in}
-use Rattle.rescale_core.specs.declared.driver.Driver.{Driver}
-use Rattle.rescale_core.specs.declared.item.Entry.{Entry}
-use Rattle.rescale_core.specs.declared.item.Entry.TheVariants.{Point, Change as ToStrategy}
+use Rattle.rescale_core.specs.{Moving.IsDriverOf, Moving.core_of, Workers.IsFor, Workers.MayFollow, Worlds.World}
+use Rattle.rescale_core.specs.{Worlds.spot_in}
+use Rattle.rescale_core.specs.declared.{driver.Driver.Driver, item.Entry.Entry, item.Entry.TheVariants.Point}
+use Rattle.rescale_core.specs.declared.{item.Entry.TheVariants.Change as ToStrategy}
 use Rattle.slice_strategy.specs.declared.change.Change.{Change}
 use Rattle.worker_pool.specs.Changes.{AllSuit, HaveCells, IsDue, NoneDue, Suits, TakesDue, changes_due, changes_later}
 use Rattle.worker_pool.specs.Changes.{points_in}
 use Rattle.worker_pool.specs.Laws.{DueAtItsNumber}
 use Rattle.worker_pool.specs.Writing.{AddsEntries, AddsPoint, ChangesIn, Falls, FallsShort, WritesOnly, ReadsIn, Runs}
 use Rattle.worker_pool.specs.Writing.{RunsTo, Writes}
-use Rattle.worker_pool.specs.declared.schedule.Schedule.{Schedule}
-use Rattle.worker_pool.specs.declared.tally.Tally.{Tally}
+use Rattle.worker_pool.specs.declared.{schedule.Schedule.Schedule, tally.Tally.Tally}
 use Rattle.worker_pool.proofs.EntryLemmas.{none_due, one_due, points_due, points_with}
 use Rattle.worker_pool.proofs.WritingLemmas.{one_read, points_are}
 
@@ -32,26 +27,19 @@ core_same d w is = is.router.core
 -- where both stand for worlds of one core
 core_kept : {core : CoreForm} {read more : List Entry} {start a b : Option (List ℕ)} {d e : Driver} {t u : Tally}
     → Writes core read start d a t → Writes core more start e b u → core_of e ≡ core_of d
-core_kept {d} {e} v w =
-    core_same e w.world w.stands ∙ w.core_is ∙ sym v.core_is ∙ sym (core_same d v.world v.stands)
+core_kept {d} {e} v w = cc (core_same e w.world w.stands, core_same d v.world v.stands)
 
 -- ---- what is to come suits the driver
 
 suits_by : (d e : Driver) (s : Schedule) → core_of e ≡ core_of d → Suits d s → Suits e s
 suits_by d e s same suits = subst (λ core. AllSuit core s.changes.items) (sym same) suits
 
--- the first change is to a strategy for the core, and so are those behind it
-both_suit : (d : Driver) (old new : Schedule) (s : Strategy) (due : TakesDue old (Some s) new) → Suits d old
-    → AllSuit (core_of d) (due.0.change ∷ due.0.rest)
-both_suit d old new s due suits = subst (λ cs. AllSuit (core_of d) cs) due.0.first suits
-
 -- so what is left suits once the first was read
 pub suits_later : {d e : Driver} {a b : Option (List ℕ)} {t u : Tally} {entries : List Entry} (old new : Schedule)
     (s : Strategy) → TakesDue old (Some s) new → Runs d a t → AddsEntries d a t entries e b u → Suits d old
     → Suits e new
 suits_later {d} {e} old new s due r adds suits =
-    suits_by d e new (core_kept r.3 (adds r.0 r.1 r.2 r.3))
-    (subst (λ cs. AllSuit (core_of d) cs) (sym due.2) (both_suit d old new s due suits).1)
+    suits_by d e new (core_kept r.3 (adds r.0 r.1 r.2 r.3)) (rw due.2 (rw due.0.first at suits).1)
 
 -- whether it went well or not
 pub suits_drained : {T E : Type 0} (r : Result T E) (d e : Driver) (a b : Option (List ℕ)) (t u : Tally)
@@ -62,38 +50,19 @@ suits_drained (Err x) d e a b t u s r k suits = tt
 -- what suited before room was made does so behind the time-point
 pub suits_routed : {d e f : Driver} {a b c : Option (List ℕ)} {t u v : Tally} {changes : List Entry} {p : TimePoint}
     (entries : List Entry) (s s2 : Schedule) → RunsTo d a t p → AddsEntries d a t changes e b u
-    → AddsPoint d a t entries p f c v
-    → s2.changes ≡ s.changes → Suits e s → Suits f s2
+    → AddsPoint d a t entries p f c v → s2.changes ≡ s.changes → Suits e s → Suits f s2
 suits_routed {e} {f} entries s s2 r adds more same suits =
-    subst (λ (cs : VecDeque Change Global). AllSuit (core_of f) cs.items) (sym same)
-    (suits_by e f s (core_kept (adds r.0 r.1 r.2 r.3) (more r.0 r.1 r.2 r.4 r.3)) suits)
+    rw same (suits_by e f s (core_kept (adds r.0 r.1 r.2 r.3) (more r.0 r.1 r.2 r.4 r.3)) suits)
 
 -- ---- there are cells for what is to come
 
--- for the first change and for those behind it
-both_seated : (cells : ℕ) (old new : Schedule) (s : Strategy) (due : TakesDue old (Some s) new) → HaveCells cells old
-    → All (λ (c : Change). workers_of c.strategy ≤ cells) (due.0.change ∷ due.0.rest)
-both_seated cells old new s due have =
-    subst (λ (cs : List Change). All (λ (c : Change). workers_of c.strategy ≤ cells) cs) due.0.first have
-
 pub seated_now : (cells : ℕ) (old new : Schedule) (s : Strategy) → TakesDue old (Some s) new → HaveCells cells old
     → workers_of s ≤ cells
-seated_now cells old new s due have =
-    let first : workers_of due.0.change.strategy ≤ cells = both_seated cells old new s due have 0 due.0.change
-    (omega arith) in
-    subst (λ (x : Strategy). workers_of x ≤ cells) (sym due.1) first
+seated_now cells old new s due have = rw due.1 ((rw due.0.first at have) 0 due.0.change (omega arith))
 
 pub seated_later : (cells : ℕ) (old new : Schedule) (s : Strategy) → TakesDue old (Some s) new → HaveCells cells old
     → HaveCells cells new
-seated_later cells old new s due have =
-    subst (λ (cs : List Change). All (λ (c : Change). workers_of c.strategy ≤ cells) cs) (sym due.2)
-    (λ k d high. both_seated cells old new s due have (suc k) d (omega (arith, high)))
-
-pub seated_routed : (cells : ℕ) (old new : Schedule) → new.changes ≡ old.changes → HaveCells cells old
-    → HaveCells cells new
-seated_routed cells old new same have =
-    subst (λ (cs : VecDeque Change Global). All (λ (c : Change). workers_of c.strategy ≤ cells) cs.items) (sym same)
-    have
+seated_later cells old new s due have = rw due.2 (λ k d high. (rw due.0.first at have) (suc k) d (omega (arith, high)))
 
 -- the first of these is the change that is due
 pub first_is : (s : Schedule) (due : IsDue s) (c : Change) (rest : List Change) → s.changes.items ≡ c ∷ rest
@@ -102,26 +71,13 @@ first_is s due c rest e = let both : c ∷ rest ≡ due.change ∷ due.rest = sy
 
 -- the next change is due at its number, and not one time-point before
 pub due_at_its_number : DueAtItsNumber
-due_at_its_number = record {
-  due = λ s c rest e same. record {
-    change = c;
-    rest = rest;
-    first = e;
-    reached = (let low : c.before ≤ s.routed = omega arith in low);
-  };
-  early = λ s c rest e same d more f.
-      let both : c ∷ rest ≡ d ∷ more = sym e ∙ f in
-      let one : c ≡ d = cc in
-      let low : s.routed < c.before = omega arith in
-      subst (λ (x : Change). s.routed < x.before) one low;
-}
+due_at_its_number = grind arith
 
 -- ---- a change
 
 -- it may be read where nothing was read since the strategy was for the core
 pub may_change : {d e : Driver} {a b : Option (List ℕ)} {t u : Tally} {s : Strategy} → WritesOnly d a t e b u
-    → Runs d a t
-    → IsFor (core_of d) s → (w : World) × IsDriverOf e w × IsFor w.core s
+    → Runs d a t → IsFor (core_of d) s → (w : World) × IsDriverOf e w × IsFor w.core s
 may_change {e} {s} k r is =
     let w = k r.0 r.1 r.2 r.3 in
     (w.world, w.stands, subst (λ c. IsFor c s) (sym (core_kept r.3 w) ∙ core_same e w.world w.stands) is)
@@ -167,12 +123,8 @@ none_made s d a t = record {
 pub one_made : {old now new : Schedule} {d e f : Driver} {a b c : Option (List ℕ)} {t u v : Tally} {s : Strategy}
     → Made old now d a t e b u → TakesDue now (Some s) new → AddsEntries e b u (ToStrategy s ∷ []) f c v
     → Made old new d a t f c v
-one_made {old} {now} {new} {f} {c} {v} {s} m due adds =
-    let n = now.routed in
-    let change = due.0.change in
-    let one = one_due n change due.0.rest due.0.reached in
-    let left : changes_due n due.0.rest ≡ changes_due new.routed new.changes.items = rw (due.3, due.2) refl in
-    let behind : changes_later n due.0.rest ≡ changes_later new.routed new.changes.items = rw (due.3, due.2) refl in
+one_made {now = now} {new = new} {f = f} {c = c} {v = v} {s = s} m due adds =
+    let one = one_due now.routed due.0.change due.0.rest due.0.reached in
     record {
       made = m.made ++ ToStrategy s ∷ [];
       none = points_with m.made (ToStrategy s ∷ []) refl ∙ m.none;
@@ -180,22 +132,15 @@ one_made {old} {now} {new} {f} {c} {v} {s} m due adds =
           (append_assoc read m.made (ToStrategy s ∷ []))
           (adds core (read ++ m.made) start (m.adds core read start w));
       routed = due.3 ∙ m.routed;
-      due = m.due ∙ ap (λ cs. m.made ++ changes_due n cs) due.0.first ∙ ap (λ es. m.made ++ es) one.0
-          ∙ ap (λ x. m.made ++ ToStrategy x ∷ changes_due n due.0.rest) (sym due.1)
-          ∙ ap (λ es. m.made ++ ToStrategy s ∷ es) left
-          ∙ sym (append_assoc m.made (ToStrategy s ∷ []) (changes_due new.routed new.changes.items));
-      later = m.later ∙ ap (changes_later n) due.0.first ∙ one.1 ∙ behind;
+      due = rw (m.due, due.0.first, one.0, append_assoc, due.1, due.2, due.3) refl;
+      later = rw (m.later, due.0.first, one.1, due.2, due.3) refl;
     }
 
 -- all of them, once none is due
 pub all_made : {old now : Schedule} {d e : Driver} {a b : Option (List ℕ)} {t u : Tally} → Made old now d a t e b u
     → NoneDue now → AddsEntries d a t (changes_due old.routed old.changes.items) e b u
     × (now.changes.items ≡ changes_later old.routed old.changes.items)
-all_made {old} {now} {d} {e} {a} {b} {t} {u} m none =
-    let left = none_due now.routed now.changes.items none in
-    let all : changes_due old.routed old.changes.items ≡ m.made =
-    m.due ∙ ap (λ es. m.made ++ es) left.0 ∙ append-nil m.made in
-    (subst (λ es. AddsEntries d a t es e b u) (sym all) m.adds, sym left.1 ∙ sym m.later)
+all_made m none = grind (arith, none_due, append-nil)
 
 -- ---- a time-point behind them
 
@@ -203,13 +148,9 @@ all_made {old} {now} {d} {e} {a} {b} {t} {u} m none =
 pub may_point : {d e : Driver} {a b : Option (List ℕ)} {t u : Tally} {p : TimePoint} (n : ℕ) (changes : List Change)
     → AddsEntries d a t (changes_due n changes) e b u → RunsTo d a t p
     → (w : World) × IsDriverOf e w × MayFollow (spot_in w).points p
-may_point {p} n changes adds r =
-    let w = adds r.0 r.1 r.2 r.3 in (
-      w.world,
-      w.stands,
-      subst (λ ps. MayFollow ps p)
-          (sym (points_are w ∙ points_with r.1 (changes_due n changes) (points_due n changes))) r.4,
-    )
+may_point n changes adds r =
+    let w = adds r.0 r.1 r.2 r.3 in
+    (w.world, w.stands, rw (points_are w, points_with r.1 (changes_due n changes) (points_due n changes)) r.4)
 
 pub point_adds : {d e f : Driver} {a b : Option (List ℕ)} {t u : Tally} {p : TimePoint} (n : ℕ) (changes : List Change)
     → AddsEntries d a t (changes_due n changes) e b u → ReadsIn e p f → AddsPoint d a t (changes_due n changes) p f b u
@@ -217,5 +158,4 @@ point_adds {f} {b} {u} {p} n changes adds reads core read start may w0 =
     let w = adds core read start w0 in
     subst (λ es. Writes core es start f b u) (append_assoc read (changes_due n changes) (Point p ∷ []))
     (one_read (Point p) w (reads w.world
-    (subst (λ ps. MayFollow ps p)
-    (sym (points_are w ∙ points_with read (changes_due n changes) (points_due n changes))) may) w.stands))
+    (rw (points_are w, points_with read (changes_due n changes) (points_due n changes)) may) w.stands))

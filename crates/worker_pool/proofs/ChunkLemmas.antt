@@ -1,59 +1,40 @@
 -- Chunk after chunk of a log.
-use Rattle.std.proofs.Common.{◌≡◌, ◌∙◌, ap, ap₂, subst, sym, refl, ℕ, ◌≤◌, Bool, true, false, List, []}
-use Rattle.std.proofs.Common.{◌++◌, length, take, Option, Some, None, append-nil, arith, IfSome}
-use Rattle.std.proofs.Math.Seq.{take-length}
-use Rattle.std.proofs.lemmas.List.{take-append-le}
+use Rattle.std.proofs.Common.{◌≡◌, ◌∙◌, ap, ap₂, subst, sym, refl, ℕ, ◌≤◌, Bool, true, false, List, [], ◌++◌, length}
+use Rattle.std.proofs.Common.{take, Option, Some, None, append-nil, arith, IfSome}
+use Rattle.std.proofs.{Math.Seq.take-length, lemmas.List.take-append-le}
 use Rattle.std.proofs.KnownBytes.{Consumes-nil, Consumes-trans, Consumes-whole}
-use Rattle.std.specs.Io.KnownBytes.{IsAtEnd}
 use Rattle.std.specs.Prelude.{Ok, Err}
-use Rattle.mon_outside.specs.Causes.{Rose}
-use Rattle.mon_outside.specs.Inputs.{Consumes, Moves}
-use Rattle.mon_outside.specs.Sink.{Appends, AppendsFront}
+use Rattle.mon_outside.specs.{Inputs.Consumes, Inputs.Moves, Sink.Appends, Sink.AppendsFront}
 use Rattle.mfotl_model.specs.Formulas.{Form}
-use Rattle.mfotl_model.specs.VerdictText.{verdicts}
 use Rattle.mfotl_model.specs.declared.event.TimePoint.{TimePoint}
 use Rattle.mfotl_sig.specs.Preds.{PredOf}
 use Rattle.log_reader.proofs.GrowthLemmas.{front_stays}
-use Rattle.log_reader.specs.Growth.{ExtendsReading}
-use Rattle.log_reader.specs.Limits.{standard}
+use Rattle.log_reader.specs.{Growth.ExtendsReading, Limits.standard}
 use Rattle.log_reader.specs.Progress.{Progress, read, nothing_fed}
 use Rattle.log_reader.specs.Readers.{ForEach, Reader, Reads, progress}
 use Rattle.log_reader.specs.Readings.{NoFault, Reading, reading, shown}
 use Rattle.log_reader.specs.declared.limits.Limits.{Limits}
 use Rattle.monitorable.specs.CoreForms.{CoreForm}
-use Rattle.monitorable.specs.Laws.{log_of}
 use Rattle.rescale_core.specs.declared.driver.Driver.{Driver}
 use Rattle.slice_strategy.specs.declared.change.Change.{Change}
-use Rattle.worker_pool.specs.Changes.{entries_by}
 use Rattle.worker_pool.specs.Chunks.{Feeds, IsChunkStop, ReadsChunk, ReadsPlan, Routes, StopsLines, run_end}
 use Rattle.worker_pool.specs.Courses.{HasDone, HasDoneAll, Settles}
-use Rattle.worker_pool.specs.Effects.{Effect}
-use Rattle.worker_pool.specs.Endings.{EndsBy, FollowsLog}
-use Rattle.worker_pool.specs.Policies.{IsCoreOf}
+use Rattle.worker_pool.specs.{Effects.Effect, Endings.EndsBy, Endings.FollowsLog, Policies.IsCoreOf}
 use Rattle.worker_pool.specs.Texts.{lines, tally_of, tally_on, text_on}
-use Rattle.worker_pool.specs.Writing.{all_verdicts}
-use Rattle.worker_pool.specs.declared.stop.Stop.{Stop}
+use Rattle.worker_pool.specs.declared.{end.End.End, stop.Stop.Stop, tally.Tally.Tally}
 use Rattle.worker_pool.specs.declared.stop.Stop.TheVariants.{Log, Read, Sink, Memory}
-use Rattle.worker_pool.specs.declared.tally.Tally.{Tally}
-use Rattle.worker_pool.proofs.LogTimes.{read_never_falls}
-use Rattle.worker_pool.proofs.PointLemmas.{first_text, rose_later}
-use Rattle.worker_pool.proofs.SinkLemmas.{longer_front, whole_front}
-use Rattle.worker_pool.proofs.VerdictLemmas.{policy_verdicts}
+use Rattle.worker_pool.proofs.{LogTimes.read_never_falls, PointLemmas.first_text, SinkLemmas.longer_front}
+use Rattle.worker_pool.proofs.{SinkLemmas.whole_front, VerdictLemmas.policy_verdicts}
 
 -- the first time-points stay where more comes behind them
 front_same : (n : ℕ) (s a : Reading) → ExtendsReading s a → n ≡ length s.points → take n a.points ≡ take n s.points
 front_same n s a k count = rw k.points (take-append-le n s.points k.more (omega (arith, count)))
 
 -- the reader's reading, by its signature and its limits
-read_is : (sig : List PredOf) (reader : Reader) (bytes : List ℕ) → reader.sig ≡ sig → reader.limits ≡ standard
+read_is : {sig : List PredOf} (reader : Reader) (bytes : List ℕ) → reader.sig ≡ sig → reader.limits ≡ standard
     → read (progress reader bytes) ≡ reading sig standard bytes reader.is_ended
-read_is sig reader bytes sig_is limits_is =
+read_is reader bytes sig_is limits_is =
     ap₂ (λ (s : List PredOf) (l : Limits). reading s l bytes reader.is_ended) sig_is limits_is
-
--- where all was read, that is the log
-whole_is : (first rest : Option (List ℕ)) (bytes : List ℕ) → Consumes first rest bytes → IsAtEnd rest
-    → IfSome first (λ all. all ≡ bytes)
-whole_is first rest bytes taken end = Consumes-whole first rest bytes (λ all. all ≡ bytes) taken end refl
 
 -- a read consumed what it moved
 pub moved : (before after : Option (List ℕ)) (buffer : List ℕ) (count : ℕ) → Moves before after buffer count
@@ -67,7 +48,7 @@ stops_end : (policy : Form) (e : Effect) (ended : Bool) (r : Reading) (before : 
     → EndsBy ended policy r e (run_end (Err why))
 stops_end policy e ended r before (Log fault) later h = record { shows = h.0; written = h.1 }
 stops_end policy e ended r before Read later h = absurd h
-stops_end policy e ended r before Sink later h = rose_later e.old.faults before e.new.faults later h
+stops_end policy e ended r before Sink later h = omega arith
 stops_end policy e ended r before Memory later h = tt
 
 -- a chunk was fed
@@ -122,10 +103,9 @@ module _ {core : CoreForm} {Done : List TimePoint → Type 0} {sig : List PredOf
       → (course : Course Done sig first rest reader)
       → next ≡ record reader { given = next.given; kept = next.kept }
       → HasDoneAll core Next next course.bytes old now tally → Settled core Next sig first rest next old now tally
-  settles {next = next} {old = old} {now = now} {tally = tally} course is all =
+  settles {next = next} course is all =
       let sig_is : next.sig ≡ sig = ap (λ (r : Reader). r.sig) is ∙ course.sig_is in
       let limits_is : next.limits ≡ standard = ap (λ (r : Reader). r.limits) is ∙ course.limits_is in
-      let same = read_is sig next course.bytes sig_is limits_is in
       record {
         course = record {
           bytes = course.bytes;
@@ -136,9 +116,9 @@ module _ {core : CoreForm} {Done : List TimePoint → Type 0} {sig : List PredOf
           whole = λ told. course.whole (sym (ap (λ (r : Reader). r.is_ended) is) ∙ told);
           so_far = all.so_far;
         };
-        all = all.all ∙ ap (λ (r : Reading). length r.points) same;
-        clear = ap (λ (r : Reading). r.ending) (sym same) ∙ all.clear;
-        settles = subst (λ (r : Reading). Settles core r.points old now tally) same all.settles;
+        all = rw (sig_is, limits_is) at all.all;
+        clear = rw (sig_is, limits_is) at all.clear;
+        settles = rw (sig_is, limits_is) at all.settles;
       }
 
 module _ {core : CoreForm} {Done : List TimePoint → Type 0} {sig : List PredOf} {first rest : Option (List ℕ)}
@@ -153,15 +133,11 @@ module _ {core : CoreForm} {Done : List TimePoint → Type 0} {sig : List PredOf
       let sig_is : next.sig ≡ sig = ap (λ (r : Reader). r.sig) feeds.same ∙ c.sig_is in
       let limits_is : next.limits ≡ standard = ap (λ (r : Reader). r.limits) feeds.same ∙ c.limits_is in
       let given : next.given ≡ reader.given = ap (λ (r : Reader). r.given) feeds.same in
-      let before : reading sig standard c.bytes reader.is_ended ≡ shown sig standard c.bytes =
-      ap (λ b. reading sig standard c.bytes b) untold in
       let points : take next.given (read (progress next bytes)).points
       ≡ take reader.given (read (progress reader c.bytes)).points =
-      ap₂ (λ n (r : Reading). take n r.points) given (read_is sig next bytes sig_is limits_is)
-      ∙ front_same reader.given (shown sig standard c.bytes) (reading sig standard bytes next.is_ended)
-      (front_stays sig standard c.bytes chunk next.is_ended) (s.all ∙ ap (λ (r : Reading). length r.points) before)
-      ∙ ap (λ (r : Reading). take reader.given r.points)
-      (sym before ∙ sym (read_is sig reader c.bytes c.sig_is c.limits_is)) in
+      rw (given, sig_is, limits_is, c.sig_is, c.limits_is, untold) (front_same reader.given (shown sig standard c.bytes)
+      (reading sig standard bytes next.is_ended) (front_stays sig standard c.bytes chunk next.is_ended)
+      (rw untold at s.all)) in
       record {
         bytes = bytes;
         reads = feeds.reads c.bytes c.reads;
@@ -170,9 +146,7 @@ module _ {core : CoreForm} {Done : List TimePoint → Type 0} {sig : List PredOf
         taken = Consumes-trans first rest more c.bytes chunk c.taken taken;
         whole = λ told.
             let w = feeds.whole told in
-            subst (λ (l : List ℕ). IfSome first (λ all. all ≡ l))
-            (sym (ap (λ (l : List ℕ). c.bytes ++ l) w.1 ∙ append-nil c.bytes))
-            (whole_is first rest c.bytes c.taken w.0);
+            rw (w.1, append-nil) (Consumes-whole first rest c.bytes (λ all. all ≡ c.bytes) c.taken w.0 refl);
         so_far = record {
           counted = ap length points ∙ c.so_far.counted ∙ sym given;
           done = subst Done (sym points) c.so_far.done;
@@ -198,28 +172,21 @@ module _ {core : CoreForm} {Done : List TimePoint → Type 0} {sig : List PredOf
     -- though more bytes come
     longer_text : (s : Settled core Done sig first rest reader old mid tally) → reader.is_ended ≡ false
         → (chunk : List ℕ) → AppendsFront old mid (text_on policy (shown sig standard (s.course.bytes ++ chunk)))
+    unfolding text_on
     longer_text s untold chunk =
-        let bytes = s.course.bytes in
-        let k = front_stays sig standard bytes chunk false in
-        let text = first_text core policy is (shown sig standard (bytes ++ chunk)) (shown sig standard bytes).points
-        k.more k.points (read_never_falls sig standard (bytes ++ chunk) false) in
-        let all : Appends old mid (lines (verdicts (log_of (shown sig standard bytes).points) policy)) =
-        subst (λ vs. Appends old mid (lines vs)) (policy_verdicts core policy is (shown sig standard bytes).points)
-        (subst (λ b. Appends old mid (lines (all_verdicts core (reading sig standard bytes b).points))) untold
-        s.settles.text) in
-        rw text.1 (longer_front old mid _ _ (whole_front old mid _ all))
+        let k = front_stays sig standard s.course.bytes chunk false in
+        let text = first_text core policy is (shown sig standard (s.course.bytes ++ chunk)) _ k.more k.points
+        (read_never_falls sig standard (s.course.bytes ++ chunk) false) in
+        subst (AppendsFront old mid) (sym text.1)
+        (longer_front old mid _ _ (whole_front old mid _ (rw untold at (settled_text s))))
 
 -- at the end of the log all of the plan that was due was read
 pub plan_read : {core : CoreForm} {sig : List PredOf} {plan : List Change} {first rest : Option (List ℕ)}
     {reader : Reader} {driver : Driver} {changes : List Change} {old mid : Option (List ℕ)} {tally : Tally}
     → Settled core (Routes core plan old driver changes mid tally) sig first rest reader old mid tally
     → reader.is_ended ≡ true → ReadsPlan sig plan first rest driver
-plan_read {sig = sig} {plan = plan} {reader = reader} s told =
+plan_read s told =
     let c = s.course in
-    let points = (reading sig standard c.bytes reader.is_ended).points in
-    let all : take reader.given (read (progress reader c.bytes)).points ≡ points =
-    ap₂ (λ n (r : Reading). take n r.points) s.all (read_is sig reader c.bytes c.sig_is c.limits_is)
-    ∙ take-length points in
     let writes = c.so_far.done.writes in
     record {
       bytes = c.bytes;
@@ -227,28 +194,33 @@ plan_read {sig = sig} {plan = plan} {reader = reader} s told =
       whole = c.whole told;
       world = writes.world;
       stands = writes.stands;
-      read_is = writes.read_is ∙ ap (entries_by plan) all
-          ∙ ap (λ b. entries_by plan (reading sig standard c.bytes b).points) told;
+      read_is = rw (s.all, c.sig_is, c.limits_is, take-length, told) at writes.read_is;
     }
 
 -- ---- how it ends
 
 module _ {core : CoreForm} {Done : List TimePoint → Type 0} {sig : List PredOf} (policy : Form)
     (is : IsCoreOf core policy) (e : Effect) {reader : Reader} where
-  -- at the end of the log
+  -- all lines were written
+  pub lines_end : {mid : Option (List ℕ)} {tally : Tally} {end : End} → e.new.written ≡ mid
+      → (s : Settled core Done sig e.before.rest e.after.rest reader e.old.written mid tally)
+      → EndsBy reader.is_ended policy (reading sig standard s.course.bytes reader.is_ended) e end
+      → FollowsLog sig policy e end
+  lines_end same s ends = record {
+    bytes = s.course.bytes;
+    ended = reader.is_ended;
+    taken = s.course.taken;
+    whole = s.course.whole;
+    ends = ends;
+    front = rw same (whole_front _ _ _ (settled_text policy is s));
+  }
+
+  -- so it is at the end of the log
   pub finished : {tally : Tally}
       → (s : Settled core Done sig e.before.rest e.after.rest reader e.old.written e.new.written tally)
       → reader.is_ended ≡ true → FollowsLog sig policy e (run_end (Ok tally))
   finished s told =
-      let all = settled_text policy is s in
-      record {
-        bytes = s.course.bytes;
-        ended = reader.is_ended;
-        taken = s.course.taken;
-        whole = s.course.whole;
-        ends = (told, record { shows = s.clear; written = all }, settled_tally policy is s);
-        front = whole_front _ _ _ all;
-      }
+      lines_end refl s (told, record { shows = s.clear; written = settled_text policy is s }, settled_tally policy is s)
 
   -- no more lines could be written, or a fault stands behind them
   pub lines_stop : (c : Course Done sig e.before.rest e.after.rest reader) → (why : Stop) (before : ℕ)
@@ -257,30 +229,17 @@ module _ {core : CoreForm} {Done : List TimePoint → Type 0} {sig : List PredOf
       → AppendsFront e.old.written e.new.written (text_on policy (read (progress reader c.bytes)))
       → FollowsLog sig policy e (run_end (Err why))
   lines_stop c why before later stops part =
-      let same = read_is sig reader c.bytes c.sig_is c.limits_is in
+      let same = read_is reader c.bytes c.sig_is c.limits_is in
       record {
         bytes = c.bytes;
         ended = reader.is_ended;
         taken = c.taken;
         whole = c.whole;
-        ends = stops_end policy e reader.is_ended (reading sig standard c.bytes reader.is_ended) before why later
+        ends = stops_end policy e reader.is_ended _ before why later
             (subst (λ (due : Reading). StopsLines policy due e.old.written e.new.written before e.new.faults why)
             same stops);
-        front = subst (λ (due : Reading). AppendsFront e.old.written e.new.written (text_on policy due)) same part;
+        front = rw (c.sig_is, c.limits_is) at part;
       }
-
-  -- the output failed behind the lines
-  pub output_failed : {mid : Option (List ℕ)} {tally : Tally} → e.new.written ≡ mid
-      → (s : Settled core Done sig e.before.rest e.after.rest reader e.old.written mid tally)
-      → Rose e.old.faults e.new.faults → FollowsLog sig policy e (run_end (Err Sink))
-  output_failed same s rose = record {
-    bytes = s.course.bytes;
-    ended = reader.is_ended;
-    taken = s.course.taken;
-    whole = s.course.whole;
-    ends = rose;
-    front = rw same (whole_front _ _ _ (settled_text policy is s));
-  }
 
   -- no more could be read, or fed
   module _ {mid rest : Option (List ℕ)} {tally : Tally} (same : e.new.written ≡ mid)
@@ -290,18 +249,11 @@ module _ {core : CoreForm} {Done : List TimePoint → Type 0} {sig : List PredOf
         → IsChunkStop chunk before e.after.faults why
         → EndsBy false policy (shown sig standard (s.course.bytes ++ chunk)) e (run_end (Err why))
     chunk_ends chunk before (Log fault) later h = absurd h
-    chunk_ends chunk before Read later h =
-        let bytes : s.course.bytes ++ chunk ≡ s.course.bytes =
-        ap (λ (l : List ℕ). s.course.bytes ++ l) h.0 ∙ append-nil s.course.bytes in
-        let clear : (shown sig standard s.course.bytes).ending ≡ NoFault =
-        subst (λ b. (reading sig standard s.course.bytes b).ending ≡ NoFault) untold s.clear in
-        let text : Appends e.old.written mid (text_on policy (shown sig standard s.course.bytes)) =
-        subst (λ b. Appends e.old.written mid (text_on policy (reading sig standard s.course.bytes b))) untold
-        (settled_text policy is s) in (
-          refl,
-          rw bytes (record { shows = clear; written = rw same text }),
-          rose_later e.before.faults before e.after.faults later h.1,
-        )
+    chunk_ends chunk before Read later h = rw (h.0, append-nil) (
+      refl,
+      record { shows = rw untold at s.clear; written = rw same (rw untold at (settled_text policy is s)) },
+      omega (arith, h.1),
+    )
     chunk_ends chunk before Sink later h = absurd h
     chunk_ends chunk before Memory later h = tt
 

@@ -1,13 +1,10 @@
 -- Hands that are dealt round by round.
 use Rattle.std.proofs.Common.{◌≡◌, ◌∙◌, ap, ap₂, sym, refl, ℕ, zero, suc, ◌+◌, ◌*◌, ◌-◌, ◌/◌, ◌%◌, ◌<◌, ◌++◌, List, []}
 use Rattle.std.proofs.Common.{◌∷◌, length, arith, Bool, true, false, map, get_or, take, drop, set, Vec, nat_eq, add-one}
-use Rattle.std.proofs.lemmas.Bool.{eqb-true, eqb-false}
+use Rattle.std.proofs.{lemmas.Bool.eqb-true, lemmas.Bool.eqb-false, lemmas.Nat.mod-mul-add, lemmas.Nat.mod_below}
 use Rattle.std.proofs.lemmas.List.{ext_get_or, get_or-map, get_or-set_same, get_or-set_other, map-append, map-set}
-use Rattle.std.proofs.lemmas.List.FromFn.{get_or-map-range_with_len, length-map-range_with_len}
-use Rattle.std.proofs.lemmas.List.FromFn.{map-range_with_len_more}
-use Rattle.std.proofs.lemmas.Nat.{mod-mul-add, mod_below}
-use Rattle.std.specs.Global.{Global}
-use Rattle.std.specs.List.{range_with_len}
+use Rattle.std.proofs.lemmas.List.FromFn.{get_or-map-range_with_len, length-map-range_with_len, map-range_with_len_more}
+use Rattle.std.specs.{Global.Global, List.range_with_len}
 use mathlib.Core.Option.{some}
 use lib.ListN.{get_elem?, length-set}
 use Rattle.turn_hub.specs.Ends.{AreInOrder, hand_cell}
@@ -83,8 +80,7 @@ next_by : {X : Type 0} (k : ℕ) (xs : List X) (y : X) (ys : List X) → drop k 
 next_by zero [] y ys e = absurd cc
 next_by zero (x ∷ xs) y ys e = let head : x ≡ y = cc in (ap (λ z. z ∷ []) head, cc, refl)
 next_by (suc k) [] y ys e = absurd cc
-next_by (suc k) (x ∷ xs) y ys e =
-    let next = next_by k xs y ys e in (ap (λ zs. x ∷ zs) next.0, next.1, ap suc next.2)
+next_by (suc k) (x ∷ xs) y ys e = search (next_by k xs y ys e)
 
 -- the next element is taken of those that are left
 pub next_taken : {X : Type 0} (k : ℕ) (xs : List X) (y : X) (ys : List X) → drop k xs ≡ y ∷ ys
@@ -121,5 +117,4 @@ ordered f a (x ∷ xs) order =
 -- hands in order are those of the first cells
 pub in_order : (hands : List WorkerHand) (n : ℕ) → length hands ≡ n → AreInOrder hands
     → cells_of hands ≡ range_with_len 0 n
-in_order hands n count order =
-    ordered (λ h. hand_cell h) 0 hands (λ k h at. order k h at ∙ omega arith) ∙ ap (range_with_len 0) count
+in_order hands n count order = grind (arith, ordered)

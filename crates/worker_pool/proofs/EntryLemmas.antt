@@ -1,11 +1,11 @@
 -- What is read of time-points by a plan of changes.
-use Rattle.std.proofs.Common.{◌≡◌, ◌∙◌, ap, sym, refl, ℕ, ◌+◌, ◌≤◌, ◌<◌, arith, Bool, true, false, cond}
-use Rattle.std.proofs.Common.{List, [], ◌∷◌, ◌++◌, length, append_assoc, append-nil}
+use Rattle.std.proofs.Common.{◌≡◌, ◌∙◌, ap, sym, refl, ℕ, ◌+◌, ◌≤◌, ◌<◌, arith, Bool, false, cond, List, [], ◌∷◌, ◌++◌}
+use Rattle.std.proofs.Common.{length, append_assoc, append-nil}
 use Rattle.std.proofs.lemmas.Bool.{le-leb, lt-leb}
 use Rattle.std.specs.Prelude.{nat_le}
 use Rattle.mfotl_model.specs.declared.event.TimePoint.{TimePoint}
-use Rattle.rescale_core.specs.declared.item.Entry.{Entry}
-use Rattle.rescale_core.specs.declared.item.Entry.TheVariants.{Point, Change as ToStrategy}
+use Rattle.rescale_core.specs.declared.{item.Entry.Entry, item.Entry.TheVariants.Point}
+use Rattle.rescale_core.specs.declared.{item.Entry.TheVariants.Change as ToStrategy}
 use Rattle.slice_strategy.specs.declared.change.Change.{Change}
 use Rattle.worker_pool.specs.Changes.{changes_due, changes_later, entries_behind, left_behind, points_in}
 
@@ -18,8 +18,7 @@ points_more (ToStrategy s ∷ xs) ys = points_more xs ys
 
 none_by : (n : ℕ) (c : Change) (changes : List Change) (b : Bool) → points_in (changes_due n changes) ≡ []
     → points_in (cond b (ToStrategy c.strategy ∷ changes_due n changes) []) ≡ []
-none_by n c changes true none = none
-none_by n c changes false none = refl
+none_by n c changes b none = grind arith
 
 -- changes are none
 pub points_due : (n : ℕ) (changes : List Change) → points_in (changes_due n changes) ≡ []
@@ -28,16 +27,13 @@ points_due n (c ∷ changes) = none_by n c changes (nat_le c.before n) (points_d
 
 -- where no time-point is among the later ones
 pub points_with : (xs ys : List Entry) → points_in ys ≡ [] → points_in (xs ++ ys) ≡ points_in xs
-points_with xs ys none =
-    points_more xs ys ∙ ap (λ ps. points_in xs ++ ps) none ∙ append-nil (points_in xs)
+points_with xs ys none = cc (points_more xs ys, append-nil (points_in xs))
 
 pub points_read : (n : ℕ) (changes : List Change) (points : List TimePoint)
     → points_in (entries_behind n changes points) ≡ points
 points_read n changes [] = refl
 points_read n changes (p ∷ points) =
-    points_more (changes_due n changes) (Point p ∷ entries_behind (n + 1) (changes_later n changes) points)
-    ∙ ap (λ ps. ps ++ p ∷ points_in (entries_behind (n + 1) (changes_later n changes) points)) (points_due n changes)
-    ∙ ap (λ ps. p ∷ ps) (points_read (n + 1) (changes_later n changes) points)
+    search (points_more, points_due, points_read (n + 1) (changes_later n changes) points)
 
 -- ---- one time-point more
 
@@ -62,15 +58,10 @@ left_more n m changes (q ∷ points) p e = left_more (n + 1) m (changes_later n 
 pub one_due : (n : ℕ) (c : Change) (rest : List Change) → c.before ≤ n
     → (changes_due n (c ∷ rest) ≡ ToStrategy c.strategy ∷ changes_due n rest)
     × (changes_later n (c ∷ rest) ≡ changes_later n rest)
-one_due n c rest low =
-    let told : nat_le c.before n ≡ true = le-leb c.before n low in (
-      ap (λ b. cond b (ToStrategy c.strategy ∷ changes_due n rest) []) told,
-      ap (λ b. cond b (changes_later n rest) (c ∷ rest)) told,
-    )
+one_due n c rest low = search (le-leb)
 
 -- none is
-pub none_due : (n : ℕ) (changes : List Change)
-    → ((c : Change) (rest : List Change) → changes ≡ c ∷ rest → n < c.before)
+pub none_due : (n : ℕ) (changes : List Change) → ((c : Change) (rest : List Change) → changes ≡ c ∷ rest → n < c.before)
     → (changes_due n changes ≡ []) × (changes_later n changes ≡ changes)
 none_due n [] none = (refl, refl)
 none_due n (c ∷ changes) none =

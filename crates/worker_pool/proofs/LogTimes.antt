@@ -1,16 +1,12 @@
 -- The timestamps of what is read of a log never fall.
-use Rattle.std.proofs.Common.{◌≡◌, ℕ, zero, suc, ◌≤◌, ◌<◌, Bool, true, false, cond, nat_lt, List, [], ◌∷◌, length}
-use Rattle.std.proofs.Common.{Option, Some, None, refl, arith}
+use Rattle.std.proofs.Common.{◌≡◌, ℕ, zero, suc, ◌≤◌, ◌<◌, Bool, cond, nat_lt, List, [], ◌∷◌, length, Option, Some}
+use Rattle.std.proofs.Common.{None, arith}
 use Rattle.std.specs.Prelude.{option_and_then}
 use Rattle.std.proofs.lemmas.Bool.{ltb-false}
-use Rattle.mfotl_model.specs.Log.{times}
-use Rattle.mfotl_model.specs.Satisfaction.{time_at}
-use Rattle.mfotl_model.specs.Times.{NeverFalls}
+use Rattle.mfotl_model.specs.{Log.times, Satisfaction.time_at, Times.NeverFalls}
 use Rattle.mfotl_model.specs.declared.event.TimePoint.{TimePoint}
 use Rattle.mfotl_sig.specs.Preds.{PredOf}
-use Rattle.log_reader.specs.Grammar.{PointText}
-use Rattle.log_reader.specs.Readings.{reading}
-use Rattle.log_reader.specs.Rules.{log_value, point_value}
+use Rattle.log_reader.specs.{Grammar.PointText, Readings.reading, Rules.log_value, Rules.point_value}
 use Rattle.log_reader.specs.declared.limits.Limits.{Limits}
 use Rattle.log_reader.proofs.CompletedLaws.{all_completed}
 
@@ -38,23 +34,15 @@ rising least (t ∷ ts) rises (suc i) (suc j) before within = rising t ts rises.
 rises_by : (least : ℕ) (points : List TimePoint) (point : TimePoint) (b : Bool) (others : Option (List TimePoint))
     → nat_lt point.ts least ≡ b → ((later : List TimePoint) → others ≡ Some later → Rises point.ts (times later))
     → option_and_then (λ later. Some (point ∷ later)) (cond b None others) ≡ Some points → Rises least (times points)
-rises_by least points point true others is rest e = absurd cc
-rises_by least points point false None is rest e = absurd cc
-rises_by least points point false (Some later) is rest e =
-    let all : points ≡ point ∷ later = cc in
-    rw all (ltb-false point.ts least is, rest later refl)
+rises_by least points point b others is rest e = grind (arith, ltb-false)
 
 module _ (sig : List PredOf) (limits : Limits) where
   value_by : (least room : ℕ) (log : List PointText) (points : List TimePoint) (o : Option TimePoint)
       → ((time : ℕ) (later : List TimePoint) → log_value sig limits time room log ≡ Some later
-      → Rises time (times later))
-      → option_and_then (λ point. option_and_then (λ later. Some (point ∷ later))
+      → Rises time (times later)) → option_and_then (λ point. option_and_then (λ later. Some (point ∷ later))
       (cond (nat_lt point.ts least) None (log_value sig limits point.ts room log))) o
       ≡ Some points → Rises least (times points)
-  value_by least room log points None rest e = absurd cc
-  value_by least room log points (Some point) rest e =
-      rises_by least points point (nat_lt point.ts least) (log_value sig limits point.ts room log) refl
-      (rest point.ts) e
+  value_by least room log points o rest e = grind (arith, rises_by)
 
   -- the rules let no timestamp fall
   value_rises : (least room : ℕ) (log : List PointText) (points : List TimePoint)

@@ -1,53 +1,37 @@
 -- The time-points that a reader gives, routed by a plan of changes.
-use Rattle.std.proofs.Common.{◌≡◌, ◌∙◌, ap, subst, sym, refl, ℕ, ◌+◌, List, [], ◌∷◌, ◌++◌, length, take, Option, arith}
+use Rattle.std.proofs.Common.{◌≡◌, ◌∙◌, ap, subst, sym, refl, ℕ, ◌+◌, List, [], ◌∷◌, ◌++◌, length, Option, arith}
 use Rattle.mfotl_model.specs.declared.event.TimePoint.{TimePoint}
-use Rattle.log_reader.specs.Progress.{read}
 use Rattle.log_reader.specs.Readers.{Reader, progress}
 use Rattle.monitorable.specs.CoreForms.{CoreForm}
 use Rattle.rescale_core.specs.Workers.{MayFollow}
 use Rattle.rescale_core.specs.declared.driver.Driver.{Driver}
-use Rattle.rescale_core.specs.declared.item.Entry.TheVariants.{Point}
 use Rattle.slice_strategy.specs.declared.change.Change.{Change}
 use Rattle.worker_pool.specs.Changes.{changes_due, changes_later, entries_by}
 use Rattle.worker_pool.specs.Chunks.{ForEachRun, IsUnderWay, Routes}
-use Rattle.worker_pool.specs.Courses.{Settles}
-use Rattle.worker_pool.specs.Texts.{tally_of}
-use Rattle.worker_pool.specs.Writing.{AddsPoint, AllEmitted, Falls, FallsShort, HasReadNothing, Runs, Writes}
-use Rattle.worker_pool.specs.Writing.{WritesOnly}
+use Rattle.worker_pool.specs.{Courses.Settles, Texts.tally_of}
+use Rattle.worker_pool.specs.Writing.{AddsPoint, AllEmitted, Falls, FallsShort, HasReadNothing, Runs, WritesOnly}
 use Rattle.worker_pool.specs.declared.tally.Tally.{Tally}
 use Rattle.worker_pool.proofs.EntryLemmas.{entries_more, left_more, points_read}
-use Rattle.worker_pool.proofs.GivenPoints.{IsAmid}
-use Rattle.worker_pool.proofs.WritingLemmas.{nothing_read, over_written}
+use Rattle.worker_pool.proofs.{GivenPoints.IsAmid, WritingLemmas.nothing_read, WritingLemmas.over_written}
 
 -- nothing was read
 pub routes_none : {core : CoreForm} {driver : Driver} {tally : Tally} (plan : List Change) (start : Option (List ℕ))
     → HasReadNothing core driver → tally ≡ tally_of [] → Routes core plan start driver plan start tally []
-routes_none {core} {driver} {tally} plan start begins none = record {
-  left = refl;
-  writes = nothing_read core driver start tally begins none;
-}
+routes_none plan start begins none = record { left = refl; writes = nothing_read _ _ start _ begins none }
 
 -- so main runs, whichever run it is
 pub under : {first reader : Reader} {driver here : Driver} {changes left : List Change} {old now : Option (List ℕ)}
     {t v : Tally} → IsUnderWay first driver changes old t → ForEachRun first driver changes old t
     (λ core plan bytes start. IsAmid (Routes core plan start here left now v) (progress first bytes) reader)
     → Runs here now v
-under {first} {reader} u runs =
-    let amid = runs u.core u.plan u.bytes u.start u.reads u.so_far in (
-      u.core,
-      entries_by u.plan (take reader.given (read (progress first u.bytes)).points),
-      u.start,
-      amid.so_far.done.writes,
-    )
+under u runs = (_, _, _, (runs u.core u.plan u.bytes u.start u.reads u.so_far).so_far.done.writes)
 
 module _ {core : CoreForm} {plan : List Change} {old mid : Option (List ℕ)} {driver : Driver} {changes : List Change}
     {tally : Tally} where
   -- what was written then is a front of what is due
   pub routed_falls : {new : Option (List ℕ)} → FallsShort driver mid tally new → (points : List TimePoint)
       → Routes core plan old driver changes mid tally points → Falls core points old new
-  routed_falls {new} falls points r =
-      subst (λ xs. Falls core xs old new) (points_read 0 plan points)
-      (falls core (entries_by plan points) old r.writes)
+  routed_falls falls points r = rw (points_read 0 plan points) at (falls core (entries_by plan points) old r.writes)
 
   -- one time-point more was read, behind the changes that were due
   pub routed_more : {after : Driver} {left : List Change} {new : Option (List ℕ)} {more : Tally} (n : ℕ)
@@ -55,30 +39,23 @@ module _ {core : CoreForm} {plan : List Change} {old mid : Option (List ℕ)} {d
       → left ≡ changes_later n changes → (points : List TimePoint) → length points ≡ n → MayFollow points point
       → Routes core plan old driver changes mid tally points
       → Routes core plan old after left new more (points ++ point ∷ [])
-  routed_more {after} {new = new} {more = more} n point adds later points counted follows r =
+  routed_more n point adds later points counted follows r =
       let count : n ≡ 0 + length points = omega (arith, counted) in
       record {
         left = later ∙ ap (changes_later n) r.left ∙ sym (left_more 0 n plan points point count);
-        writes = subst (λ es. Writes core es old after new more)
-            (ap (λ cs. entries_by plan points ++ (changes_due n cs ++ Point point ∷ [])) r.left
-            ∙ sym (entries_more 0 n plan points point count))
-            (adds core (entries_by plan points) old
-            (subst (λ ps. MayFollow ps point) (sym (points_read 0 plan points)) follows) r.writes);
+        writes = rw (entries_more 0 n plan points point count, ← r.left)
+            (adds core (entries_by plan points) old (rw (points_read 0 plan points) follows) r.writes);
       }
 
   -- nothing was read since
   pub routed_keeps : {after : Driver} {new : Option (List ℕ)} {more : Tally}
       → WritesOnly driver mid tally after new more → (points : List TimePoint)
       → Routes core plan old driver changes mid tally points → Routes core plan old after changes new more points
-  routed_keeps keeps points r = record {
-    left = r.left;
-    writes = keeps core (entries_by plan points) old r.writes;
-  }
+  routed_keeps keeps points r = record { left = r.left; writes = keeps core _ old r.writes }
 
   -- once no verdict is left, all lines were written
   pub routed_settles : AllEmitted driver → (points : List TimePoint)
       → Routes core plan old driver changes mid tally points → Settles core points old mid tally
   routed_settles over points r =
       let all = over_written r.writes over in
-      subst (λ ps. Settles core ps old mid tally) (points_read 0 plan points)
-      (record { text = all.0; counts = all.1 })
+      subst (λ ps. Settles core ps old mid tally) (points_read 0 plan points) (record { text = all.0; counts = all.1 })

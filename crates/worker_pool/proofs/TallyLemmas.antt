@@ -1,8 +1,6 @@
 -- What is counted of verdicts.
-use Rattle.std.proofs.Common.{◌≡◌, ◌∙◌, ap, sym, refl, arith, Bool, true, false, ◌||◌}
-use Rattle.std.proofs.Common.{cond, nat_lt, List, [], ◌∷◌, length}
-use Rattle.std.proofs.lemmas.Bool.{lt-ltb}
-use Rattle.std.proofs.lemmas.List.Sums.{length-filter}
+use Rattle.std.proofs.Common.{◌≡◌, ◌∙◌, ap, refl, arith, Bool, ◌||◌, cond, nat_lt, List, [], ◌∷◌, length}
+use Rattle.std.proofs.{lemmas.Bool.lt-ltb, lemmas.List.Sums.length-filter}
 use Rattle.std.specs.List.{filter}
 use Rattle.mfotl_model.specs.VerdictText.{VerdictOf, verdicts}
 use Rattle.worker_pool.specs.Laws.{ViolationsCounted}
@@ -10,8 +8,7 @@ use Rattle.worker_pool.specs.Texts.{has_some_row, log_in, some_rows, tally_of, t
 
 some_by : (b c : Bool) (v : VerdictOf) (vs : List VerdictOf) → c ≡ nat_lt 0 (length vs)
     → (b || c) ≡ nat_lt 0 (length (cond b (v ∷ vs) vs))
-some_by true c v vs e = sym (lt-ltb 0 (length (v ∷ vs)) (omega arith))
-some_by false c v vs e = e
+some_by b c v vs e = grind (arith, lt-ltb)
 
 some_left : (vs : List VerdictOf) → some_rows vs ≡ nat_lt 0 (length (filter has_some_row vs))
 some_left [] = refl

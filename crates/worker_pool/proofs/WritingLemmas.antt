@@ -1,53 +1,38 @@
 -- What main has read and written stays true from turn to turn.
-use Rattle.std.proofs.Common.{◌≡◌, ◌∙◌, ℕ, ◌≤◌, List, [], ◌∷◌, ◌++◌, map, length, Option}
-use Rattle.std.proofs.Common.{sym, refl, ap, ap₂, subst, append_assoc}
-use Rattle.std.proofs.Common.{append-nil, OnOk, OnErr, Ok, Err, Bool, true}
+use Rattle.std.proofs.Common.{◌≡◌, ◌∙◌, ℕ, List, [], ◌∷◌, ◌++◌, map, length, Option, sym, refl, ap, ap₂, subst}
+use Rattle.std.proofs.Common.{append_assoc, append-nil, OnOk, OnErr, Ok, Err, Bool, true, arith}
 use Rattle.std.specs.Prelude.{Result}
-use Rattle.std.specs.List.{range_with_len}
-use Rattle.std.proofs.lemmas.Grind.{flat_map-append}
-use Rattle.std.proofs.lemmas.List.{map-append}
-use Rattle.std.proofs.KnownBytes.{Appends-nil, Appends-trans}
+use Rattle.std.proofs.{lemmas.List.map-append, lemmas.Simd.map-map, KnownBytes.Appends-nil, KnownBytes.Appends-trans}
 use Rattle.mon_outside.specs.Sink.{Appends, AppendsFront}
 use Rattle.mfotl_model.specs.VerdictText.{VerdictOf, line_of}
 use Rattle.mfotl_model.specs.declared.event.TimePoint.{TimePoint}
 use Rattle.monitorable.specs.CoreForms.{CoreForm}
-use Rattle.rescale_core.proofs.Ending.{world_emitted}
-use Rattle.rescale_core.proofs.Keeping.{by_steps, turn_keeps}
-use Rattle.rescale_core.proofs.Verdicts.{first_verdicts as none_emitted}
-use Rattle.rescale_core.specs.Laws.{EmitsVerdicts}
+use Rattle.rescale_core.proofs.{Ending.world_emitted, Keeping.by_steps, Keeping.turn_keeps}
+use Rattle.rescale_core.proofs.{Verdicts.first_verdicts as none_emitted}
+use Rattle.rescale_core.specs.{Laws.EmitsVerdicts, Moving.StepKind.Emits, Moving.StepKind.Reads, Routing.HasEnded}
+use Rattle.rescale_core.specs.{Worlds.Step.Emit, Worlds.Step.Read}
 use Rattle.rescale_core.specs.Lines.{Spot, first_spot, moved, spot_after}
 use Rattle.rescale_core.specs.Moving.{IsDriverOf, Reaches, TurnsTo}
-use Rattle.rescale_core.specs.Moving.StepKind.{Emits, Reads}
-use Rattle.rescale_core.specs.Routing.{HasEnded}
-use Rattle.rescale_core.specs.Workers.{settled_in}
-use Rattle.rescale_core.specs.Worlds.{World, Allowed, world_after, first_world, spot_in, verdict_on}
-use Rattle.rescale_core.specs.Worlds.Step.{Emit, Read}
-use Rattle.rescale_core.specs.declared.driver.Driver.{Driver}
-use Rattle.rescale_core.specs.declared.driver.Turn.{Turn}
-use Rattle.rescale_core.specs.declared.item.Entry.{Entry}
-use Rattle.rescale_core.specs.declared.item.Entry.TheVariants.{Point, Change as ToStrategy}
+use Rattle.rescale_core.specs.Worlds.{World, Allowed, world_after, first_world, spot_in}
+use Rattle.rescale_core.specs.declared.{driver.Driver.Driver, driver.Turn.Turn, item.Entry.Entry}
+use Rattle.rescale_core.specs.declared.{item.Entry.TheVariants.Point, item.Entry.TheVariants.Change as ToStrategy}
 use Rattle.verdict_merge.specs.declared.rows.Verdict.{Verdict}
-use Rattle.worker_pool.specs.Changes.{points_in}
-use Rattle.worker_pool.specs.Texts.{lines, tally_of}
-use Rattle.worker_pool.specs.Writing.{AddsEntries, HasReadNothing, FallsShort, AllEmitted, WritesOnly, Runs, RunsTo}
-use Rattle.worker_pool.specs.Writing.{Writes}
-use Rattle.worker_pool.specs.Writing.{all_verdicts, first_verdicts, seen}
+use Rattle.worker_pool.specs.{Changes.points_in, Texts.lines, Texts.tally_of}
+use Rattle.worker_pool.specs.Writing.{AddsEntries, HasReadNothing, Falls, FallsShort, AllEmitted, WritesOnly, Runs}
+use Rattle.worker_pool.specs.Writing.{RunsTo, Writes, all_verdicts, first_verdicts, seen}
 use Rattle.worker_pool.specs.declared.tally.Tally.{Tally}
-use Rattle.worker_pool.proofs.SinkLemmas.{front_behind, whole_front}
+use Rattle.worker_pool.proofs.{SinkLemmas.front_behind, SinkLemmas.whole_front, VerdictLemmas.lines_more}
 
 pub on_err : {T E : Type 0} (r : Result T E) (P : Type 0) → P → OnErr r P
-on_err (Ok x) P p = tt
-on_err (Err e) P p = p
+on_err r P p = grind arith
 
 pub on_ok_both : {T E : Type 0} (r : Result T E) (P Q R : Type 0) → (P → Q → R) → OnOk r P → OnOk r Q → OnOk r R
-on_ok_both (Ok x) P Q R f p q = f p q
-on_ok_both (Err e) P Q R f p q = tt
+on_ok_both r P Q R f p q = grind arith
 
 -- ---- one after the other
 
 pub keeps_on : {d e f : Driver} {a b c : Option (List ℕ)} {t u v : Tally} → WritesOnly d a t e b u
-    → WritesOnly e b u f c v
-    → WritesOnly d a t f c v
+    → WritesOnly e b u f c v → WritesOnly d a t f c v
 keeps_on h k core read start w = k core read start (h core read start w)
 
 pub runs_on : {d e : Driver} {a b : Option (List ℕ)} {t u : Tally} → WritesOnly d a t e b u → Runs d a t → Runs e b u
@@ -63,8 +48,7 @@ pub adds_keeps : {d e f : Driver} {a b c : Option (List ℕ)} {t u v : Tally} {e
 adds_keeps {entries} h k core read start w = k core (read ++ entries) start (h core read start w)
 
 pub runs_with : {d e : Driver} {a b : Option (List ℕ)} {t u : Tally} {entries : List Entry}
-    → AddsEntries d a t entries e b u
-    → Runs d a t → Runs e b u
+    → AddsEntries d a t entries e b u → Runs d a t → Runs e b u
 runs_with {entries} k r = (r.0, r.1 ++ entries, r.2, k r.0 r.1 r.2 r.3)
 
 pub runs_of : {d : Driver} {a : Option (List ℕ)} {t : Tally} {p : TimePoint} → RunsTo d a t p → Runs d a t
@@ -77,21 +61,12 @@ world_of r = (r.3.world, r.3.stands)
 -- nothing was done
 pub same_keeps : {d e : Driver} (now : Option (List ℕ)) (t : Tally) → ((w : World) → IsDriverOf d w → IsDriverOf e w)
     → WritesOnly d now t e now t
-same_keeps now t go core read start w = record {
-  world = w.world;
-  stands = go w.world w.stands;
-  core_is = w.core_is;
-  read_is = w.read_is;
-  verdicts = w.verdicts;
-  text = w.text;
-  counts = w.counts;
-}
+same_keeps now t go core read start w = grind arith
 
 -- the time-points are those that were read
 spot_reads : (a : Spot) (read : List Entry) → (spot_after a read).points ≡ a.points ++ points_in read
 spot_reads a [] = sym (append-nil a.points)
-spot_reads a (Point p ∷ read) =
-    spot_reads (moved a (Point p)) read ∙ append_assoc a.points (p ∷ []) (points_in read)
+spot_reads a (Point p ∷ read) = search (append_assoc, spot_reads (moved a (Point p)) read)
 spot_reads a (ToStrategy s ∷ read) = spot_reads (moved a (ToStrategy s)) read
 
 pub points_are : {core : CoreForm} {read : List Entry} {start now : Option (List ℕ)} {d : Driver} {t : Tally}
@@ -103,17 +78,7 @@ points_are w = spot_reads (first_spot w.world.first) w.world.read ∙ ap points_
 -- a turn reads and writes nothing
 pub turn_written : (d e : Driver) (now : Option (List ℕ)) (t : Tally) (k : ℕ) (turn : Turn) → TurnsTo d k turn e
     → WritesOnly d now t e now t
-turn_written d e now t k turn to core read start w =
-    let x = turn_keeps d e k turn w.world to w.stands w.verdicts in
-    record {
-      world = x.0;
-      stands = x.1;
-      core_is = x.3.core ∙ w.core_is;
-      read_is = x.3.read ∙ w.read_is;
-      verdicts = x.2;
-      text = subst (λ vs. Appends start now (lines (map seen vs))) (sym x.3.emitted) w.text;
-      counts = w.counts ∙ ap (λ vs. tally_of (map seen vs)) (sym x.3.emitted);
-    }
+turn_written d e now t k turn to core read start w = grind (arith, turn_keeps)
 
 -- ---- a verdict
 
@@ -121,12 +86,9 @@ turn_written d e now t k turn to core read start w =
 abbrev pub EmitsIn : Driver → Verdict → Driver → Type 0
 EmitsIn d v e = (w : World) → IsDriverOf d w → Allowed w (Emit v) × IsDriverOf e (world_after w (Emit v))
 
-lines_more : (vs : List Verdict) (v : Verdict)
+seen_more : (vs : List Verdict) (v : Verdict)
     → lines (map seen (vs ++ v ∷ [])) ≡ lines (map seen vs) ++ line_of (seen v)
-lines_more vs v =
-    ap lines (map-append seen vs (v ∷ []))
-    ∙ flat_map-append line_of (map seen vs) (seen v ∷ [])
-    ∙ ap (λ l. lines (map seen vs) ++ l) (append-nil (line_of (seen v)))
+seen_more vs v = ap lines (map-append seen vs (v ∷ [])) ∙ lines_more (map seen vs) (seen v)
 
 emitted_next : (w : World) (d : Driver) (v : Verdict) → IsDriverOf d w → EmitsVerdicts w → Allowed w (Emit v)
     → EmitsVerdicts (world_after w (Emit v))
@@ -145,39 +107,32 @@ wrote_one {d} {e} {v} {a} {b} emits line counts core read start w =
       core_is = w.core_is;
       read_is = w.read_is;
       verdicts = emitted_next w.world d v w.stands w.verdicts one.0;
-      text = subst (Appends start b) (sym (lines_more w.world.emitted v)) (Appends-trans start a b _ _ w.text line);
+      text = subst (Appends start b) (sym (seen_more w.world.emitted v)) (Appends-trans start a b _ _ w.text line);
       counts = counts (map seen w.world.emitted) w.counts
           ∙ ap tally_of (sym (map-append seen w.world.emitted (v ∷ [])));
     }
 
 -- ---- falling short
 
-map_map : {A B C : Type 0} (f : A → B) (g : B → C) (xs : List A) → map g (map f xs) ≡ map (λ x. g (f x)) xs
-map_map f g [] = refl
-map_map f g (x ∷ xs) = ap (λ ys. g (f x) ∷ ys) (map_map f g xs)
-
 -- what was emitted are the first verdicts
 emitted_first : (core : CoreForm) (points : List TimePoint) (w : World) → w.core ≡ core → (spot_in w).points ≡ points
     → EmitsVerdicts w → map seen w.emitted ≡ first_verdicts core points (length w.emitted)
-emitted_first core points w core_is points_are verdicts =
-    ap (map seen) verdicts.are
-    ∙ map_map (verdict_on w.core (spot_in w).points) seen (range_with_len 0 (length w.emitted))
-    ∙ ap₂ (λ c ps. first_verdicts c ps (length w.emitted)) core_is points_are
+emitted_first core points w core_is points_are verdicts = grind (arith, map-map, ap₂, points_are)
 
-settled_first : (core : CoreForm) (points : List TimePoint) (w : World) → w.core ≡ core → (spot_in w).points ≡ points
-    → EmitsVerdicts w → length w.emitted ≤ settled_in core points
-settled_first core points w core_is points_are verdicts =
-    subst (λ ps. length w.emitted ≤ settled_in core ps) points_are
-    (subst (λ c. length w.emitted ≤ settled_in c (spot_in w).points) core_is verdicts.settled)
+-- so a front of their lines falls short
+falls_at : (core : CoreForm) (points : List TimePoint) (w : World) {start now : Option (List ℕ)} → w.core ≡ core
+    → (spot_in w).points ≡ points → EmitsVerdicts w → AppendsFront start now (lines (map seen w.emitted))
+    → Falls core points start now
+falls_at core points w {start} {now} core_is points_are verdicts front = record {
+  count = length w.emitted;
+  settled = grind (arith, points_are);
+  front = subst (λ vs. AppendsFront start now (lines vs)) (emitted_first core points w core_is points_are verdicts)
+      front;
+}
 
 pub stops : (d : Driver) (now : Option (List ℕ)) (t : Tally) → FallsShort d now t now
-stops d now t core read start w = record {
-  count = length w.world.emitted;
-  settled = settled_first core (points_in read) w.world w.core_is (points_are w) w.verdicts;
-  front = subst (λ vs. AppendsFront start now (lines vs))
-      (emitted_first core (points_in read) w.world w.core_is (points_are w) w.verdicts)
-      (whole_front start now (lines (map seen w.world.emitted)) w.text);
-}
+stops d now t core read start w =
+    falls_at core (points_in read) w.world w.core_is (points_are w) w.verdicts (whole_front start now _ w.text)
 
 -- whether it went well or not
 pub falls_either : {T E : Type 0} (r : Result T E) (d e : Driver) (a b : Option (List ℕ)) (t u : Tally)
@@ -188,32 +143,21 @@ falls_either (Err x) d e a b t u keeps falls = falls
 -- a line was written in part
 pub cut_short : {d e : Driver} {v : Verdict} {a b : Option (List ℕ)} {t : Tally} → EmitsIn d v e
     → AppendsFront a b (line_of (seen v)) → FallsShort d a t b
-cut_short {d} {e} {v} {a} {b} emits part core read start w =
+cut_short {d} {v = v} {a = a} {b = b} emits part core read start w =
     let one = emits w.world w.stands in
-    let x : World = world_after w.world (Emit v) in
-    let verdicts = emitted_next w.world d v w.stands w.verdicts one.0 in
-    record {
-      count = length x.emitted;
-      settled = settled_first core (points_in read) x w.core_is (points_are w) verdicts;
-      front = subst (λ vs. AppendsFront start b (lines vs))
-          (emitted_first core (points_in read) x w.core_is (points_are w) verdicts)
-          (subst (AppendsFront start b) (sym (lines_more w.world.emitted v))
-          (front_behind start a b _ _ w.text part));
-    }
+    falls_at core (points_in read) (world_after w.world (Emit v)) w.core_is (points_are w)
+    (emitted_next w.world d v w.stands w.verdicts one.0)
+    (subst (AppendsFront start b) (sym (seen_more w.world.emitted v)) (front_behind start a b _ _ w.text part))
 
 -- ---- the end
 
 -- all verdicts were emitted
-pub is_over : (d : Driver) (b : Bool) → b ≡ true
-    → ((w : World) → IsDriverOf d w → b ≡ true → HasEnded w) → AllEmitted d
-is_over d b told ended w is verdicts =
-    emitted_first w.core (spot_in w).points w refl refl verdicts
-    ∙ ap (first_verdicts w.core (spot_in w).points) (world_emitted w is.router.sound verdicts (ended w is told))
+pub is_over : (d : Driver) (b : Bool) → b ≡ true → ((w : World) → IsDriverOf d w → b ≡ true → HasEnded w) → AllEmitted d
+is_over d b told ended w is verdicts = grind (arith, emitted_first, world_emitted)
 
 -- so their lines were written
 pub over_written : {core : CoreForm} {read : List Entry} {start now : Option (List ℕ)} {d : Driver} {t : Tally}
-    → Writes core read start d now t → AllEmitted d
-    → Appends start now (lines (all_verdicts core (points_in read)))
+    → Writes core read start d now t → AllEmitted d → Appends start now (lines (all_verdicts core (points_in read)))
     × (t ≡ tally_of (all_verdicts core (points_in read)))
 over_written {core} {read} {start} {now} w over =
     let all : map seen w.world.emitted ≡ all_verdicts core (points_in read) =

@@ -1,21 +1,12 @@
-use Rattle.std.proofs.Common.{◌≡◌, ◌∙◌, ◌+◌, ap, arith, refl, subst, sym, take}
-use Rattle.log_reader.specs.Progress.{read}
-use Rattle.log_reader.specs.Readers.{Reader, Reads, progress}
-use Rattle.worker_pool.proofs.AloneLemmas.{falls_none}
-use Rattle.worker_pool.proofs.GivenPoints.{done_at_end, done_for_more, few_before, front_amid, front_behind_one}
-use Rattle.worker_pool.proofs.GivenPoints.{is_amid, may_follow, one_done, stops_at}
-use Rattle.worker_pool.proofs.PointLemmas.{one_more_given}
+use Rattle.std.proofs.Common.{◌∙◌, ap, arith, rules}
+use Rattle.log_reader.specs.Readers.{Reader}
+use Rattle.worker_pool.proofs.{AloneLemmas.falls_none, PointLemmas.one_more_given}
+use Rattle.worker_pool.proofs.GivenPoints.{done_at_end, done_for_more, front_amid, front_behind_one, is_amid}
+use Rattle.worker_pool.proofs.GivenPoints.{may_follow, one_done, stops_at}
 use Rattle.worker_pool.proofs.alone.take_complete.Goals as goal
 
 pub points-init : goal.points-init
-points-init g c = record {
-  works = c.requires.works;
-  reader = refl;
-  later = omega arith;
-  so_far = λ core bytes start reads so_far. is_amid reads so_far;
-  can = tt;
-  finite = tt;
-}
+points-init g c = search (rules, is_amid)
 
 pub take-requires : goal.take-requires
 take-requires g c =
@@ -23,28 +14,16 @@ take-requires g c =
     let here = c.points.invariant.so_far under.core under.bytes under.start under.reads under.so_far in
     let gives = rw c.in-Ok-Point.field-0-is at (c.in-Ok-Point.ensures.answer under.bytes here.reads) in
     let after = rw c.in-Ok-Point.field-0-is at c.in-Ok-Point.ensures.after in
-    let room = few_before c.args.reader.now c.points.reader c.next-in-points.new.self c.points.invariant.reader after
-    c.in-Ok-Point.ensures.few c.requires.few in
-    record {
-      may = (
-        under.core,
-        under.start,
-        take c.points.reader.given (read (progress c.args.reader.now under.bytes)).points,
-        may_follow here c.in-Ok-Point.point gives room,
-        here.so_far.done,
-      );
-    }
+    let may = may_follow here c.in-Ok-Point.point gives after c.in-Ok-Point.ensures.few in
+    record { may = (under.core, under.start, _, may, here.so_far.done) }
 
 pub returns-in_err-take-in-Ok-Point-clause-front : goal.returns-in_err-take-in-Ok-Point-clause-front
 returns-in_err-take-in-Ok-Point-clause-front g c core bytes start reads so_far =
-    let inv = c.points.invariant in
-    let here = inv.so_far core bytes start reads so_far in
+    let here = c.points.invariant.so_far core bytes start reads so_far in
     let gives = rw c.in-Ok-Point.field-0-is at (c.in-Ok-Point.ensures.answer bytes here.reads) in
     let after = rw c.in-Ok-Point.field-0-is at c.in-Ok-Point.ensures.after in
-    let room = few_before c.args.reader.now c.points.reader c.next-in-points.new.self inv.reader after
-    c.in-Ok-Point.ensures.few c.requires.few in
-    front_behind_one here c.in-Ok-Point.point gives room
-    (λ points follows w. c.in_err-take-in-Ok-Point.ensures.err core start points follows w)
+    front_behind_one here c.in-Ok-Point.point gives after c.in-Ok-Point.ensures.few
+    (c.in_err-take-in-Ok-Point.ensures.err core start)
 
 pub returns-in-Ok-More-clause-ok : goal.returns-in-Ok-More-clause-ok
 returns-in-Ok-More-clause-ok g c core bytes start reads so_far =
@@ -55,7 +34,7 @@ returns-in-Ok-More-clause-ok g c core bytes start reads so_far =
 
 pub returns-in-Ok-More-clause-front : goal.returns-in-Ok-More-clause-front
 returns-in-Ok-More-clause-front g c core bytes start reads so_far =
-    front_amid (c.points.invariant.so_far core bytes start reads so_far) (λ points w. falls_none w)
+    front_amid (c.points.invariant.so_far core bytes start reads so_far) (λ points. falls_none)
 
 pub returns-in-Ok-End-clause-ok : goal.returns-in-Ok-End-clause-ok
 returns-in-Ok-End-clause-ok g c core bytes start reads so_far =
@@ -66,31 +45,25 @@ returns-in-Ok-End-clause-ok g c core bytes start reads so_far =
 
 pub returns-in-Ok-End-clause-front : goal.returns-in-Ok-End-clause-front
 returns-in-Ok-End-clause-front g c core bytes start reads so_far =
-    front_amid (c.points.invariant.so_far core bytes start reads so_far) (λ points w. falls_none w)
+    front_amid (c.points.invariant.so_far core bytes start reads so_far) (λ points. falls_none)
 
 pub points-preserved : goal.points-preserved
 points-preserved g c =
     let inv = c.points.invariant in
-    let gave = rw c.in-Ok-Point.field-0-is at c.in-Ok-Point.ensures.after in
-    let room = few_before c.args.reader.now c.points.reader c.next-in-points.new.self inv.reader gave
-    c.in-Ok-Point.ensures.few c.requires.few in
-    let back : c.next-in-points.new.self ≡ c.take_back.new.self = sym c.take_back.ensures in
-    let after : c.take_back.new.self
-    ≡ record c.points.reader { given = c.points.reader.given + 1; kept = c.take_back.new.self.kept } =
-    subst (λ (r : Reader). r ≡ record c.points.reader { given = c.points.reader.given + 1; kept = r.kept }) back gave in
-    record {
+    let after = rw c.in-Ok-Point.field-0-is at c.in-Ok-Point.ensures.after in
+    rw c.take_back.ensures (record {
       works = ap (λ (r : Reader). r.is_broken) after ∙ inv.works;
-      reader = one_more_given c.args.reader.now c.points.reader c.take_back.new.self inv.reader after;
+      reader = one_more_given c.args.reader.now c.points.reader c.next-in-points.new.self inv.reader after;
       later = omega (arith, inv.later, c.take.ensures.later);
       so_far = λ core bytes start reads so_far.
           let here = inv.so_far core bytes start reads so_far in
           let gives = rw c.in-Ok-Point.field-0-is at (c.in-Ok-Point.ensures.answer bytes here.reads) in
-          one_done here c.in-Ok-Point.point gives room after
-          (subst (λ (r : Reader). Reads r bytes) back (c.in-Ok-Point.ensures.reads bytes here.reads))
+          one_done here c.in-Ok-Point.point gives after c.in-Ok-Point.ensures.few
+          (c.in-Ok-Point.ensures.reads bytes here.reads)
           (λ points counted follows w. c.in_ok-take-in-Ok-Point.ensures.ok core start points follows w);
       can = tt;
       finite = tt;
-    }
+    })
 
 pub returns-in-Err-clause-stops : goal.returns-in-Err-clause-stops
 returns-in-Err-clause-stops g c core bytes start reads so_far =
@@ -100,4 +73,4 @@ returns-in-Err-clause-stops g c core bytes start reads so_far =
 
 pub returns-in-Err-clause-front : goal.returns-in-Err-clause-front
 returns-in-Err-clause-front g c core bytes start reads so_far =
-    front_amid (c.points.invariant.so_far core bytes start reads so_far) (λ points w. falls_none w)
+    front_amid (c.points.invariant.so_far core bytes start reads so_far) (λ points. falls_none)

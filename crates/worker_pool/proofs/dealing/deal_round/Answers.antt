@@ -1,9 +1,8 @@
-use Rattle.std.proofs.Common.{rules, arith, ◌≡◌, ◌<◌, ◌%◌, ◌∙◌, [], ◌∷◌, ap, length, sym, subst, take}
-use Rattle.std.proofs.lemmas.Grind.{common_steps}
-use Rattle.std.proofs.lemmas.List.{length-map}
+use Rattle.std.proofs.Common.{rules, arith, ◌≡◌, ◌<◌, ◌%◌, ◌∙◌, [], ◌∷◌, ap, length, sym, take}
+use Rattle.std.proofs.{lemmas.Grind.common_steps, lemmas.List.length-map}
 use Rattle.std.specs.Vec.Iter.{into_iter_items}
 use Rattle.turn_hub.specs.Ends.{hand_cell}
-use Rattle.worker_pool.specs.Hands.{AreHandsOf, cells_of, dealt}
+use Rattle.worker_pool.specs.Hands.{cells_of, dealt}
 use Rattle.worker_pool.proofs.DealLemmas.{next_taken, one_dealt}
 use Rattle.worker_pool.proofs.HandLemmas.{first_hand, later_hands, more_hands, set_group}
 use Rattle.worker_pool.proofs.dealing.deal_round.Goals as goal
@@ -11,34 +10,29 @@ use Rattle.worker_pool.proofs.dealing.deal_round.Goals as goal
 -- behind the last hand all are dealt
 pub returns-clause-dealt : goal.returns-clause-dealt
 returns-clause-dealt c =
-    let cells = cells_of c.args.hands.items in
     let count = length-map c.args.hands.items (λ h. hand_cell h) in
-    let all : take c.loop-k.k cells ≡ cells = grind (arith, common_steps, count) in
-    c.loop-k.invariant.dealt_are ∙ ap (λ xs. dealt c.args.count xs) all
+    let all : take c.loop-k.k (cells_of c.args.hands.items) ≡ cells_of c.args.hands.items =
+    grind (arith, common_steps, count) in
+    rw all at c.loop-k.invariant.dealt_are
 
 -- the next hand goes from those that are left to one of the groups
 pub loop-k-preserved : goal.loop-k-preserved
 loop-k-preserved c =
     let i = c.loop-k.k % c.args.count in
-    let hand = c.in-Some.hand in
     let group = c.index_mut.result.now in
     let inv = c.loop-k.invariant in
     let below : i < length c.loop-k.groups.items = search rules in
-    let cells = cells_of c.args.hands.items in
-    let next = next_taken c.loop-k.k cells (hand_cell hand) (cells_of (into_iter_items c.next.new.self))
-    (inv.left_are ∙ ap (λ hs. cells_of hs) c.in-Some.ensures.items) in
+    let next = next_taken c.loop-k.k (cells_of c.args.hands.items) (hand_cell c.in-Some.hand)
+    (cells_of (into_iter_items c.next.new.self)) (inv.left_are ∙ ap (λ hs. cells_of hs) c.in-Some.ensures.items) in
     record {
       count = search rules;
-      dealt_are = one_dealt c.loop-k.groups.items group c.push.new.self hand c.args.count c.loop-k.k
-          (take c.loop-k.k cells) c.requires next.2 inv.count inv.dealt_are c.index_mut.ensures.value
+      dealt_are = one_dealt c.loop-k.groups.items group c.push.new.self c.in-Some.hand c.args.count c.loop-k.k
+          _ c.requires next.2 inv.count inv.dealt_are c.index_mut.ensures.value
           c.in_ok-push.ensures.items ∙ ap (λ xs. dealt c.args.count xs) (sym next.0);
       left_are = next.1;
       groups = λ hub ours. set_group hub c.loop-k.groups.items i c.push.new.self (inv.groups hub ours)
-          (subst (λ hands. AreHandsOf hub hands) (sym c.in_ok-push.ensures.items)
-          (more_hands hub group.items (hand ∷ [])
-          (subst (λ g. AreHandsOf hub g.items) (sym c.index_mut.ensures.value) (inv.groups hub ours i group below))
-          (first_hand hub hand _
-          (subst (λ hands. AreHandsOf hub hands) c.in-Some.ensures.items (inv.left hub ours)))));
-      left = λ hub ours. later_hands hub hand _
-          (subst (λ hands. AreHandsOf hub hands) c.in-Some.ensures.items (inv.left hub ours));
+          (rw c.in_ok-push.ensures.items (more_hands hub group.items (c.in-Some.hand ∷ [])
+          (rw c.index_mut.ensures.value (inv.groups hub ours i group below))
+          (first_hand hub c.in-Some.hand _ (rw c.in-Some.ensures.items at (inv.left hub ours)))));
+      left = λ hub ours. later_hands hub c.in-Some.hand _ (rw c.in-Some.ensures.items at (inv.left hub ours));
     }

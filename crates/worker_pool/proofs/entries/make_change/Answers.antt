@@ -10,5 +10,4 @@ returns-in_err-read_change-clause-err g c =
     on_err c.from_residual-in_err-read_change.result _ (falls_on c.in_ok-make_room.ensures.ok (stops _ _ _))
 
 pub returns-clause-ok : goal.returns-clause-ok
-returns-clause-ok g c =
-    change_adds c.in_ok-make_room.ensures.ok c.requires.suits c.in_ok-read_change.ensures.changes
+returns-clause-ok g c = change_adds c.in_ok-make_room.ensures.ok c.requires.suits c.in_ok-read_change.ensures.changes

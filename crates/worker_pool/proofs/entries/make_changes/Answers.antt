@@ -1,24 +1,12 @@
-use Rattle.std.proofs.Common.{arith, false, refl, subst}
-use Rattle.worker_pool.specs.Changes.{DueTells, NoneDue}
+use Rattle.std.proofs.Common.{rules, subst}
+use Rattle.worker_pool.specs.Changes.{DueTells}
 use Rattle.worker_pool.proofs.ChangeLemmas.{all_made, none_made}
 use Rattle.worker_pool.proofs.entries.make_changes.Goals as goal
 
 pub returns : goal.returns
 returns g c =
     let schedule = c.args.schedule.now in
-    let none : NoneDue schedule = subst (DueTells schedule) c.if-is_due.false c.is_due.ensures in
+    let none = subst (DueTells schedule) c.if-is_due.false c.is_due.ensures in
     let all =
     all_made (none_made schedule c.args.driver.now (g.O.Sink.written c.args.out.now) c.args.writer.now.tally) none in
-    record {
-      hands = c.requires.hands;
-      main = c.requires.main;
-      suits = c.requires.suits;
-      seated = c.requires.seated;
-      all = none;
-      left = all.1;
-      routed = refl;
-      ok = all.0;
-      err = tt;
-      stop = tt;
-      later = omega arith;
-    }
+    search rules

@@ -1,4 +1,4 @@
-use Rattle.std.proofs.Common.{◌∙◌, ap, arith, rules}
+use Rattle.std.proofs.Common.{◌∙◌, ap, rules, arith}
 use Rattle.worker_pool.specs.declared.schedule.Schedule.{Schedule}
 use Rattle.worker_pool.proofs.ChangeLemmas.{adds_falls, all_made, none_made, one_made, seated_later, seated_now}
 use Rattle.worker_pool.proofs.ChangeLemmas.{suits_later}
@@ -6,16 +6,7 @@ use Rattle.worker_pool.proofs.WritingLemmas.{on_err, runs_with}
 use Rattle.worker_pool.proofs.entries.make_due.Goals as goal
 
 pub loop-init : goal.loop-init
-loop-init g c = record {
-  made = none_made c.args.schedule.now c.args.driver.now (g.O.Sink.written c.args.out.now) c.args.writer.now.tally;
-  suits = c.requires.suits;
-  seated = c.requires.seated;
-  main = c.requires.main;
-  hands = c.requires.hands;
-  later = omega arith;
-  can = tt;
-  finite = tt;
-}
+loop-init g c = search (rules, none_made)
 
 -- the first change was made, and those behind it are left
 pub loop-preserved : goal.loop-preserved
@@ -47,37 +38,16 @@ make_change-requires-clause-seated g c =
 -- none is due any more
 pub returns-in-None-next_due : goal.returns-in-None-next_due
 returns-in-None-next_due g c =
-    let inv = c.loop.invariant in
     let none = c.in-None-next_due.ensures in
-    let all = all_made inv.made none.0 in
-    record {
-      hands = inv.hands;
-      main = inv.main;
-      suits = search rules;
-      seated = search rules;
-      all = search rules;
-      left = ap (λ (s : Schedule). s.changes.items) none.1 ∙ all.1;
-      routed = ap (λ (s : Schedule). s.routed) none.1 ∙ inv.made.routed;
-      ok = all.0;
-      err = tt;
-      stop = tt;
-      later = inv.later;
-    }
+    let all = all_made c.loop.invariant.made none.0 in
+    let left = ap (λ (s : Schedule). s.changes.items) none.1 ∙ all.1 in
+    let routed = ap (λ (s : Schedule). s.routed) none.1 ∙ c.loop.invariant.made.routed in
+    search rules
 
 pub returns-in_err-make_change-in-Some-next_due : goal.returns-in_err-make_change-in-Some-next_due
 returns-in_err-make_change-in-Some-next_due g c =
-    let inv = c.loop.invariant in
-    let made = c.in_err-make_change-in-Some-next_due.ensures in
-    record {
-      hands = c.make_change.ensures.hands;
-      main = search rules;
-      suits = search rules;
-      seated = search rules;
-      all = search rules;
-      left = search rules;
-      routed = c.in-Some-next_due.ensures.3 ∙ inv.made.routed;
-      ok = search rules;
-      err = on_err c.from_residual.result _ (adds_falls inv.made.none inv.made.adds made.err);
-      stop = search rules;
-      later = omega (arith, inv.later, c.make_change.ensures.later);
-    }
+    let made = c.loop.invariant.made in
+    let routed = c.in-Some-next_due.ensures.3 ∙ made.routed in
+    let err = on_err c.from_residual.result _
+    (adds_falls made.none made.adds c.in_err-make_change-in-Some-next_due.ensures.err) in
+    search rules

@@ -1,8 +1,4 @@
-use Rattle.std.proofs.Common.{◌∙◌, ap}
-use Rattle.std.specs.Global.{Global}
-use Rattle.std.specs.declared.collections.VecDeque.{VecDeque}
-use Rattle.slice_strategy.specs.declared.change.Change.{Change}
-use Rattle.worker_pool.proofs.ChangeLemmas.{adds_falls, may_point, point_adds, seated_routed, suits_routed}
+use Rattle.worker_pool.proofs.ChangeLemmas.{adds_falls, may_point, point_adds, suits_routed}
 use Rattle.worker_pool.proofs.EntryLemmas.{points_due}
 use Rattle.worker_pool.proofs.WritingLemmas.{adds_keeps, on_err, runs_of, runs_with, stops}
 use Rattle.worker_pool.proofs.entries.route.Goals as goal
@@ -38,9 +34,7 @@ returns-clause-suits g c =
     c.count.ensures.changes c.in_ok-make_changes.ensures.suits
 
 pub returns-clause-seated : goal.returns-clause-seated
-returns-clause-seated g c =
-    seated_routed c.args.context.now.cells c.make_changes.new.schedule c.count.new.self c.count.ensures.changes
-    c.in_ok-make_changes.ensures.seated
+returns-clause-seated g c = rw c.count.ensures.changes c.in_ok-make_changes.ensures.seated
 
 pub returns-in_err-make_room-clause-err : goal.returns-in_err-make_room-clause-err
 returns-in_err-make_room-clause-err g c =
@@ -50,5 +44,4 @@ returns-in_err-make_room-clause-err g c =
     c.in_ok-make_changes.ensures.ok c.in_err-make_room.ensures.err)
 
 pub returns-clause-left : goal.returns-clause-left
-returns-clause-left g c =
-    ap (λ (cs : VecDeque Change Global). cs.items) c.count.ensures.changes ∙ c.in_ok-make_changes.ensures.left
+returns-clause-left g c = rw c.count.ensures.changes c.in_ok-make_changes.ensures.left

@@ -1,6 +1,5 @@
 use Rattle.std.proofs.Common.{◌≡◌, ◌+◌, ◌-◌, refl, arith, rules}
-use Rattle.std.proofs.lemmas.Fmt.{length-decimal-le}
-use Rattle.std.proofs.lemmas.List.{drop-set}
+use Rattle.std.proofs.{lemmas.Fmt.length-decimal-le, lemmas.List.drop-set}
 use Rattle.worker_pool.proofs.line_front.put_time.Goals as goal
 
 pub write_digits-start-requires : goal.write_digits-start-requires

@@ -12,7 +12,6 @@ loop-k-preserved g c =
     let moves = turn_moves c.loop-k.driver c.turn.new.self c.loop-k.k c.in_ok-turn.turn before.0 did before.1 in
     record {
       stands = (moves.2, moves.4);
-      keeps = λ written tally. keeps_on (c.loop-k.invariant.keeps written tally)
-          (turn_written c.loop-k.driver c.turn.new.self written tally c.loop-k.k c.in_ok-turn.turn did);
+      keeps = λ written tally. keeps_on (c.loop-k.invariant.keeps written tally) (turn_written _ _ _ _ _ _ did);
       main = c.in_ok-turn.ensures.main;
     }

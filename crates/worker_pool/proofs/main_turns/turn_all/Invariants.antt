@@ -1,6 +1,5 @@
 use Rattle.std.proofs.Common.{ℕ, List, Option}
-use Rattle.rescale_core.specs.Moving.{IsDriverOf}
-use Rattle.rescale_core.specs.Worlds.{World}
+use Rattle.rescale_core.specs.{Moving.IsDriverOf, Worlds.World}
 use Rattle.turn_hub.specs.Ends.{IsMainOf}
 use Rattle.worker_pool.specs.Writing.{WritesOnly}
 use Rattle.worker_pool.specs.declared.tally.Tally.{Tally}

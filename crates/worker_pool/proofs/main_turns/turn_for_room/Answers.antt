@@ -6,12 +6,6 @@ pub round-requires-clause-runs : goal.round-requires-clause-runs
 round-requires-clause-runs g c = runs_on c.loop.invariant.keeps c.requires.runs
 
 pub returns-in_err-busy : goal.returns-in_err-busy
-returns-in_err-busy g c = record {
-  hands = search rules;
-  main = search rules;
-  room = search rules;
-  ok = search rules;
-  err = on_err c.from_residual.result _ (falls_on c.loop.invariant.keeps c.in_err-busy.ensures.err);
-  stop = search rules;
-  later = search rules;
-}
+returns-in_err-busy g c =
+    let err = on_err c.from_residual.result _ (falls_on c.loop.invariant.keeps c.in_err-busy.ensures.err) in
+    search rules

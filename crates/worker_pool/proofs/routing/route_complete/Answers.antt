@@ -1,55 +1,33 @@
-use Rattle.std.proofs.Common.{◌≡◌, ◌∙◌, ◌+◌, ap, arith, refl, subst, sym, take}
-use Rattle.log_reader.specs.Progress.{read}
-use Rattle.log_reader.specs.Readers.{Reader, progress}
-use Rattle.rescale_core.specs.Workers.{MayFollow}
-use Rattle.worker_pool.specs.Changes.{entries_by}
-use Rattle.worker_pool.proofs.ChangeLemmas.{suits_drained}
-use Rattle.worker_pool.proofs.EntryLemmas.{points_read}
+use Rattle.std.proofs.Common.{◌∙◌, ◌+◌, ap, arith, rules, sym}
+use Rattle.log_reader.specs.Readers.{Reader}
+use Rattle.worker_pool.proofs.{ChangeLemmas.suits_drained, EntryLemmas.points_read, PointLemmas.one_more_given}
+use Rattle.worker_pool.proofs.{WritingLemmas.falls_either, WritingLemmas.on_ok_both}
 use Rattle.worker_pool.proofs.GivenPoints.{done_at_end, done_for_more, few_before, front_amid, is_amid, may_follow}
 use Rattle.worker_pool.proofs.GivenPoints.{one_done, still_amid, stops_at}
-use Rattle.worker_pool.proofs.PointLemmas.{one_more_given}
 use Rattle.worker_pool.proofs.RoutedPoints.{routed_falls, routed_keeps, routed_more, routed_settles, under}
-use Rattle.worker_pool.proofs.WritingLemmas.{falls_either, on_ok_both}
 use Rattle.worker_pool.proofs.routing.route_complete.Goals as goal
 
 pub points-init : goal.points-init
-points-init g c = record {
-  works = c.requires.works;
-  reader = refl;
-  later = omega arith;
-  main = c.requires.main;
-  hands = c.requires.hands;
-  suits = c.requires.suits;
-  seated = c.requires.seated;
-  routed = c.requires.routed;
-  so_far = λ core plan bytes start reads so_far. is_amid reads so_far;
-  can = tt;
-  finite = tt;
-}
+points-init g c = search (rules, is_amid)
 
 pub route-requires-clause-runs : goal.route-requires-clause-runs
 route-requires-clause-runs g c =
     let under = c.requires.under_way in
     let here = c.points.invariant.so_far under.core under.plan under.bytes under.start under.reads under.so_far in
     let gives = rw c.in-Ok-Point.field-0-is at (c.in-Ok-Point.ensures.answer under.bytes here.reads) in
-    let after = rw c.in-Ok-Point.field-0-is at c.in-Ok-Point.ensures.after in
-    let room = few_before c.args.reader.now c.points.reader c.next-in-points.new.self c.points.invariant.reader after
-    c.in-Ok-Point.ensures.few c.requires.few in (
-      under.core,
-      entries_by under.plan (take c.points.reader.given (read (progress c.args.reader.now under.bytes)).points),
-      under.start,
+    let after = rw c.in-Ok-Point.field-0-is at c.in-Ok-Point.ensures.after in (
+      _,
+      _,
+      _,
       here.so_far.done.writes,
-      subst (λ ps. MayFollow ps c.in-Ok-Point.point) (sym (points_read 0 under.plan _))
-          (may_follow here c.in-Ok-Point.point gives room),
+      rw points_read (may_follow here c.in-Ok-Point.point gives after c.in-Ok-Point.ensures.few),
     )
 
 pub route-requires-clause-few : goal.route-requires-clause-few
 route-requires-clause-few g c =
     let after = rw c.in-Ok-Point.field-0-is at c.in-Ok-Point.ensures.after in
-    let room = few_before c.args.reader.now c.points.reader c.next-in-points.new.self c.points.invariant.reader after
-    c.in-Ok-Point.ensures.few c.requires.few in
-    let routed : c.points.schedule.routed ≡ c.points.reader.given = c.points.invariant.routed in
-    omega (arith, room, routed)
+    rw c.points.invariant.routed (few_before c.points.reader (ap (λ (r : Reader). r.limits.points)
+    c.points.invariant.reader) after c.in-Ok-Point.ensures.few c.requires.few)
 
 pub returns-in_err-route-in-Ok-Point-clause-front : goal.returns-in_err-route-in-Ok-Point-clause-front
 returns-in_err-route-in-Ok-Point-clause-front g c core plan bytes start reads so_far =
@@ -109,10 +87,6 @@ points-preserved g c =
     let inv = c.points.invariant in
     let routed = c.in_ok-route-in-Ok-Point.ensures in
     let after = rw c.in-Ok-Point.field-0-is at c.in-Ok-Point.ensures.after in
-    let reads_on = c.in-Ok-Point.ensures.reads in
-    let given : c.next-in-points.new.self.given ≡ c.points.reader.given + 1 = ap (λ (r : Reader). r.given) after in
-    let room = few_before c.args.reader.now c.points.reader c.next-in-points.new.self inv.reader after
-    c.in-Ok-Point.ensures.few c.requires.few in
     record {
       works = ap (λ (r : Reader). r.is_broken) after ∙ inv.works;
       reader = one_more_given c.args.reader.now c.points.reader c.next-in-points.new.self inv.reader after;
@@ -121,13 +95,13 @@ points-preserved g c =
       hands = c.route.ensures.hands;
       suits = routed.suits;
       seated = routed.seated;
-      routed = routed.routed ∙ ap (λ n. n + 1) inv.routed ∙ sym given;
+      routed = routed.routed ∙ ap (λ n. n + 1) inv.routed ∙ sym (ap (λ (r : Reader). r.given) after);
       so_far = λ core plan bytes start reads so_far.
           let here = inv.so_far core plan bytes start reads so_far in
           let gives = rw c.in-Ok-Point.field-0-is at (c.in-Ok-Point.ensures.answer bytes here.reads) in
-          one_done here c.in-Ok-Point.point gives room after (reads_on bytes here.reads)
-          (routed_more c.points.reader.given c.in-Ok-Point.point (rw inv.routed at routed.ok)
-          (rw inv.routed at routed.left));
+          one_done here c.in-Ok-Point.point gives after c.in-Ok-Point.ensures.few
+          (c.in-Ok-Point.ensures.reads bytes here.reads) (routed_more c.points.reader.given c.in-Ok-Point.point
+          (rw inv.routed at routed.ok) (rw inv.routed at routed.left));
       can = tt;
       finite = tt;
     }

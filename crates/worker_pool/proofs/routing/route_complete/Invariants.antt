@@ -1,9 +1,7 @@
 use Rattle.std.proofs.Common.{◌≡◌, ◌≤◌, false}
 use Rattle.log_reader.specs.Readers.{progress}
 use Rattle.turn_hub.specs.Ends.{IsMainOf}
-use Rattle.worker_pool.specs.Changes.{HaveCells, Suits}
-use Rattle.worker_pool.specs.Chunks.{ForEachRun, Routes}
-use Rattle.worker_pool.specs.Hands.{AreHandsOf}
+use Rattle.worker_pool.specs.{Changes.HaveCells, Changes.Suits, Chunks.ForEachRun, Chunks.Routes, Hands.AreHandsOf}
 use Rattle.worker_pool.proofs.GivenPoints.{IsAmid}
 use Rattle.worker_pool.proofs.routing.route_complete.Given as goal
 

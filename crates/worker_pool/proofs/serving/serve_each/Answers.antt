@@ -1,6 +1,5 @@
 use Rattle.std.proofs.Common.{rules, ◌∙◌, ap, ℕ}
-use Rattle.std.proofs.lemmas.List.Elements.{All-set}
-use Rattle.std.proofs.Math.Seq.{map-set_same}
+use Rattle.std.proofs.{lemmas.List.Elements.All-set, Math.Seq.map-set_same}
 use Rattle.turn_hub.specs.Ends.{IsHandOf, hand_cell}
 use Rattle.turn_hub.specs.declared.hub.Hand.{Hand}
 use Rattle.worker_pool.specs.Hands.{AreHandsOf}

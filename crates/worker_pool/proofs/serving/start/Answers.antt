@@ -1,9 +1,6 @@
-use Rattle.std.proofs.Common.{sym, subst}
-use Rattle.worker_pool.specs.Hands.{AreHandsOf}
 use Rattle.worker_pool.proofs.HandLemmas.{no_hands}
 use Rattle.worker_pool.proofs.serving.start.Goals as goal
 
 -- a thread has the hands, and none come back
 pub returns-in-Ok-clause-hands : goal.returns-in-Ok-clause-hands
-returns-in-Ok-clause-hands g c =
-    subst (λ hands. AreHandsOf c.args.serving.hub.now hands) (sym c.new.ensures.items) (no_hands c.args.serving.hub.now)
+returns-in-Ok-clause-hands g c = rw c.new.ensures.items (no_hands c.args.serving.hub.now)

@@ -1,11 +1,10 @@
 use Rattle.std.proofs.Common.{rules, ◌≡◌, ◌∙◌, ◌-◌, ◌^◌, ap, arith, sym, refl}
-use Rattle.log_reader.specs.Progress.{Progress}
-use Rattle.log_reader.specs.Readers.{Reader}
+use Rattle.log_reader.specs.{Progress.Progress, Readers.Reader}
 use Rattle.log_reader.specs.declared.limits.Limits.{Limits}
-use Rattle.worker_pool.specs.Effects.{effect}
-use Rattle.worker_pool.proofs.ChunkLemmas.{chunk_failed, course_begins, finished, lines_stop, one_more_chunk}
-use Rattle.worker_pool.proofs.ChunkLemmas.{output_failed, plan_read, settles}
-use Rattle.worker_pool.proofs.PointLemmas.{rose_later}
+use Rattle.monitorable.specs.CoreForms.{CoreForm}
+use Rattle.worker_pool.specs.Writing.{HasReadNothing}
+use Rattle.worker_pool.proofs.ChunkLemmas.{chunk_failed, course_begins, finished, lines_end, lines_stop, one_more_chunk}
+use Rattle.worker_pool.proofs.ChunkLemmas.{plan_read, settles}
 use Rattle.worker_pool.proofs.RoutedPoints.{routes_none}
 use Rattle.worker_pool.proofs.following.MainLoop.follow.Goals as goal
 
@@ -37,116 +36,64 @@ chunks-init g c = record {
 
 pub route_complete-requires-clause-few : goal.route_complete-requires-clause-few
 route_complete-requires-clause-few g c =
-    let begins = c.requires.begins in
-    let course = c.chunks.invariant.course begins.0 begins.1 in
+    let course = c.chunks.invariant.course c.requires.begins.0 c.requires.begins.1 in
     let most : c.chunks.self.log.now.limits.points ≡ 2 ^ 32 - 1 = ap (λ (l : Limits). l.points) course.limits_is in
     omega (arith, most)
 
 pub route_complete-requires-clause-under_way : goal.route_complete-requires-clause-under_way
 route_complete-requires-clause-under_way g c =
-    let begins = c.requires.begins in
-    let course = c.chunks.invariant.course begins.0 begins.1 in
-    record {
-      core = begins.0;
-      plan = c.args.self.now.schedule.now.changes.items;
-      bytes = course.bytes;
-      start = g.O.Sink.written c.args.self.now.out.now;
-      reads = course.reads;
-      so_far = course.so_far;
-    }
+    let course = c.chunks.invariant.course c.requires.begins.0 c.requires.begins.1 in
+    record { core = _; plan = _; bytes = course.bytes; start = _; reads = course.reads; so_far = course.so_far }
 
 pub returns-in-Err-clause-follows : goal.returns-in-Err-clause-follows
 returns-in-Err-clause-follows g c core begins policy is =
-    let inv = c.chunks.invariant in
-    let plan = c.args.self.now.schedule.now.changes.items in
-    let start = g.O.Sink.written c.args.self.now.out.now in
-    let course = inv.course core begins in
-    lines_stop policy is
-    (effect g.I.Inputs g.O.Sink c.args.self.now.inputs.now c.chunks.self.inputs.now c.args.self.now.out.now
-    c.route_complete.new.out)
-    course c.in-Err.stop (g.O.Sink.faults c.chunks.self.out.now) inv.later_out
-    (c.in-Err.ensures.stops core plan course.bytes start course.reads course.so_far policy is)
-    (c.in-Err.ensures.front core plan course.bytes start course.reads course.so_far policy is)
+    let course = c.chunks.invariant.course core begins in
+    lines_stop policy is _ course c.in-Err.stop _ c.chunks.invariant.later_out
+    (c.in-Err.ensures.stops core _ course.bytes _ course.reads course.so_far policy is)
+    (c.in-Err.ensures.front core _ course.bytes _ course.reads course.so_far policy is)
 
 pub returns-then-is_finished-clause-follows : goal.returns-then-is_finished-clause-follows
 returns-then-is_finished-clause-follows g c core begins policy is =
     let course = c.chunks.invariant.course core begins in
-    finished policy is
-    (effect g.I.Inputs g.O.Sink c.args.self.now.inputs.now c.chunks.self.inputs.now c.args.self.now.out.now
-    c.route_complete.new.out)
-    (settles course c.in-Ok.ensures.reader (c.in-Ok.ensures.ok core
-    c.args.self.now.schedule.now.changes.items course.bytes (g.O.Sink.written c.args.self.now.out.now)
-    course.reads course.so_far))
+    finished policy is _
+    (settles course c.in-Ok.ensures.reader (c.in-Ok.ensures.ok core _ course.bytes _ course.reads course.so_far))
     (sym c.is_finished.ensures ∙ c.if-is_finished.true)
 
 pub returns-then-is_finished-clause-planned : goal.returns-then-is_finished-clause-planned
 returns-then-is_finished-clause-planned g c =
-    let begins = c.requires.begins in
-    let course = c.chunks.invariant.course begins.0 begins.1 in
-    plan_read (settles course c.in-Ok.ensures.reader (c.in-Ok.ensures.ok begins.0
-    c.args.self.now.schedule.now.changes.items course.bytes (g.O.Sink.written c.args.self.now.out.now)
-    course.reads course.so_far))
+    let course = c.chunks.invariant.course c.requires.begins.0 c.requires.begins.1 in
+    plan_read
+    (settles course c.in-Ok.ensures.reader (c.in-Ok.ensures.ok _ _ course.bytes _ course.reads course.so_far))
     (sym c.is_finished.ensures ∙ c.if-is_finished.true)
 
 pub returns-in-Err-flush-clause-follows : goal.returns-in-Err-flush-clause-follows
 returns-in-Err-flush-clause-follows g c core begins policy is =
-    let inv = c.chunks.invariant in
-    let course = inv.course core begins in
-    output_failed policy is
-    (effect g.I.Inputs g.O.Sink c.args.self.now.inputs.now c.chunks.self.inputs.now c.args.self.now.out.now
-    c.flush.new.self)
-    c.flush.ensures.kept
-    (settles course c.in-Ok.ensures.reader (c.in-Ok.ensures.ok core
-    c.args.self.now.schedule.now.changes.items course.bytes (g.O.Sink.written c.args.self.now.out.now)
-    course.reads course.so_far))
-    (rose_later (g.O.Sink.faults c.args.self.now.out.now) (g.O.Sink.faults c.route_complete.new.out)
-    (g.O.Sink.faults c.flush.new.self) (omega (arith, inv.later_out, c.route_complete.ensures.later))
-    c.in-Err-flush.ensures.cause.failed)
+    let course = c.chunks.invariant.course core begins in
+    lines_end policy is _ c.flush.ensures.kept
+    (settles course c.in-Ok.ensures.reader (c.in-Ok.ensures.ok core _ course.bytes _ course.reads course.so_far))
+    (omega (arith, c.chunks.invariant.later_out, c.route_complete.ensures.later, c.in-Err-flush.ensures.cause.failed))
 
 pub returns-in-Err-read_chunk-clause-follows : goal.returns-in-Err-read_chunk-clause-follows
 returns-in-Err-read_chunk-clause-follows g c core begins policy is =
-    let inv = c.chunks.invariant in
-    let course = inv.course core begins in
-    chunk_failed policy is
-    (effect g.I.Inputs g.O.Sink c.args.self.now.inputs.now c.read_chunk.new.inputs c.args.self.now.out.now
-    c.flush.new.self)
-    c.flush.ensures.kept
-    (settles course c.in-Ok.ensures.reader (c.in-Ok.ensures.ok core
-    c.args.self.now.schedule.now.changes.items course.bytes (g.O.Sink.written c.args.self.now.out.now)
-    course.reads course.so_far))
-    (sym c.is_finished.ensures ∙ c.if-is_finished.false) (g.I.Inputs.faults c.chunks.self.inputs.now)
-    c.in-Err-read_chunk.stop inv.later c.in-Err-read_chunk.ensures.reads
+    let course = c.chunks.invariant.course core begins in
+    chunk_failed policy is _ c.flush.ensures.kept
+    (settles course c.in-Ok.ensures.reader (c.in-Ok.ensures.ok core _ course.bytes _ course.reads course.so_far))
+    (sym c.is_finished.ensures ∙ c.if-is_finished.false) _ c.in-Err-read_chunk.stop c.chunks.invariant.later
+    c.in-Err-read_chunk.ensures.reads
 
 pub chunks-preserved : goal.chunks-preserved
 chunks-preserved g c =
     let inv = c.chunks.invariant in
     let chunk = c.in-Ok-read_chunk.ensures.reads in
-    record {
-      same_context = inv.same_context;
-      same_log = inv.same_log;
-      same_inputs = inv.same_inputs;
-      same_out = inv.same_out;
-      same_driver = inv.same_driver;
-      room = search rules;
-      works = ap (λ (r : Reader). r.is_broken) chunk.ok.same
-          ∙ ap (λ (r : Reader). r.is_broken) c.in-Ok.ensures.reader ∙ inv.works;
-      main = c.in-Ok.ensures.main;
-      hands = c.route_complete.ensures.hands;
-      suits = c.in-Ok.ensures.suits;
-      seated = c.in-Ok.ensures.seated;
-      routed = c.in-Ok.ensures.routed ∙ sym (ap (λ (r : Reader). r.given) chunk.ok.same);
-      files = c.read_chunk.ensures.files ∙ inv.files;
-      stays_open = c.read_chunk.ensures.stays_open ∙ inv.stays_open;
-      asks_nothing = c.read_chunk.ensures.asks_nothing ∙ inv.asks_nothing;
-      later = omega (arith, inv.later, c.read_chunk.ensures.later);
-      later_out = omega (arith, inv.later_out, c.route_complete.ensures.later, c.flush.ensures.cause.later);
-      course = λ core begins.
-          let course = inv.course core begins in
-          rw c.flush.ensures.kept (one_more_chunk
-          (settles course c.in-Ok.ensures.reader (c.in-Ok.ensures.ok core
-          c.args.self.now.schedule.now.changes.items course.bytes (g.O.Sink.written c.args.self.now.out.now)
-          course.reads course.so_far))
-          (sym c.is_finished.ensures ∙ c.if-is_finished.false) chunk.chunk chunk.taken chunk.ok);
-      can = tt;
-      finite = tt;
-    }
+    let works = ap (λ (r : Reader). r.is_broken) chunk.ok.same
+    ∙ ap (λ (r : Reader). r.is_broken) c.in-Ok.ensures.reader ∙ inv.works in
+    let routed = c.in-Ok.ensures.routed ∙ sym (ap (λ (r : Reader). r.given) chunk.ok.same) in
+    let files = c.read_chunk.ensures.files ∙ inv.files in
+    let stays_open = c.read_chunk.ensures.stays_open ∙ inv.stays_open in
+    let asks_nothing = c.read_chunk.ensures.asks_nothing ∙ inv.asks_nothing in
+    let course = λ (core : CoreForm) (begins : HasReadNothing core c.args.self.now.driver.now).
+    let course = inv.course core begins in
+    rw (← c.flush.ensures.kept) at (one_more_chunk
+    (settles course c.in-Ok.ensures.reader (c.in-Ok.ensures.ok core _ course.bytes _ course.reads course.so_far))
+    (sym c.is_finished.ensures ∙ c.if-is_finished.false) chunk.chunk chunk.taken chunk.ok) in
+    search rules

@@ -1,10 +1,7 @@
 use Rattle.std.proofs.Common.{◌≡◌, ◌≤◌, ◌<◌, false, length}
 use Rattle.monitorable.specs.CoreForms.{CoreForm}
 use Rattle.turn_hub.specs.Ends.{IsMainOf}
-use Rattle.worker_pool.specs.Changes.{HaveCells, Suits}
-use Rattle.worker_pool.specs.Chunks.{Routes}
-use Rattle.worker_pool.specs.Hands.{AreHandsOf}
-use Rattle.worker_pool.specs.Writing.{HasReadNothing}
+use Rattle.worker_pool.specs.{Changes.HaveCells, Changes.Suits, Chunks.Routes, Hands.AreHandsOf, Writing.HasReadNothing}
 use Rattle.worker_pool.proofs.ChunkLemmas.{Course}
 use Rattle.worker_pool.proofs.following.MainLoop.follow.Given as goal
 

@@ -1,7 +1,3 @@
-use Rattle.std.proofs.Common.{[], ◌∷◌, ◌++◌, length, subst, sym}
-use Rattle.monitor_state.specs.MonitorView.{monitor_of}
-use Rattle.rescale_core.specs.Settlings.{IsKept}
-use Rattle.worker_pool.specs.Alone.{Owes}
 use Rattle.worker_pool.proofs.AloneLemmas.{are_kept, falls_short, owes_new, took_one}
 use Rattle.worker_pool.proofs.WritingLemmas.{on_err}
 use Rattle.worker_pool.proofs.lone_worker.LoneWorker.take.Goals as goal
@@ -11,27 +7,21 @@ returns-in_err-tables-clause-err g c =
     on_err c.from_residual.result _ (λ core start points follows w. falls_short follows w)
 
 pub write_tables-requires : goal.write_tables-requires
-write_tables-requires g c =
-    let may = c.requires.may in
-    record {
-      kept = subst (λ n. IsKept (monitor_of c.step.new.self).state n (length c.in_ok-tables.tables))
-          (sym c.given-first.ensures)
-          (are_kept c.step.new.self may.3 may.4 c.in_ok-tables.ensures.steps c.in_ok-tables.ensures.first);
-    }
+write_tables-requires g c = record {
+  kept = rw c.given-first.ensures
+      (are_kept c.step.new.self c.requires.may.3 c.requires.may.4 c.in_ok-tables.ensures.steps
+      c.in_ok-tables.ensures.first);
+}
 
 pub returns-in_err-write_tables-clause-err : goal.returns-in_err-write_tables-clause-err
 returns-in_err-write_tables-clause-err g c =
     on_err c.from_residual-in_err-write_tables.result _ (λ core start points follows w.
-    c.in_err-write_tables.ensures.err core (points ++ c.args.point.now ∷ []) start
-    (subst (λ n. Owes core (points ++ c.args.point.now ∷ []) start (monitor_of c.step.new.self).state
-    (g.O.Sink.written c.args.out.now) c.args.self.now.writer.tally n c.in_ok-tables.tables) (sym c.given-first.ensures)
-    (owes_new c.step.new.self follows w c.in_ok-tables.ensures.steps)))
+    (rw c.given-first.ensures at c.in_err-write_tables.ensures.err) core _ start
+    (owes_new c.step.new.self follows w c.in_ok-tables.ensures.steps))
 
 pub returns-clause-ok : goal.returns-clause-ok
 returns-clause-ok g c core start points follows w =
     let steps = c.in_ok-tables.ensures.steps in
     took_one c.step.new.self follows w steps c.write_tables.ensures.same c.in_ok-tables.ensures.core
-    (c.in_ok-write_tables.ensures.ok core (points ++ c.args.point.now ∷ []) start
-    (subst (λ n. Owes core (points ++ c.args.point.now ∷ []) start (monitor_of c.step.new.self).state
-    (g.O.Sink.written c.args.out.now) c.args.self.now.writer.tally n c.in_ok-tables.tables) (sym c.given-first.ensures)
-    (owes_new c.step.new.self follows w steps)))
+    ((rw c.given-first.ensures at c.in_ok-write_tables.ensures.ok) core _ start
+    (owes_new c.step.new.self follows w steps))

@@ -1,9 +1,9 @@
 use Rattle.std.proofs.Common.{◌∙◌, ◌+◌, arith, length, subst, sym}
+use Rattle.worker_pool.proofs.AloneLemmas.{kept_on, pays_one, pays_part}
+use Rattle.worker_pool.proofs.WritingLemmas.{on_err}
 use Rattle.monitor_state.specs.MonitorView.{MonitorOf}
 use Rattle.rescale_core.specs.Settlings.{IsKept}
 use Rattle.worker_pool.specs.Alone.{Owes}
-use Rattle.worker_pool.proofs.AloneLemmas.{kept_on, pays_one, pays_part}
-use Rattle.worker_pool.proofs.WritingLemmas.{on_err}
 use Rattle.worker_pool.proofs.lone_worker.LoneWorker.write_tables.Goals as goal
 
 pub returns-in_err-write_table-clause-err : goal.returns-in_err-write_table-clause-err
