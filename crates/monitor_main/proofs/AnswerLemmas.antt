@@ -1,16 +1,14 @@
 -- What the commands answer.
-use Rattle.std.proofs.Common.{◌≡◌, ◌∙◌, ap, sym, refl, ℕ, List, Option}
+use Rattle.std.proofs.Common.{◌≡◌, refl, arith}
 use Rattle.std.specs.Prelude.{Ok}
 use Rattle.mon_outside.specs.Files.{Files, content}
-use Rattle.monitor_main.specs.Answer.{answer, answer_to, command_answer, run_answer}
+use Rattle.monitor_main.specs.{Answer.answer, Answer.command_answer, AnswerLaws.CheckAccepts}
+use Rattle.monitor_main.specs.{AnswerLaws.StrategiesAgree, Words.RunOptions, Words.Sources}
 use Rattle.monitor_main.specs.Tasks.{CheckedPolicy, Division, divided_at, policy_at, task_at, task_on}
-use Rattle.monitor_main.specs.AnswerLaws.{CheckAccepts, StrategiesAgree}
-use Rattle.monitor_main.specs.Words.{Command, RunOptions, Sources}
 
 pub check_accepts : CheckAccepts
 unfolding answer command_answer
-check_accepts words files sources checked given policy_is =
-    ap (λ (c : Option Command). answer_to c files) given ∙ rw policy_is refl
+check_accepts words files sources checked given policy_is = cc
 
 -- the task, where all before the log is accepted
 pub task_of : (sources : Sources) (options : RunOptions) (files : Files) (checked : CheckedPolicy)
@@ -22,8 +20,4 @@ task_of sources options files checked policy_is division is = rw (policy_is, is)
 
 pub strategies_agree : StrategiesAgree
 unfolding command_answer
-strategies_agree sources one other files checked policy_is d e same =
-    ap run_answer
-    (task_of sources one files checked policy_is d.0 d.1
-    ∙ ap (λ (log : List ℕ). Ok (task_on checked (content files log))) same
-    ∙ sym (task_of sources other files checked policy_is e.0 e.1))
+strategies_agree sources one other files checked policy_is d e same = grind (arith, task_of)

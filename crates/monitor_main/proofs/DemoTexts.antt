@@ -2,40 +2,32 @@
 use Rattle.std.proofs.Common.{◌≡◌, ◌∙◌, ap, refl, ℕ, List, [], ◌∷◌}
 use Rattle.std.specs.Prelude.{Ok}
 use Rattle.mfotl_lex.specs.FirstFault as layer
-use Rattle.mfotl_lex.specs.FirstFault.{run}
+use Rattle.mfotl_lex.specs.{FirstFault.run, Numbers.digits_value, Numbers.integer_value, Blanks.blank_len}
+use Rattle.mfotl_lex.specs.{Blanks.comment_len, Places.mode_behind}
 use Rattle.mfotl_lex.specs.Lexemes.{tokens, tokens_within, next_token, after}
 use Rattle.mfotl_lex.specs.Scans.{plain_scan, minus_scan, closed_text, text_end, text_scan, order_scan}
-use Rattle.mfotl_lex.specs.Numbers.{digits_value, integer_value}
-use Rattle.mfotl_lex.specs.Blanks.{blank_len, comment_len}
-use Rattle.mfotl_lex.specs.Places.{mode_behind}
-use Rattle.mfotl_model.specs.FreeVariables.{fv}
+use Rattle.mfotl_model.specs.{FreeVariables.fv, Strategies.Entry.Uncut}
 use Rattle.mfotl_parse.specs.Classes.{word_class, operator_class, temporal_class}
 use Rattle.mfotl_parse.specs.Reading.{reading, reading_on, step, transition, ended_at}
-use Rattle.mfotl_parse.specs.SymbolTable.{binder_of, vars_of}
-use Rattle.mfotl_parse.specs.States.{depth}
-use Rattle.mfotl_parse.specs.Reduction.{reduce}
+use Rattle.mfotl_parse.specs.{SymbolTable.binder_of, SymbolTable.vars_of, States.depth, Reduction.reduce}
 use Rattle.mfotl_sig.specs.Reading as sig
-use Rattle.mfotl_model.specs.Strategies.Entry.{Uncut}
 use Rattle.mon_outside.specs.Files.{Files, content}
 use Rattle.log_reader.proofs.DemoIsRead.{demo_log_is_read}
 use Rattle.log_reader.specs.DemoTexts.{changes_text, log_text, policy_text, signature_text}
 use Rattle.log_reader.specs.Readings.{NoFault, Reading}
 use Rattle.worker_pool.specs.Texts.{tally_on, text_on}
 use Rattle.monitor_main.specs.declared.refusal.Refusal.TheVariants as refusal
-use Rattle.monitor_main.specs.Answer.{Answer, demo_answer, demo_ended, demo_on, answer_by_ending, command_answer}
-use Rattle.monitor_main.specs.Answer.{log_answer}
+use Rattle.monitor_main.specs.Answer.{Answer, demo_answer, demo_ended, answer_by_ending, command_answer, log_answer}
 use Rattle.monitor_main.specs.Answer.{log_reading, run_answer}
 use Rattle.monitor_main.specs.DemoLaws.{DemoChangesAreAccepted, DemoIsAnswered, DemoIsDivided, DemoIsRun}
 use Rattle.monitor_main.specs.DemoLaws.{DemoPolicyIsAccepted, DemoPolicyIsMonitorable, DemoSignatureIsAccepted}
 use Rattle.monitor_main.specs.DemoLaws.{demo_changes, demo_checked, demo_points, demo_vars}
-use Rattle.monitor_main.specs.Tasks.{Task, changes_in, checked_over, demo_task, divided_texts, or_refuse_by}
-use Rattle.monitor_main.specs.Tasks.{policy_at, policy_in}
-use Rattle.monitor_main.specs.Tasks.{signature_of, strategy_in, task_at, task_on}
+use Rattle.monitor_main.specs.Tasks.{Task, changes_in, checked_over, demo_task, divided_texts, or_refuse_by, policy_at}
+use Rattle.monitor_main.specs.Tasks.{policy_in, signature_of, strategy_in, task_at, task_on}
 use Rattle.monitor_main.specs.Words.{RunOptions, Sources, Run}
 use Rattle.monitor_main.proofs.AnswerLemmas.{task_of}
 use Rattle.monitorable.specs.Fragment.{bound_by, needed_by, fault_in}
-use Rattle.monitorable.specs.NodeCount.{nodes}
-use Rattle.monitorable.specs.NormalForm.{positive, negative}
+use Rattle.monitorable.specs.{NodeCount.nodes, NormalForm.positive, NormalForm.negative}
 use Rattle.slice_strategy.specs.ChangeReading as changes
 use Rattle.slice_strategy.specs.Reading as strategy
 
@@ -93,9 +85,7 @@ module _ (seed : ℕ) where
 
   answered : demo_answer seed ≡ demo_ended seed drawn.policy.formula whole NoFault
   unfolding demo_answer
-  answered =
-      ap (demo_on seed) task_is
-      ∙ ap (λ (r : Reading). demo_ended seed drawn.policy.formula r r.ending) read
+  answered = cc (task_is, read)
 
   written : (log_answer drawn).out ≡ text_on drawn.policy.formula whole
   unfolding log_answer
@@ -112,8 +102,7 @@ unfolding policy_at checked_over
 policy_held sources files sig_is policy_is = rw (sig_is, policy_is, signature_accepted, policy_accepted) refl
 
 run_is : (sources : Sources) (options : RunOptions) (files : Files) (task : Task)
-    → task_at sources options files ≡ Ok task
-    → command_answer (Run sources options) files ≡ log_answer task
+    → task_at sources options files ≡ Ok task → command_answer (Run sources options) files ≡ log_answer task
 unfolding command_answer
 run_is sources options files task is = ap run_answer is
 

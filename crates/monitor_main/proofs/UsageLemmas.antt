@@ -1,8 +1,7 @@
 -- How a run ends after its decision.
 use Rattle.std.proofs.Common.{◌≡◌, ap, Bool}
 use Rattle.std.specs.Prelude.{Result, Err}
-use Rattle.monitor_main.specs.declared.refusal.Refusal.{Refusal}
-use Rattle.monitor_main.specs.declared.refusal.Refusal.TheVariants.{Write}
+use Rattle.monitor_main.specs.declared.{refusal.Refusal.Refusal, refusal.Refusal.TheVariants.Write}
 use Rattle.monitor_main.specs.declared.status.Status.TheVariants as status
 use Rattle.monitor_main.specs.Refusals.{status_of}
 

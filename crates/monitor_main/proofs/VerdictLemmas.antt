@@ -1,27 +1,17 @@
 -- How the verdicts grow with the log.
-use Rattle.std.proofs.Common.{◌≡◌, ◌∙◌, ap, ap₂, sym, refl, subst, arith, ℕ, zero, suc, ◌+◌, ◌-◌, ◌<◌, ◌≤◌}
-use Rattle.std.proofs.Common.{true}
-use Rattle.std.proofs.Common.{List, [], ◌∷◌, ◌++◌, map, length, None}
+use Rattle.std.proofs.Common.{◌≡◌, ◌∙◌, ap, ap₂, sym, refl, arith, ℕ, zero, suc, ◌+◌, ◌-◌, ◌<◌, ◌≤◌, List, [], ◌∷◌}
+use Rattle.std.proofs.Common.{◌++◌, map, None}
 use Rattle.std.specs.List.{range_with_len}
 use Rattle.std.proofs.lemmas.List.{length-map, map-append}
-use Rattle.mfotl_model.proofs.CountLemmas.{counted_settled, passing_taken}
-use Rattle.mfotl_model.proofs.LogicLemmas.{range_front}
-use Rattle.mfotl_model.specs.Counts.{passing, settled_count}
-use Rattle.mfotl_model.specs.Formulas.{Form}
-use Rattle.mfotl_model.specs.Log.{times}
-use Rattle.mfotl_model.specs.Settled.{settled}
-use Rattle.mfotl_model.specs.Times.{NeverFalls}
+use Rattle.mfotl_model.proofs.{CountLemmas.counted_settled, CountLemmas.passing_taken, LogicLemmas.range_front}
+use Rattle.mfotl_model.specs.{Counts.settled_count, Formulas.Form, Log.times, Times.NeverFalls}
 use Rattle.mfotl_model.specs.VerdictText.{VerdictOf, verdict_at, verdicts}
 use Rattle.mfotl_model.specs.declared.event.TimePoint.{TimePoint}
 use Rattle.monitor_state.proofs.CountLemmas.{count_grows}
-use Rattle.monitorable.proofs.CoreLaws.{accepted}
-use Rattle.monitorable.proofs.FinalityLaw.{time_same, within_log}
-use Rattle.monitorable.proofs.ViolationsFinal.{violations_final}
-use Rattle.monitorable.specs.Fragment.{Names, frag}
-use Rattle.monitorable.specs.Laws.{log_of}
-use Rattle.monitorable.specs.NormalForm.{negative}
-use Rattle.monitor_main.specs.TextLaw.{VerdictsGrow}
-use Rattle.monitor_main.specs.Verdicts.{news, reached}
+use Rattle.monitorable.proofs.{CoreLaws.accepted, FinalityLaw.time_same, FinalityLaw.within_log}
+use Rattle.monitorable.proofs.{ViolationsFinal.violations_final}
+use Rattle.monitorable.specs.{Fragment.Names, Fragment.frag, Laws.log_of, NormalForm.negative}
+use Rattle.monitor_main.specs.{TextLaw.VerdictsGrow, Verdicts.news, Verdicts.reached}
 
 mapped : (f g : ℕ → VerdictOf) (i n : ℕ) → ((j : ℕ) → i ≤ j → j < i + n → f j ≡ g j)
     → map f (range_with_len i n) ≡ map g (range_with_len i n)
@@ -34,10 +24,7 @@ mapped f g i (suc n) same =
 pub counted : (log : List TimePoint) (policy : Form)
     → verdicts (log_of log) policy ≡ map (verdict_at log policy) (range_with_len 0 (reached log policy))
 unfolding settled_count
-counted log policy =
-    ap (map (verdict_at log policy))
-    (passing_taken (settled (times log) policy) 0 (length log)
-    ∙ ap (λ n. range_with_len 0 (passing (settled (times log) policy) 0 n)) (sym (length-map log (λ p. p.ts))))
+counted log policy = simp (passing_taken, length-map)
 
 module _ (log : List TimePoint) (point : TimePoint) (policy : Form)
     (rising : NeverFalls (times (log ++ point ∷ []))) where
@@ -46,22 +33,14 @@ module _ (log : List TimePoint) (point : TimePoint) (policy : Form)
 
   -- no position is settled no longer
   pub none_lost : reached log policy ≤ reached (log ++ point ∷ []) policy
-  none_lost =
-      let joined : times (log ++ point ∷ []) ≡ times log ++ point.ts ∷ [] = map-append (λ p. p.ts) log (point ∷ []) in
-      subst (λ t. reached log policy ≤ settled_count t policy) (sym joined)
-      (count_grows (times log) (point.ts ∷ []) (subst NeverFalls joined rising) policy)
+  none_lost = grind (arith, map-append, count_grows)
 
   module _ (names : Names) (fits : frag names (negative policy) ≡ None) where
     stays : (j : ℕ) → 0 ≤ j → j < 0 + reached log policy
         → verdict_at (log ++ point ∷ []) policy j ≡ verdict_at log policy j
-    stays j low high =
-        let set : settled (times log) policy j ≡ true = counted_settled (times log) policy j (omega arith) in
-        ap₂ (λ t rows. record { point = j; ts = t; rows = rows })
-        (sym (time_same log (point ∷ []) j (within_log log policy j set)))
-        (sym (violations_final log (point ∷ []) names policy j rising fits set))
+    stays j low high = grind (arith, counted_settled, ap₂, time_same, within_log, violations_final)
 
-    pub grows : verdicts (log_of (log ++ point ∷ [])) policy
-        ≡ verdicts (log_of log) policy ++ news policy log point
+    pub grows : verdicts (log_of (log ++ point ∷ [])) policy ≡ verdicts (log_of log) policy ++ news policy log point
     unfolding news
     grows =
         let n : ℕ = reached log policy in

@@ -5,5 +5,4 @@ use Rattle.monitor_main.proofs.demo.answer_demo.Goals as goal
 pub returns-in_err-end-clause-comes : goal.returns-in_err-end-clause-comes
 returns-in_err-end-clause-comes g c =
     let p = err_from_is_err_and c.from_residual.result c.from_residual.ensures.1 in
-    rw (p.1, p.2) (task_told c.args.seed (g.O.Sink.written c.args.out.now) _ c.in_err-end.ensures.inside
-    c.in_err-end.ensures.refused)
+    rw (p.1, p.2) (task_told c.args.seed _ c.in_err-end.ensures.inside c.in_err-end.ensures.refused)

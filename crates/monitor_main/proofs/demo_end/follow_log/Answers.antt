@@ -1,8 +1,6 @@
 use Rattle.std.proofs.Common.{◌≡◌, ◌∙◌, ap, rules, arith, codes, string_bytes, is_some, Some}
 use Rattle.mon_outside.specs.Files.{content}
-use Rattle.monitorable.specs.Cores.{core_form}
-use Rattle.monitor_main.specs.CheckedPolicies.{checked_in}
-use Rattle.monitor_main.specs.Tasks.{task_on}
+use Rattle.monitor_main.specs.{CheckedPolicies.checked_in, Tasks.task_on}
 use Rattle.monitor_main.proofs.RunLemmas.{sure_ends}
 use Rattle.monitor_main.proofs.demo_end.follow_log.Goals as goal
 
@@ -10,8 +8,8 @@ pub returns : goal.returns
 returns g c =
     let log_is : content c.new-inputs.result.files (codes "log") ≡ string_bytes c.args.log = search rules in
     record {
-      ends = sure_ends (task_on (checked_in c.args.task.checked) (string_bytes c.args.log))
-          (core_form c.args.task.checked.core) c.requires.ready.core _ c.follow.result c.follow.ensures.follows
-          (c.open.ensures.rest ∙ ap Some log_is) (c.follow.ensures.stays_open ∙ ap is_some c.open.ensures.rest)
+      ends = sure_ends (task_on (checked_in c.args.task.checked) (string_bytes c.args.log)) c.requires.ready.core
+          c.follow.ensures.follows (c.open.ensures.rest ∙ ap Some log_is)
+          (c.follow.ensures.stays_open ∙ ap is_some c.open.ensures.rest)
           (λ h. omega (arith, h)) (λ h. omega (arith, h));
     }

@@ -1,8 +1,6 @@
 use Rattle.std.proofs.lemmas.Result.{err_from_is_err_and}
-use Rattle.monitorable.specs.Cores.{core_form}
-use Rattle.monitor_main.specs.CheckedPolicies.{checked_in}
 use Rattle.monitor_main.proofs.DemoLemmas.{changes_fail, policy_fails, strategy_fails, texts_divided}
-use Rattle.monitor_main.proofs.DivisionLemmas.{all_for, first_for}
+use Rattle.monitor_main.proofs.DivisionLemmas.{ready_by}
 use Rattle.monitor_main.proofs.demo_end.task_of.Goals as goal
 
 pub returns-in_err-checked-clause-gives : goal.returns-in_err-checked-clause-gives
@@ -14,30 +12,20 @@ pub returns-in_err-first-clause-gives : goal.returns-in_err-first-clause-gives
 returns-in_err-first-clause-gives c =
     let p = err_from_is_err_and c.from_residual-in_err-first.result c.from_residual-in_err-first.ensures.1 in
     rw (p.1, p.2) (strategy_fails c.args.sig.now c.args.policy.now c.args.changes.now
-    (checked_in c.in_ok-checked.checked) c.in_ok-checked.ensures.gives _ c.in_err-first.ensures.gives)
+    c.in_ok-checked.ensures.gives _ c.in_err-first.ensures.gives)
 
 pub returns-in_err-changes-clause-gives : goal.returns-in_err-changes-clause-gives
 returns-in_err-changes-clause-gives c =
     let p = err_from_is_err_and c.from_residual-in_err-changes.result c.from_residual-in_err-changes.ensures.1 in
     rw (p.1, p.2) (changes_fail c.args.sig.now c.args.policy.now c.args.changes.now
-    (checked_in c.in_ok-checked.checked) c.in_ok-checked.ensures.gives c.in_ok-first.first c.in_ok-first.ensures.gives _
-    c.in_err-changes.ensures.gives)
+    c.in_ok-checked.ensures.gives c.in_ok-first.ensures.gives _ c.in_err-changes.ensures.gives)
 
 pub returns-clause-gives : goal.returns-clause-gives
 returns-clause-gives c =
-    texts_divided c.args.sig.now c.args.policy.now c.args.changes.now (checked_in c.in_ok-checked.checked)
-    c.in_ok-checked.ensures.gives c.in_ok-first.first c.in_ok-first.ensures.gives c.in_ok-changes.changes.items
-    c.in_ok-changes.ensures.gives
+    texts_divided c.args.sig.now c.args.policy.now c.args.changes.now
+    c.in_ok-checked.ensures.gives c.in_ok-first.ensures.gives c.in_ok-changes.ensures.gives
 
 pub returns-clause-ready : goal.returns-clause-ready
 returns-clause-ready c =
-    let checked = c.in_ok-checked.checked in
-    let core = core_form checked.core in
-    let policy = (checked_in checked).policy in
-    record {
-      core = c.in_ok-checked.ensures.core;
-      first = first_for core policy.formula c.in_ok-checked.ensures.core policy.vars c.in_ok-checked.ensures.variables
-          c.in_ok-first.first (c.in_ok-first.ensures.sized, c.in_ok-first.ensures.workers);
-      changes = all_for core policy.formula c.in_ok-checked.ensures.core policy.vars c.in_ok-checked.ensures.variables
-          c.in_ok-changes.changes.items c.in_ok-changes.ensures.divides;
-    }
+    ready_by c.in_ok-checked.ensures.core c.in_ok-checked.ensures.variables
+    (c.in_ok-first.ensures.sized, c.in_ok-first.ensures.workers) c.in_ok-changes.ensures.divides
