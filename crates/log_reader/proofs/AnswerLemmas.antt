@@ -1,6 +1,6 @@
 -- What a reader answers, in the grammar's words.
-use Rattle.std.proofs.Common.{◌≡◌, ◌≢◌, ◌≤◌, Bool, true, List, [], ◌∷◌, ◌++◌, length, take, drop, Result, Ok, Err}
-use Rattle.std.proofs.Common.{IfErr, sym, ap, ◌∙◌, append_assoc, arith}
+use Rattle.std.proofs.Common.{◌≡◌, ◌≢◌, ◌≤◌, Bool, List, [], ◌∷◌, ◌++◌, length, take, drop, Result, Ok, Err, IfErr, sym}
+use Rattle.std.proofs.Common.{ap, ◌∙◌, append_assoc, arith}
 use Rattle.std.proofs.lemmas.List.{length-drop, length-take, take-append-drop}
 use Rattle.mfotl_model.specs.declared.event.TimePoint.{TimePoint}
 use Rattle.log_reader.specs.declared.{fault.LogFault.LogFault, fault.LogFault.TheVariants.Memory, next.Next.Next}
@@ -8,13 +8,9 @@ use Rattle.log_reader.specs.declared.{next.Next.TheVariants.Point, next.Next.The
 use Rattle.log_reader.specs.GivenPoints.{GivesPoints, IsNextPoint, GaveAll}
 use Rattle.log_reader.specs.{Given.Gives, Laws.IsShown, Rules.IsValue}
 use Rattle.log_reader.specs.Progress.{Progress, answer_by, read, next_answer}
-use Rattle.log_reader.specs.Readings.{Ending, NoFault, Fault, accepted}
+use Rattle.log_reader.specs.Readings.{Ending, Fault, accepted}
 use Rattle.log_reader.proofs.{CompletedLaws.all_completed, CompletedLaws.beginning_completed}
 use Rattle.log_reader.proofs.{FaultLaws.exact_faults_law, LogLaws.read_spelled}
-
-end_by : (ended : Bool) (points : List TimePoint) (ending : Ending) → answer_by ended points ending ≡ Ok End
-    → (ended ≡ true) × (ending ≡ NoFault)
-end_by ended points ending e = grind arith
 
 fault_by : (ended : Bool) (points : List TimePoint) (ending : Ending) (fault : LogFault)
     → answer_by ended points ending ≡ Err fault → ending ≡ Fault fault
@@ -36,7 +32,7 @@ module _ (r : Progress) where
   -- the end is answered only of a log that keeps the rules
   pub value_due : (result : Result Next LogFault) → given result → result ≡ Ok End
       → IsValue r.sig r.limits r.bytes (accepted r.sig r.limits r.bytes).points
-  value_due result g is = grind (arith, end_by, read_spelled)
+  value_due result g is = grind (arith, read_spelled)
 
   -- a fault is answered only where it is shown
   pub shown_due : (result : Result Next LogFault) → given result

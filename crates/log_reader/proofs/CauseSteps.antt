@@ -1,6 +1,6 @@
 -- A step fails exactly where its token shows a fault, and with that fault.
-use Rattle.std.proofs.Common.{◌≡◌, ◌≢◌, ◌≤◌, inl, inr, ℕ, true, List, [], ◌∷◌, ◌++◌, Option, Some, None, Result, Ok}
-use Rattle.std.proofs.Common.{Err, IfErr, refl, sym, ap, subst, ◌∙◌, nat_lt, arith}
+use Rattle.std.proofs.Common.{◌≡◌, inl, inr, ℕ, true, List, [], ◌∷◌, ◌++◌, Option, Some, None, Result, Ok, Err, IfErr}
+use Rattle.std.proofs.Common.{refl, sym, ap, ◌∙◌, nat_lt, arith}
 use Rattle.std.specs.Prelude.{option_and_then}
 use Rattle.std.proofs.lemmas.Bool.{cond_both, ltb-true, ltb-false, lt-ltb, le-ltb}
 use Rattle.std.proofs.lemmas.List.{map-append}
@@ -33,10 +33,6 @@ path_further : (front : List Lexeme) (t : Lexeme) (s : Stage) → paths Between 
     → paths Between (symbols_of (front ++ t ∷ [])) ≡ stage_after s (symbol t)
 path_further front t s e = grind (arith, paths, map-append, paths-append, one_more)
 
--- values and `)` stand within brackets
-value_inside : (s : Stage) (x : Symbol) → Transition s x AfterValue → is_in_brackets s ≡ true
-value_inside s x h = grind arith
-
 close_inside : (s : Stage) (x : Symbol) → Transition s x AfterClose → is_in_brackets s ≡ true
 close_inside _ _ closes_empty = refl
 close_inside _ _ closes = refl
@@ -54,9 +50,6 @@ no_integer at w none = grind arith
 wide : (at : ℕ) (w : Written) → IsWide w → value_at sorts.Int at w ≡ Err (IntRange at)
 unfolding integer_at
 wide at w h = grind arith
-
-closed_early : (at : ℕ) (p : Partial) (due : List Sort) → due ≢ [] → group_closed at p due ≡ Err (WrongArity at)
-closed_early at p due some = grind arith
 
 -- ---- a token behind a front
 
@@ -88,13 +81,10 @@ module _ (sig : List PredOf) (limits : Limits) (front : List Lexeme) (p : Partia
       there.1 ∙ ap (λ (s : Stage). Some s) (same_stage there.0 g (sym here ∙ part.1))
 
   value_due : LeadsTo AfterValue p t → p.due ≡ due_sorts sig (symbols_before front)
-  value_due leads = stands.due (value_inside p.stage (symbol t) (way AfterValue leads))
+  value_due leads = stands.due (grind arith)
 
   close_due : LeadsTo AfterClose p t → p.due ≡ due_sorts sig (symbols_before front)
   close_due leads = stands.due (close_inside p.stage (symbol t) (way AfterClose leads))
-
-  no_way : (g : Stage) → stage_after p.stage (symbol t) ≡ None → LeadsTo g p t → ⊥
-  no_way g none leads = cc
 
   none_there : (found : Option Stage) → stage_after p.stage (symbol t) ≡ found → (IsViable (front ++ t ∷ []) → ⊥)
       → stage_after p.stage (symbol t) ≡ None
@@ -110,11 +100,8 @@ module _ (sig : List PredOf) (limits : Limits) (front : List Lexeme) (p : Partia
   then_fine r f why = grind arith
 
   opened_why : LeadsTo AfterAt p t → Explains (point_opened limits t.at p)
-  opened_why g = cond_both (nat_lt p.points limits.points) _ _ Explains (λ _. tt) (λ h. (
-    refl,
-    plays AfterAt g,
-    subst (λ (n : ℕ). limits.points ≤ n) stands.points (ltb-false p.points limits.points h),
-  ))
+  opened_why g = cond_both (nat_lt p.points limits.points) _ _ Explains (λ _. tt)
+      (λ h. (refl, plays AfterAt g, rw stands.points at (ltb-false p.points limits.points h)))
 
   stamped_why : LeadsTo AfterStamp p t → (time : Option ℕ) → timestamp_of (token_content t) ≡ time
       → Explains (stamped t.at p time)
@@ -128,11 +115,8 @@ module _ (sig : List PredOf) (limits : Limits) (front : List Lexeme) (p : Partia
   naming_why g (Some pred) some = tt
 
   grouped_why : LeadsTo AfterOpen p t → Explains (grouped limits t.at p)
-  grouped_why g = cond_both (nat_lt p.groups limits.events) _ _ Explains (λ _. tt) (λ h. (
-    refl,
-    plays AfterOpen g,
-    subst (λ (n : ℕ). limits.events ≤ n) stands.groups (ltb-false p.groups limits.events h),
-  ))
+  grouped_why g = cond_both (nat_lt p.groups limits.events) _ _ Explains (λ _. tt)
+      (λ h. (refl, plays AfterOpen g, rw stands.groups at (ltb-false p.groups limits.events h)))
 
   integer_why : LeadsTo AfterValue p t → IsIntegerDue sig front → (word : List ℕ) → written t ≡ Bare word
       → Explains (integer_at t.at word)
@@ -158,7 +142,7 @@ module _ (sig : List PredOf) (limits : Limits) (front : List Lexeme) (p : Partia
 
   stepped_why : (found : Option Stage) → stage_after p.stage (symbol t) ≡ found
       → Explains (stepped sig limits p t found)
-  stepped_why None none = grind (arith, goes_there, no_way, stands)
+  stepped_why None none = grind (arith, goes_there, stands)
   stepped_why (Some AfterAt) g = opened_why g
   stepped_why (Some AfterStamp) g = stamped_why g (timestamp_of (token_content t)) refl
   stepped_why (Some AfterName) g = naming_why g (named (token_content t) sig) refl
@@ -196,7 +180,7 @@ module _ (sig : List PredOf) (limits : Limits) (front : List Lexeme) (p : Partia
       rw place (taken AfterValue _ part
       (ap (valued t.at (written t) p) (value_due (leads_to AfterValue part) ∙ none)))
   step_shows (WrongArity at) (place, inr (part, some)) =
-      grind (arith, taken, closed_early, close_due (leads_to AfterClose part), leads_to AfterClose part)
+      grind (arith, taken, close_due (leads_to AfterClose part), leads_to AfterClose part)
   step_shows (WrongSort at) (place, part, (more, due), none) =
       rw place (value_fails _ more part due (no_integer t.at (written t) none))
   step_shows (IntRange at) (place, part, (more, due), w) =
@@ -207,9 +191,7 @@ module _ (sig : List PredOf) (limits : Limits) (front : List Lexeme) (p : Partia
       rw (place, same) (taken AfterStamp _ part
       (ap (stamped t.at p) time ∙ rw (lt-ltb now p.time (rw same at below)) refl))
   step_shows (TooManyEvents at) (place, part, many) =
-      let full = subst (λ (n : ℕ). limits.events ≤ n) (sym stands.groups) many in
-      rw place (taken AfterOpen _ part (rw (le-ltb p.groups limits.events full) refl))
+      rw place (taken AfterOpen _ part (rw (le-ltb p.groups limits.events (rw (← stands.groups) at many)) refl))
   step_shows (TooManyPoints at) (place, part, many) =
-      let full = subst (λ (n : ℕ). limits.points ≤ n) (sym stands.points) many in
-      rw place (taken AfterAt _ part (rw (le-ltb p.points limits.points full) refl))
+      rw place (taken AfterAt _ part (rw (le-ltb p.points limits.points (rw (← stands.points) at many)) refl))
   step_shows _ cause = absurd cause

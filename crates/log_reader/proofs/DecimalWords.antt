@@ -1,5 +1,5 @@
 -- The decimal digits of a number are a word of a log that stands for the number.
-use Rattle.std.proofs.Common.{◌≡◌, ℕ, ◌+◌, ◌*◌, ◌-◌, ◌<◌, ◌≤◌, ◌^◌, true, false, List, [], ◌∷◌, length, Some, Ok, pos}
+use Rattle.std.proofs.Common.{◌≡◌, ℕ, ◌+◌, ◌*◌, ◌<◌, ◌≤◌, ◌^◌, true, false, List, [], ◌∷◌, length, Some, Ok, pos}
 use Rattle.std.proofs.Common.{refl, ap, ◌∙◌, arith}
 use Rattle.std.proofs.lemmas.Bool.{le-leb, lt-ltb, ne_eqb}
 use Rattle.std.proofs.{lemmas.Bool.Decides.nat_tests, lemmas.Fmt.decimal_is_IsNumeral, lemmas.Fmt.length-decimal-le}
@@ -27,9 +27,6 @@ all_in_word : (ds : List ℕ) → AllDigits 10 ds → list_all in_log_word ds �
 all_in_word [] d = refl
 all_in_word (c ∷ ds) d = rw (digit_in_word c d.0, all_in_word ds d.1) refl
 
-digits_are : (ds : List ℕ) → 0 < length ds → AllDigits 10 ds → is_digits ds ≡ true
-digits_are ds some d = grind (arith, all_are_digits)
-
 no_minus : (c : ℕ) → digit_value c < 10 → (c == minus) ≡ false
 no_minus c d = let range = digit_from_value c d in ne_eqb c minus (λ e. omega arith)
 
@@ -49,7 +46,7 @@ same_integer ds d = grind arith
 
 module _ (n : ℕ) (small : n < 2 ^ 64) where
   pub decimal_digits : is_digits (decimal n) ≡ true
-  decimal_digits = let k = decimal_is_IsNumeral n small in digits_are (decimal n) k.0.0 k.0.1
+  decimal_digits = let k = decimal_is_IsNumeral n small in (grind (arith, all_are_digits))
 
   pub decimal_in_word : list_all in_log_word (decimal n) ≡ true
   decimal_in_word = all_in_word (decimal n) (decimal_is_IsNumeral n small).0.1

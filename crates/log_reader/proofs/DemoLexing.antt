@@ -1,9 +1,7 @@
 -- The demo's log is cut into tokens that spell its time-points.
-use Rattle.std.proofs.Common.{◌≡◌, ℕ, ◌<◌, ◌^◌, true, List, [], ◌∷◌, ◌++◌, length, map, codes, refl, sym, ◌∙◌, subst}
-use Rattle.std.proofs.Common.{arith, append_assoc}
-use Rattle.std.specs.Fmt.{decimal}
-use Rattle.std.specs.List.{list_all, flat_map, AllByRecursion}
-use Rattle.mfotl_lex.specs.Bytes.{in_log_word}
+use Rattle.std.proofs.Common.{◌≡◌, ℕ, ◌<◌, ◌^◌, true, List, [], ◌∷◌, ◌++◌, length, map, codes, refl, arith}
+use Rattle.std.proofs.Common.{append_assoc}
+use Rattle.std.specs.{Fmt.decimal, List.flat_map, List.AllByRecursion}
 use Rattle.mfotl_lex.specs.declared.kind.Kind.TheVariants.{OpenParen, CloseParen, Comma, At, Semicolon}
 use Rattle.log_reader.specs.declared.{demo_event.DemoEvent.DemoEvent, demo_event.Person.Person}
 use Rattle.log_reader.specs.declared.demo_event.DemoEvent.TheVariants.{Request, Grant, Drop}
@@ -36,11 +34,7 @@ numbered_cut id more symbols small cuts =
     let end = mark_cut 41 CloseParen more symbols refl cuts in
     let number = number_cut id (41 ∷ more) _ (omega (arith, small)) refl end in
     mark_cut 40 OpenParen _ _ refl
-    (subst (λ bytes. CutsInto bytes (Says (Bare (decimal id)) ∷ Closing ∷ symbols))
-    (sym (append_assoc (decimal id) (codes ")") more)) number)
-
-name_in_word : (who : Person) → list_all in_log_word (name_of who) ≡ true
-name_in_word who = grind arith
+    (rw (append_assoc (decimal id) (codes ")") more) number)
 
 pub length-name : (who : Person) → length (name_of who) ≡ 3
 length-name who = grind arith
@@ -54,14 +48,12 @@ named_cut : (id : ℕ) (who : Person) (more : List ℕ) (symbols : List Symbol) 
     (Opening ∷ Says (Bare (decimal id)) ∷ Separator ∷ Says (Bare (name_of who)) ∷ Closing ∷ symbols)
 named_cut id who more symbols small cuts =
     let end = mark_cut 41 CloseParen more symbols refl cuts in
-    let name = word_cut (name_of who) (41 ∷ more) _ (name_in_word who) (omega (arith, length-name who))
+    let name = word_cut (name_of who) (41 ∷ more) _ (grind arith) (omega (arith, length-name who))
     (omega (arith, length-name who)) refl end in
     let comma = mark_cut 44 Comma _ _ refl name in
     let number = number_cut id (44 ∷ (name_of who ++ (41 ∷ more))) _ (omega (arith, small)) refl comma in
     mark_cut 40 OpenParen _ _ refl
-    (subst (λ bytes. CutsInto bytes
-    (Says (Bare (decimal id)) ∷ Separator ∷ Says (Bare (name_of who)) ∷ Closing ∷ symbols))
-    (sym (regrouped (decimal id) (codes ",") (name_of who) (codes ")") more)) number)
+    (rw (regrouped (decimal id) (codes ",") (name_of who) (codes ")") more) number)
 
 event_cut : (e : DemoEvent) (more : List ℕ) (mentions : List Mention) (symbols : List Symbol) → IsSmall e
     → CutsInto more (spell_mentions mentions symbols)
@@ -107,10 +99,10 @@ line_cut earliest last m more symbols small sound cuts =
     let time = number_cut m.time (flat_map written m.events ++ (59 ∷ 10 ∷ more)) _ (omega (arith, small, sound.within))
     (events_apart m.events (59 ∷ 10 ∷ more) refl) events in
     mark_cut 64 At _ _ refl
-    (subst (λ bytes. CutsInto bytes
-    (Says (Bare (decimal m.time)) ∷ spell_mentions (map mention_of m.events) (Terminator ∷ symbols)))
-    (sym (append_assoc (decimal m.time ++ flat_map written m.events) (codes ";\n") more
-    ∙ append_assoc (decimal m.time) (flat_map written m.events) (59 ∷ 10 ∷ more))) time)
+    (rw (
+      append_assoc (decimal m.time ++ flat_map written m.events) (codes ";\n") more,
+      append_assoc (decimal m.time) (flat_map written m.events) (59 ∷ 10 ∷ more),
+    ) time)
 
 -- ---- the log
 

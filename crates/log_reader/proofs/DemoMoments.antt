@@ -5,7 +5,7 @@ use Rattle.std.specs.List.{AllByRecursion}
 use Rattle.log_reader.specs.declared.demo_event.DemoEvent.{DemoEvent}
 use Rattle.log_reader.specs.declared.demo_event.DemoEvent.TheVariants.{Request, Grant, Drop}
 use Rattle.log_reader.specs.DemoDraws.{drawn, moved_on}
-use Rattle.log_reader.specs.DemoEvents.{Moment, event_behind, state_behind, events_behind, state_behind_all, moments}
+use Rattle.log_reader.specs.DemoEvents.{Moment, state_behind, events_behind, state_behind_all, moments}
 
 -- an event's identity is small
 abbrev pub IsSmall : DemoEvent → Type 0
@@ -28,13 +28,10 @@ AreSound earliest last (m ∷ ms) = IsSound earliest last m × AreSound m.time l
 drawn_below : (m s : ℕ) → 0 < m → drawn m s < m
 drawn_below m s some = mod-lt _ some
 
-event_small : (s : ℕ) → IsSmall (event_behind s)
-event_small s = grind arith
-
 events_small : (count s : ℕ) → AllByRecursion IsSmall (events_behind count s)
 unfolding events_behind
 events_small zero s = tt
-events_small (suc count) s = (event_small s, events_small count (state_behind s))
+events_small (suc count) s = (grind arith, events_small count (state_behind s))
 
 length-events_behind : (count s : ℕ) → length (events_behind count s) ≡ count
 unfolding events_behind

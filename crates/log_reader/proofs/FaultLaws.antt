@@ -36,16 +36,12 @@ module _ (ts : List Lexeme) (n : ℕ) (p : Partial) (path : paths Between (symbo
   unaccepted b e refuses = grind (arith, accepted_by)
 
 module _ (sig : List PredOf) (limits : Limits) where
-  tail_why : (ts : List Lexeme) (p : Partial) (tail : Tail LogFault) (fault : LogFault)
-      → run (step sig limits) ts nothing_read ≡ Ok p → at_tail tail p ≡ Err fault → IsLast ts tail fault
-  tail_why ts p tail fault sound e = grind (arith, refused, run_paths, accepts)
-
   tail_shows : (ts : List Lexeme) (p : Partial) (tail : Tail LogFault) (fault : LogFault)
       → run (step sig limits) ts nothing_read ≡ Ok p → IsLast ts tail fault → at_tail tail p ≡ Err fault
   tail_shows ts p tail fault sound why = grind (arith, unaccepted, run_paths, accepts)
 
   pub follows : FollowsGrammar (step sig limits) nothing_read at_tail IsViable (IsCause sig limits) IsLast
-  follows = grind (arith, viable_by, run_paths, step_why, step_shows, tail_why, tail_shows)
+  follows = grind (arith, viable_by, run_paths, step_why, step_shows, refused, run_paths, accepts, tail_shows)
 
 pub exact_faults_law : ExactFaults
 exact_faults_law sig limits bytes ended fault =

@@ -1,14 +1,13 @@
 -- A reading has no more time-points than the limit.
-use Rattle.std.proofs.Common.{◌≡◌, ℕ, ◌+◌, ◌≤◌, Bool, List, [], ◌∷◌, length, Option, Result, arith}
+use Rattle.std.proofs.Common.{◌≡◌, ℕ, ◌+◌, ◌≤◌, Bool, List, [], ◌∷◌, length, Result, arith}
 use Rattle.std.proofs.{lemmas.Bool.cases_Bool, lemmas.List.length-append}
 use Rattle.mfotl_lex.specs.Lexemes.{Lexeme}
-use Rattle.mfotl_lex.specs.declared.fault.LexFault.{LexFault}
 use Rattle.mfotl_sig.specs.Preds.{PredOf}
 use Rattle.log_reader.specs.declared.{fault.LogFault.LogFault, limits.Limits.Limits}
 use Rattle.log_reader.specs.Cursors.{open_count, given_of, IsCounted}
 use Rattle.log_reader.specs.{Partials.Partial, Soundness.StandsForLog, Soundness.StandsForSomeLog, Steps.step}
 use Rattle.log_reader.specs.{Steps.completed, Stretches.Stretch}
-use Rattle.log_reader.specs.Readings.{Reading, went_on, run, behind_tokens, nothing_left, reading}
+use Rattle.log_reader.specs.Readings.{Reading, went_on, run, reading}
 use Rattle.log_reader.proofs.StepStages.{step_counts, completes_open, completed_none, completed_one}
 use Rattle.log_reader.proofs.ReaderSoundness.{remains_now}
 
@@ -49,14 +48,10 @@ module _ (sig : List PredOf) (limits : Limits) where
   run_few last ends [] p f = ends p f
   run_few last ends (t ∷ ts) p f = search (length-append, step_few, run_few last ends ts)
 
-end_few : (limits : Limits) (bytes : List ℕ) (ended : Bool) (fault : Option LexFault) (p : Partial) → IsFew limits p
-    → Within limits p (length (behind_tokens fault (nothing_left limits bytes ended) p).points)
-end_few limits bytes ended fault p f = grind arith
-
 pub reading_few : (sig : List PredOf) (limits : Limits) (bytes : List ℕ) (ended : Bool)
     → length (reading sig limits bytes ended).points ≤ limits.points
 unfolding reading
-reading_few sig limits bytes ended = grind (arith, run_few, end_few)
+reading_few sig limits bytes ended = grind (arith, run_few)
 
 -- no more were given than there are
 pub given_few : (sig : List PredOf) (limits : Limits) (is_ended : Bool) (given : ℕ) (s : Stretch) (at : ℕ)

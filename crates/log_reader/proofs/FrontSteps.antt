@@ -13,9 +13,8 @@ use Rattle.log_reader.specs.Fronts.{is_behind_at, is_in_group, points_begun, las
 use Rattle.log_reader.specs.Fronts.{values_begun, due_sorts, Role, PointBegins, Timestamp, Name, GroupBegins}
 use Rattle.log_reader.specs.Fronts.{Value as ValueRole, Comma, GroupEnds, PointEnds, symbols_before, role}
 use Rattle.log_reader.specs.{Partials.Partial, Partials.nothing_read, ValuesRead.value_at}
-use Rattle.log_reader.specs.Steps.{stepped, point_opened, grouped, valued, group_closed, step}
-use Rattle.log_reader.specs.Symbols.{Symbol, AtSign, Opening, Closing, Says, Written, Bare, symbol, token_content}
-use Rattle.log_reader.specs.Symbols.{written}
+use Rattle.log_reader.specs.Steps.{stepped, grouped, valued, step}
+use Rattle.log_reader.specs.Symbols.{Symbol, Opening, Says, Written, Bare, symbol, token_content, written}
 use Rattle.log_reader.proofs.{Judging.bare_content, StepStages.step_goes}
 use Rattle.log_reader.proofs.Transitions.{Transition, begins_first, begins_bare, begins_full, times, names_first}
 use Rattle.log_reader.proofs.Transitions.{names_more, opens_first, opens_more, gives_first, gives_more, separates}
@@ -44,18 +43,11 @@ pub record Stands (sig : List PredOf) (s : Stage) (p : Partial) (older : List Sy
   pub sorts : p.sorts ≡ last_sorts sig older
   pub due : is_in_brackets s ≡ true → p.due ≡ due_sorts sig older
 
-pub nothing_stands : (sig : List PredOf) → Stands sig Between nothing_read []
-nothing_stands sig = search arith
-
 -- ---- steps
 
 module _ (sig : List PredOf) (limits : Limits) (p : Partial) (t : Lexeme) (older : List Symbol) where
   abbrev Leads : Stage → Symbol → Result Partial LogFault → Type 0
   Leads g x r = IfOk r (λ q. Stands sig g q (x ∷ older))
-
-  at_stands : (s : Stage) → is_in_brackets s ≡ false → Stands sig s p older
-      → Leads AfterAt AtSign (point_opened limits t.at p)
-  at_stands s out st = grind arith
 
   group_stands : (s : Stage) → Stands sig s p older → Leads AfterOpen Opening (grouped limits t.at p)
   group_stands s st = grind arith
@@ -78,19 +70,15 @@ module _ (sig : List PredOf) (limits : Limits) (p : Partial) (t : Lexeme) (older
   valued_stands w s (sort ∷ more) e far within st =
       given_stands w s sort more (value_at sort t.at (written t)) far within st (sym e ∙ st.due within)
 
-  closed_stands : (s : Stage) (due : List Sort) → Stands sig s p older
-      → Leads AfterClose Closing (group_closed t.at p due)
-  closed_stands s due st = grind arith
-
   says : (word : List ℕ) → symbol t ≡ Says (Bare word) → token_content t ≡ word
   says word e = bare_content t.kind (token_content t) word e
 
   -- a step goes on with what stands before the next token
   pub step_stands : (s : Stage) (x : Symbol) (g : Stage) → Transition s x g → symbol t ≡ x → Stands sig s p older
       → Leads g x (stepped sig limits p t (Some g))
-  step_stands _ _ _ begins_first e st = at_stands Between refl st
-  step_stands _ _ _ begins_bare e st = at_stands AfterStamp refl st
-  step_stands _ _ _ begins_full e st = at_stands AfterClose refl st
+  step_stands _ _ _ begins_first e st = grind arith
+  step_stands _ _ _ begins_bare e st = grind arith
+  step_stands _ _ _ begins_full e st = grind arith
   step_stands _ _ _ (times word digits) e st = grind arith
   step_stands _ _ _ (names_first word) e st = grind arith
   step_stands _ _ _ (names_more word) e st = grind arith
@@ -99,8 +87,8 @@ module _ (sig : List PredOf) (limits : Limits) (p : Partial) (t : Lexeme) (older
   step_stands _ _ _ (gives_first w) e st = valued_stands w AfterOpen p.due refl refl refl st
   step_stands _ _ _ (gives_more w) e st = valued_stands w AfterComma p.due refl refl refl st
   step_stands _ _ _ separates e st = search (arith, st.due)
-  step_stands _ _ _ closes_empty e st = closed_stands AfterOpen p.due st
-  step_stands _ _ _ closes e st = closed_stands AfterValue p.due st
+  step_stands _ _ _ closes_empty e st = grind arith
+  step_stands _ _ _ closes e st = grind arith
   step_stands _ _ _ ends_bare e st = search arith
   step_stands _ _ _ ends_full e st = search arith
 
@@ -144,11 +132,6 @@ same_stage g h e = sym (stage_back g) ∙ ap stage_of e ∙ stage_back h
 
 -- ---- tokens
 
--- the symbols from one on, the nearest first
-before_more : (t : Lexeme) (ts : List Lexeme) (older : List Symbol)
-    → symbols_before ts ++ symbol t ∷ older ≡ symbols_before (t ∷ ts) ++ older
-before_more t ts older = grind (arith, common_steps, append_assoc, reverse-append)
-
 module _ (sig : List PredOf) (limits : Limits) where
   step_on : (p q : Partial) (t : Lexeme) (older : List Symbol) → step sig limits p t ≡ Ok q → Stands sig p.stage p older
       → Stands sig q.stage q (symbol t ∷ older)
@@ -166,11 +149,10 @@ module _ (sig : List PredOf) (limits : Limits) where
   run_on [] p q older e st = let same : p ≡ q = cc in subst (λ (r : Partial). Stands sig r.stage r older) same st
   run_on (t ∷ ts) p q older e st =
       let first = bind_ok (step sig limits p t) (λ r. run (step sig limits) ts r) q e in
-      subst (Stands sig q.stage q) (before_more t ts older)
+      subst (Stands sig q.stage q) (grind (arith, common_steps, append_assoc, reverse-append))
       (run_on ts first.0 q (symbol t ∷ older) first.2 (step_on p first.0 t older first.1 st))
 
   -- what was read of tokens that show no fault
   pub run_stands : (front : List Lexeme) (p : Partial) → run (step sig limits) front nothing_read ≡ Ok p
       → Stands sig p.stage p (symbols_before front)
-  run_stands front p e =
-      grind (arith, append-nil (symbols_before front), run_on front nothing_read p, nothing_stands sig)
+  run_stands front p e = grind (arith, append-nil (symbols_before front), run_on front nothing_read p)

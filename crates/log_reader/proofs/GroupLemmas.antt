@@ -128,7 +128,8 @@ module _ (from : ℕ) (looked : List ℕ) (ended : Bool) (sig : List PredOf) (li
 
       pub comma_leads : p.stage ≡ AfterValue → get_or (drop at looked) 0 0 ≡ 44
           → Goes at p (at + 1) (record p { stage = AfterComma })
-      comma_leads stage is = mark_leads _ (mark_steps 44 Comma AfterValue AfterComma stage is refl refl refl (λ _. refl))
+      comma_leads stage is = mark_leads _
+          (mark_steps 44 Comma AfterValue AfterComma stage is refl refl refl (λ _. refl))
 
       pub closing_leads : p.stage ≡ AfterValue → p.due ≡ [] → get_or (drop at looked) 0 0 ≡ 41
           → Goes at p (at + 1) (closed_with p p.args)
@@ -210,7 +211,8 @@ module _ {from : ℕ} {looked : List ℕ} {ended : Bool} {sorts : List Sort} {st
     later = omega (arith, s.later, t.end);
     leads = λ sig limits p o.
         let over = over_value sig limits p o in
-        rw t.end (go_on over (comma_leads from looked ended sig limits (at + t.n) (valued_with p) over.within over.counted
+        rw t.end
+        (go_on over (comma_leads from looked ended sig limits (at + t.n) (valued_with p) over.within over.counted
         mark_some refl (t.is ∙ is)));
   }
 
@@ -249,9 +251,9 @@ module _ (from : ℕ) (looked : List ℕ) (ended : Bool) (sorts : List Sort) (at
         let past = subst (λ (k : ℕ). Goes from looked ended sig limits at p (at + k) p) (sym same)
         (blank_leads from looked ended sig limits at p le r.counted) in
         let begun = opening_leads from looked ended sig limits (at + blanks) p past.within r.counted
-        (subst (λ (b : List ℕ). 1 ≤ length b) mark_at some) p.stage refl r.stage r.room
-        (ap (λ (b : List ℕ). get_or b 0 0) (sym mark_at) ∙ is) in
-        go_on past (go_on begun ((v.0 limits (record p { stage = AfterOpen; groups = p.groups + 1; due = p.sorts }) (record {
+        (rw mark_at at some) p.stage refl r.stage r.room (rw mark_at at is) in
+        go_on past
+        (go_on begun ((v.0 limits (record p { stage = AfterOpen; groups = p.groups + 1; due = p.sorts }) (record {
           stage = refl;
           due = r.same;
           args = r.args;

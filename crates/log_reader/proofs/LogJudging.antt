@@ -18,7 +18,8 @@ use Rattle.log_reader.specs.Steps.{stepped, point_opened, stamped}
 use Rattle.log_reader.specs.Symbols.{Symbol, AtSign, Terminator, Says, Bare, token_content}
 use Rattle.log_reader.proofs.Judging.{Front, front_of, bare_content, Passed, Faulty, one_step, last_step, passes}
 use Rattle.log_reader.proofs.Judging.{faults, resting}
-use Rattle.log_reader.proofs.{PointJudging.MentionsRead, PointJudging.mentions_judged, Transitions.end_goes}
+use Rattle.log_reader.proofs.PointJudging.{MentionsJudged, mentions_judged, limited, nothing_limited}
+use Rattle.log_reader.proofs.Transitions.{end_goes}
 
 nothing_spelled : (ts : List Lexeme) → symbols_of ts ≡ [] → ts ≡ []
 nothing_spelled [] e = refl
@@ -50,19 +51,11 @@ module _ (sig : List PredOf) (limits : Limits) (len : ℕ) where
       record {
         others = f.others;
         spelled = f.spelled;
-        reads = ap (run sig limits last p) f.parts
-            ∙ last_step sig limits s Terminator p f.token f.others (Ok (finished p)) refl f.is (rw w refl)
+        reads = last_step sig limits p (Ok (finished p)) f refl (rw w refl)
             (ap (stepped sig limits p f.token) (end_goes s w).1) last;
       }
   settled q s false [] ts w e =
-      let p = resting q s in
-      let none = nothing_spelled ts e in
-      record {
-        others = ts;
-        spelled = e;
-        reads = ap (run sig limits last p) none ∙ whole_finish p s w
-            ∙ ap (λ (r : Reading). behind (point_of p ∷ []) r) (sym (ap (run sig limits last (finished p)) none));
-      }
+      record { others = ts; spelled = e; reads = rw (nothing_spelled ts e, whole_finish (resting q s) s w) refl }
   settled q s false (point ∷ log) ts w e =
       let p = resting q s in
       let f = front_of ts AtSign _ e in
@@ -70,52 +63,38 @@ module _ (sig : List PredOf) (limits : Limits) (len : ℕ) where
       record {
         others = ts;
         spelled = e;
-        reads = ap (run sig limits last p) f.parts
-            ∙ last_step sig limits s AtSign p f.token f.others r refl f.is (rw w refl)
-            (ap (stepped sig limits p f.token) (end_goes s w).0) last
+        reads =
+            last_step sig limits p r f refl (rw w refl) (ap (stepped sig limits p f.token) (end_goes s w).0) last
             ∙ ap (λ (x : Reading). behind (point_of p ∷ []) x)
-            (sym (ap (run sig limits last (finished p)) f.parts
-            ∙ one_step sig limits Between AtSign (finished p) f.token f.others r refl f.is refl refl last));
+            (sym (one_step sig limits (finished p) r f refl refl refl last));
       }
 
   -- ---- the value of a log
 
-  -- a time-point by its timestamp, its events, and whether it has too many groups
-  abbrev point_by : Option ℕ → Option (List Event) → Bool → Option TimePoint
-  point_by time events many =
-      option_and_then (λ t. option_and_then (λ e. cond many None (Some (record { ts = t; db = e }))) events) time
+  -- the time-points from one on, by its timestamp and its events
+  abbrev log_by : ℕ → ℕ → List PointText → ℕ → Option (List Event) → Option (List TimePoint)
+  log_by earliest room log time None = None
+  log_by earliest room log time (Some events) =
+      option_and_then (λ later. Some (record { ts = time; db = events } ∷ later))
+      (cond (nat_lt time earliest) None (log_value sig limits time room log))
 
-  -- the time-points from one on
-  abbrev log_by : ℕ → ℕ → List PointText → Option TimePoint → Option (List TimePoint)
-  log_by earliest room log point =
-      option_and_then (λ p. option_and_then (λ later. Some (p ∷ later))
-      (cond (nat_lt p.ts earliest) None (log_value sig limits p.ts room log))) point
-
-  log_is : (earliest room : ℕ) (p : PointText) (log : List PointText)
-      → log_value sig limits earliest (suc room) (p ∷ log) ≡ log_by earliest room log
-      (point_by (timestamp_of p.stamp) (mentions_value sig [] p.mentions)
-      (nat_lt limits.events (group_count p.mentions)))
+  log_is : (earliest room : ℕ) (p : PointText) (log : List PointText) (time : Option ℕ) (events : Option (List Event))
+      (many : Bool) → timestamp_of p.stamp ≡ time → mentions_value sig [] p.mentions ≡ events
+      → nat_lt limits.events (group_count p.mentions) ≡ many → log_value sig limits earliest (suc room) (p ∷ log)
+      ≡ option_and_then (λ t. log_by earliest room log t (limited many events)) time
   unfolding log_value point_value
-  log_is earliest room p log = refl
+  log_is earliest room p log None events many t e m = rw t refl
+  log_is earliest room p log (Some time) None many t e m = rw (t, e, nothing_limited many) refl
+  log_is earliest room p log (Some time) (Some events) true t e m = rw (t, e, m) refl
+  log_is earliest room p log (Some time) (Some events) false t e m = rw (t, e, m) refl
 
   -- a falling timestamp, whatever the events
-  falls : (earliest room time : ℕ) (log : List PointText) (events : Option (List Event)) (many : Bool)
-      → nat_lt time earliest ≡ true → log_by earliest room log (point_by (Some time) events many) ≡ None
-  falls earliest room time log None many e = refl
-  falls earliest room time log (Some events) true e = refl
-  falls earliest room time log (Some events) false e = rw e refl
-
-  -- events that are none, or too many groups
-  no_events : (earliest room time : ℕ) (log : List PointText) (events : Option (List Event)) (many : Bool)
-      → (events ≡ None) ⊎ (many ≡ true) → log_by earliest room log (point_by (Some time) events many) ≡ None
-  no_events earliest room time log events many (inl e) = rw e
-  no_events earliest room time log None many (inr e) = refl
-  no_events earliest room time log (Some events) many (inr e) = rw e
+  falls : (earliest room time : ℕ) (log : List PointText) (events : Option (List Event)) → nat_lt time earliest ≡ true
+      → log_by earliest room log time events ≡ None
+  falls earliest room time log None e = refl
+  falls earliest room time log (Some events) e = rw e refl
 
   -- ---- the reading of a log
-
-  pub record Read (p : Partial) (ts : List Lexeme) (points : List TimePoint) : Type 0 where
-    pub reads : run sig limits last p ts ≡ record { points = points; ending = NoFault }
 
   pub record Refused (p : Partial) (ts : List Lexeme) : Type 0 where
     pub points : List TimePoint
@@ -128,7 +107,8 @@ module _ (sig : List PredOf) (limits : Limits) (len : ℕ) where
   -- the tokens of a log were read to their end, or there is a fault
   abbrev Judged : Partial → List Lexeme → Option (List TimePoint) → Type 0
   Judged p ts value =
-      ((points : List TimePoint) × (value ≡ Some points) × Read p ts points) ⊎ ((value ≡ None) × Refused p ts)
+      ((points : List TimePoint) × (value ≡ Some points) × (run sig limits last p ts
+      ≡ record { points = points; ending = NoFault })) ⊎ ((value ≡ None) × Refused p ts)
 
   abbrev pub LogJudged : Partial → ℕ → List PointText → List Lexeme → Type 0
   LogJudged c room log ts = Judged (resting c Between) ts (log_value sig limits c.time room log)
@@ -140,7 +120,7 @@ module _ (sig : List PredOf) (limits : Limits) (len : ℕ) where
   -- tokens in front that complete no time-point, and one that is completed
   judged_behind : {p q : Partial} {ts : List Lexeme} {rest : List Symbol} {value : Option (List TimePoint)}
       (a : Passed sig limits p q ts rest) → Judged q a.others value → Judged p ts value
-  judged_behind a (inl x) = inl (x.0, x.1, record { reads = a.reads last ∙ x.2.reads })
+  judged_behind a (inl x) = inl (x.0, x.1, a.reads last ∙ x.2)
   judged_behind a (inr y) =
       inr (y.0, record { points = y.1.points; fault = y.1.fault; reads = a.reads last ∙ y.1.reads })
 
@@ -150,7 +130,7 @@ module _ (sig : List PredOf) (limits : Limits) (len : ℕ) where
   judged_point point reads (inl x) = inl (
     point ∷ x.0,
     ap (option_and_then (λ later. Some (point ∷ later))) x.1,
-    record { reads = reads ∙ ap (λ (r : Reading). behind (point ∷ []) r) x.2.reads },
+    reads ∙ ap (λ (r : Reading). behind (point ∷ []) r) x.2,
   )
   judged_point point reads (inr y) = inr (
     ap (option_and_then (λ later. Some (point ∷ later))) y.0,
@@ -170,25 +150,20 @@ module _ (sig : List PredOf) (limits : Limits) (len : ℕ) where
     abbrev inner : List Symbol
     inner = spell_end p.is_closed (spell_log log)
 
-    abbrev value_by : Option ℕ → Option (List TimePoint)
-    value_by time = log_by c.time room log
-        (point_by time (mentions_value sig [] p.mentions) (nat_lt limits.events (group_count p.mentions)))
+    abbrev count : ℕ
+    count = group_count p.mentions
 
     -- it was read, and then those behind it
-    point_read : (time : ℕ) (ts : List Lexeme)
-        → MentionsRead sig limits (record c { time = time }) AfterStamp p.mentions ts inner
-        → nat_lt time c.time ≡ false → Judged (resting (record c { time = time }) AfterStamp) ts (value_by (Some time))
-    point_read time ts r rises =
-        let s = settled r.there r.at p.is_closed log r.passed.others r.whole r.passed.spelled in
-        let c3 = record r.there { events = []; groups = 0 } in
-        let few : nat_lt limits.events (group_count p.mentions) ≡ false =
-        le-ltb limits.events (group_count p.mentions) (omega (arith, r.few, none)) in
-        let events : mentions_value sig [] p.mentions ≡ Some r.there.events = rw clear at r.events in
-        let start = resting (record c { time = time }) AfterStamp in
-        rw (events, few, rises) (subst (λ (t : ℕ). Judged start ts (option_and_then
-        (λ later. Some (record { ts = t; db = r.there.events } ∷ later)) (log_value sig limits t room log))) r.time
-        (judged_point (point_of r.there) (r.passed.reads last ∙ s.reads)
-        (later c3 s.others (omega (arith, r.points, sum)) s.spelled)))
+    point_read : (time : ℕ) (ts : List Lexeme) (events : Option (List Event)) → nat_lt time c.time ≡ false
+        → MentionsJudged sig limits (record c { time = time }) AfterStamp count events ts inner
+        → Judged (resting (record c { time = time }) AfterStamp) ts (log_by c.time room log time events)
+    point_read time ts None rises f = inr (refl, refused _ ts f)
+    point_read time ts (Some events) rises r =
+        let there = record c
+        { time = time; groups = count; events = events; pred = r.pred.number; sorts = r.pred.sorts } in
+        let s = settled there r.at p.is_closed log r.passed.others r.whole r.passed.spelled in
+        rw rises (judged_point (point_of there) (r.passed.reads last ∙ s.reads)
+        (later (record there { events = []; groups = 0 }) s.others sum s.spelled))
 
     module _ (ts : List Lexeme) (stamp : HasStamp p)
         (e : symbols_of ts ≡ Says (Bare p.stamp) ∷ spell_mentions p.mentions inner) where
@@ -196,21 +171,27 @@ module _ (sig : List PredOf) (limits : Limits) (len : ℕ) where
       f = front_of ts (Says (Bare p.stamp)) _ e
 
       steps : (found : Option ℕ) → timestamp_of p.stamp ≡ found
-          → stepped sig limits start f.token (stage_after AfterAt (Says (Bare p.stamp))) ≡ stamped f.token.at start found
+          → stepped sig limits start f.token (stage_after AfterAt (Says (Bare p.stamp))) ≡ stamped f.token.at start
+          found
       steps found is =
           let says : token_content f.token ≡ p.stamp = bare_content f.token.kind (token_content f.token) p.stamp f.is in
           rw (stamp, says, is)
 
       -- by what the stamp stands for
-      stamp_then : (found : Option ℕ) → timestamp_of p.stamp ≡ found → Judged start ts (value_by found)
+      stamp_then : (found : Option ℕ) → timestamp_of p.stamp ≡ found → Judged start ts
+          (option_and_then (λ t. log_by c.time room log t
+          (limited (nat_lt limits.events count) (mentions_value sig [] p.mentions))) found)
       stamp_then None found =
-          inr (refl, refused start ts (faults sig limits start (TimestampRange f.token.at) f refl refl (steps None found)))
+          inr (
+            refl,
+            refused start ts
+                (faults sig limits start (TimestampRange f.token.at) f refl refl (steps None found)),
+          )
       stamp_then (Some time) found =
-          let events = mentions_value sig [] p.mentions in
-          let many = nat_lt limits.events (group_count p.mentions) in
+          let events = limited (nat_lt limits.events count) (mentions_value sig [] p.mentions) in
           elim (cases_lt time c.time) [
             | inl falling ↦ inr (
-              falls c.time room time log events many (lt-ltb time c.time falling),
+              falls c.time room time log events (lt-ltb time c.time falling),
               refused start ts (faults sig limits start (FallingTime c.time time f.token.at) f refl refl
                   (steps (Some time) found ∙ rw (lt-ltb time c.time falling) refl)),
             )
@@ -218,22 +199,17 @@ module _ (sig : List PredOf) (limits : Limits) (len : ℕ) where
                 let c2 = record c { time = time } in
                 let a = passes sig limits start (resting c2 AfterStamp) f refl refl
                 (steps (Some time) found ∙ rw (le-ltb time c.time rises) refl) in
-                judged_behind a (elim (mentions_judged sig limits p.mentions c2 AfterStamp a.others inner refl a.spelled
-                (omega (arith, none))) [
-                  | inl r ↦ point_read time a.others r (le-ltb time c.time rises)
-                  | inr z ↦
-                      let why : (events ≡ None) ⊎ (many ≡ true) = elim z.0 [
-                        | inl missing ↦ inl (rw clear at missing)
-                        | inr lots ↦ inr (lt-ltb limits.events (group_count p.mentions) (omega (arith, lots, none)))
-                      ] in
-                      inr (no_events c.time room time log events many why, refused _ _ z.1)
-                ])
+                judged_behind a (point_read time a.others events (le-ltb time c.time rises)
+                (subst (λ (es : List Event). MentionsJudged sig limits c2 AfterStamp count
+                (limited (nat_lt limits.events count) (mentions_value sig es p.mentions)) a.others inner) clear
+                (mentions_judged sig limits p.mentions c2 AfterStamp count a.others inner refl a.spelled
+                (omega (arith, none)) (omega (arith, none)))))
           ]
 
   pub log_judged : (log : List PointText) (room : ℕ) → AllByRecursion HasStamp log → Judge room log
   unfolding log_value run
   log_judged [] room stamps c ts sum e =
-      inl ([], refl, record { reads = ap (run sig limits last (resting c Between)) (nothing_spelled ts e) })
+      inl ([], refl, ap (run sig limits last (resting c Between)) (nothing_spelled ts e))
   log_judged (p ∷ log) zero stamps c ts sum e =
       let f = front_of ts AtSign _ e in
       inr (
@@ -245,6 +221,7 @@ module _ (sig : List PredOf) (limits : Limits) (len : ℕ) where
       let c1 = record c { points = c.points + 1; events = []; groups = 0 } in
       let a = passes sig limits (resting c Between) (resting c1 AfterAt) (front_of ts AtSign _ e) refl refl
       (rw (lt-ltb c.points limits.points (omega arith)) refl) in
-      judged_behind a (subst (Judged (resting c1 AfterAt) a.others) (sym (log_is c.time room p log))
+      judged_behind a
+      (subst (Judged (resting c1 AfterAt) a.others) (sym (log_is c.time room p log _ _ _ refl refl refl))
       (stamp_then c1 room p log (omega arith) refl refl (λ c ts sum e. log_judged log room stamps.1 c ts sum e) a.others
       stamps.0 a.spelled (timestamp_of p.stamp) refl))

@@ -36,9 +36,6 @@ module _ (sig : List PredOf) (limits : Limits) (p : Partial) (t : Lexeme) where
       → Reaches AfterValue (r >>= λ v. Ok (record p { stage = AfterValue; due = due; args = p.args ++ v ∷ [] }))
   given due r = grind arith
 
-  stepped_reaches : (g : Stage) → Reaches g (stepped sig limits p t (Some g))
-  stepped_reaches g = grind arith
-
   -- a step without a fault follows the grammar
   pub step_goes : (q : Partial) → step sig limits p t ≡ Ok q → Reached limits p (stage_after p.stage (symbol t)) q
   unfolding step
@@ -47,7 +44,7 @@ module _ (sig : List PredOf) (limits : Limits) (p : Partial) (t : Lexeme) where
       by_stage : (found : Option Stage) → stepped sig limits p t found ≡ Ok q → Reached limits p found q
       by_stage None e = absurd cc
       by_stage (Some g) e =
-          subst (λ (r : Result Partial LogFault). IfOk r (Reached limits p (Some g))) e (stepped_reaches g)
+          subst (λ (r : Result Partial LogFault). IfOk r (Reached limits p (Some g))) e (grind arith)
 
 -- ---- what a token completes
 

@@ -1,15 +1,15 @@
 -- Where a reader waits for more it holds little: no token's front is longer than a Text's quote and content.
-use Rattle.std.proofs.Common.{◌≡◌, ℕ, suc, ◌-◌, ◌≤◌, false, List, [], ◌∷◌, length, take, refl, arith, Option}
+use Rattle.std.proofs.Common.{◌≡◌, ℕ, suc, ◌≤◌, false, List, [], ◌∷◌, length, refl, arith}
 use Rattle.std.specs.{Prelude.◌==◌, Str.is_utf8}
 use Rattle.std.proofs.lemmas.Bool.{cases_Bool, cond_both, ltb-false}
 use Rattle.std.proofs.lemmas.List.{length-drop, length-take}
 use Rattle.mfotl_lex.proofs.Sequence.{next_is, scan_at, unshown}
 use Rattle.mfotl_lex.specs.Bytes.{hash, quote}
-use Rattle.mfotl_lex.specs.Scans.{word_scan, closed_text, text_end, text_scan, mark_scan, log_scan}
-use Rattle.mfotl_lex.specs.declared.{kind.Kind.Kind, scan.Scan.Scan, scan.Scan.TheVariants.Unshown}
+use Rattle.mfotl_lex.specs.Scans.{word_scan, closed_text, text_end, text_scan, log_scan}
+use Rattle.mfotl_lex.specs.declared.{scan.Scan.Scan, scan.Scan.TheVariants.Unshown}
 use Rattle.log_reader.specs.declared.limits.Limits.{Limits}
 use Rattle.log_reader.specs.Limits.{held_limit}
-use Rattle.log_reader.specs.Stretches.{Stretch, Waits, comment_of, forgotten}
+use Rattle.log_reader.specs.Stretches.{Stretch, Waits, forgotten}
 
 -- what a scan that shows nothing says
 abbrev Waiting : Type 0 → Scan → Type 0
@@ -32,19 +32,12 @@ text_little : (bytes : List ℕ) → Waiting (length bytes ≤ 4096) (text_scan 
 unfolding text_scan
 text_little bytes = grind (arith, cases_Bool, end_open, length-drop, ltb-false)
 
-mark_shows : (P : Type 0) (mark : Option Kind) → Waiting P (mark_scan mark)
-mark_shows P mark = grind arith
-
 -- a comment aside, the bytes that show nothing are few
 log_little : (b : ℕ) (bytes : List ℕ) → (b == hash) ≡ false
     → Waiting (length (b ∷ bytes) ≤ held_limit) (log_scan false (b ∷ bytes))
 unfolding log_scan
-log_little b bytes other = grind (arith, cond_both, word_little, text_little, mark_shows)
-
-left_little : (bytes : List ℕ) → log_scan false bytes ≡ Unshown
-    → length (take (length bytes - comment_of bytes) bytes) ≤ held_limit
-left_little bytes e = grind (arith, cond_both, length-take, log_little)
+log_little b bytes other = grind (arith, cond_both, word_little, text_little)
 
 pub waits_little : (limits : Limits) (s : Stretch) (at : ℕ) → Waits limits s at
     → length (forgotten s at).bytes ≤ held_limit
-waits_little limits s at w = grind (arith, unshown, scan_at, next_is, left_little)
+waits_little limits s at w = grind (arith, unshown, scan_at, next_is, cond_both, length-take, log_little)

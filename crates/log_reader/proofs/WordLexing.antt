@@ -73,13 +73,10 @@ apart more a = grind arith
 first_in : (b : ℕ) (word : List ℕ) → list_all in_log_word (b ∷ word) ≡ true → in_log_word b ≡ true
 first_in b word all = grind arith
 
-others_in : (b : ℕ) (word : List ℕ) → list_all in_log_word (b ∷ word) ≡ true → list_all in_log_word word ≡ true
-others_in b word all = grind arith
-
 word_len : (word more : List ℕ) → list_all in_log_word word ≡ true → begins_apart more ≡ true
     → prefix_len in_log_word (word ++ more) ≡ length word
 word_len [] more all a = (apart more a).0
-word_len (b ∷ word) more all a = grind (arith, first_in, others_in, word_len word more (others_in b word all) a)
+word_len (b ∷ word) more all a = grind (arith, first_in, word_len word more (grind arith) a)
 
 pub word_cut : (word more : List ℕ) (symbols : List Symbol) → list_all in_log_word word ≡ true → 0 < length word
     → length word ≤ 4096 → begins_apart more ≡ true → CutsInto more symbols
