@@ -24,7 +24,7 @@ use Rattle.slice_strategy.specs.{Limits.max_workers, Rules.strategy_of, ChangeRe
 use Rattle.slice_strategy.specs.Reading.{Between, Partial, StageOf, complete, ended, step, nothing_read, at_tail}
 use Rattle.slice_strategy.proofs.EntryLaws.{had_or_free, named_low, last_number}
 use Rattle.slice_strategy.proofs.Moves.{IsRule, AreFew, head_of, so_far, behind, step_by, stepped, settled_other}
-use Rattle.slice_strategy.proofs.Moves.{ended_judged, begins_whole, chosen_by, itself, over_of, whole_begins}
+use Rattle.slice_strategy.proofs.Moves.{ended_judged, begins_whole, chosen_by, itself, whole_begins}
 use Rattle.slice_strategy.proofs.PartReads.{KeepsPart, known_whole, stands_behind, shows_rule}
 use Rattle.slice_strategy.proofs.PartMoves.{Leads, Moves, moves, part_viable, next_fits}
 
@@ -212,10 +212,6 @@ module _ (vars : List Var) where
       → ended entries stage ≡ Ok (record { entries = entries; stage = stage })
   inside_closed entries stage inside = grind arith
 
-  inside_ends : (end : ℕ) (entries : Strategy) (stage : StageOf) → may_begin stage ≡ false
-      → complete end entries stage ≡ Err (Syntax end)
-  inside_ends end entries stage inside = grind arith
-
   module _ (ts : List Lexeme) (s : Partial) (ran : Ran ts s) where
     clear : (q : Partial) → Closed s ≡ Ok q → IsClear vars ts
     clear q e at over = cc (e, over_closed ts s at ran over)
@@ -228,20 +224,17 @@ module _ (vars : List Var) where
         (IsAccepted ts × (q.stage ≡ Between))
         ⊎ ((IsAccepted ts → ⊥) × ((end : ℕ) → complete end q.entries q.stage ≡ Err (Syntax end)))
 
-    whole_closes : (es : Entries) → IsPart ts (Whole es) → Closes (Closed (behind vars (Whole es)))
-    whole_closes es is = grind (arith, leb_tells, over_of)
-
     closes : Closes (Closed s)
     closes =
         let here = stands ts s ran in
         elim (cases_Bool (may_begin (behind vars here.part).stage)) [
-          | inl begins ↦ grind (arith, begins_whole, behind, whole_closes)
+          | inl begins ↦ grind (arith, begins_whole, behind, leb_tells)
           | inr begun ↦
               let inside = ap (λ (p : Partial). may_begin p.stage) here.here ∙ begun in
               let stage = λ (a : IsAccepted ts).
               ap (λ (p : Partial). may_begin p.stage) (part_stands ts s (Whole a.0) ran a.1).1 in
               rw (inside_closed s.entries s.stage inside)
-              (inr (λ a. cc (inside, stage a, whole_begins vars a.0), λ end. inside_ends end s.entries s.stage inside))
+              (inr (λ a. cc (inside, stage a, whole_begins vars a.0), λ end. (grind arith)))
         ]
 
     -- tokens behind which a strategy is given are accepted

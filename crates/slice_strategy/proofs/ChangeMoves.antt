@@ -13,22 +13,20 @@ use Rattle.mfotl_model.specs.declared.policy.Var.{Var}
 use Rattle.slice_strategy.specs.declared.{change.Change.Change as ChangeOf, change.ChangeFault.ChangeFault}
 use Rattle.slice_strategy.specs.declared.{change.ChangeFault.TheVariants.Strategy, fault.StrategyFault.StrategyFault}
 use Rattle.slice_strategy.specs.declared.{fault.StrategyFault.TheVariants.Syntax}
-use Rattle.slice_strategy.specs.Causes as strategy_causes
-use Rattle.slice_strategy.specs.ChangeCauses.{InChange, IsOwn, IsCauseWithin, IsByEqual, IsCause}
+use Rattle.slice_strategy.specs.ChangeCauses.{InChange, IsCauseWithin, IsByEqual, IsCause}
 use Rattle.slice_strategy.specs.ChangeGrammar.{Script, NoChange, Change, is_before, IsBefore, IsNumber, FitsScript}
 use Rattle.slice_strategy.specs.ChangeGrammar.{spell_script, IsScript, IsViableScript}
 use Rattle.slice_strategy.specs.ChangeReading.{ScriptOf, lifted, may_begin, change_goes_on, interrupted, decided, step}
 use Rattle.slice_strategy.specs.ChangeReading.{nothing_read}
 use Rattle.slice_strategy.specs.{ChangeRules.point_number, ChangeRules.changes_of, Limits.max_workers, Rules.number}
 use Rattle.slice_strategy.specs.{Rules.strategy_of}
-use Rattle.slice_strategy.specs.Grammar.{Entries, NoEntry, Then, Part, Whole, ToName, ToEqual, FitsPart, spell}
-use Rattle.slice_strategy.specs.Grammar.{spell_part, IsPart, IsViable}
+use Rattle.slice_strategy.specs.Grammar.{Entries, NoEntry, Then, Part, Whole, ToName, ToEqual, FitsPart, spell_part}
+use Rattle.slice_strategy.specs.Grammar.{IsPart, IsViable}
 use Rattle.slice_strategy.specs.Reading as strategy
 use Rattle.slice_strategy.specs.Reading.{Partial, Between, ended}
 use Rattle.slice_strategy.proofs.{CauseLaw.part_stands, CauseLaw.few_closed, PartMoves.part_viable, PartMoves.IsNamedBy}
 use Rattle.slice_strategy.proofs.Moves as strategies
-use Rattle.slice_strategy.proofs.Moves.{so_far, behind, name_judged, stepped, begins_whole, itself, over_of}
-use Rattle.slice_strategy.proofs.Moves.{whole_begins}
+use Rattle.slice_strategy.proofs.Moves.{so_far, behind, name_judged, stepped, begins_whole, itself, whole_begins}
 use Rattle.slice_strategy.proofs.PartMoves as parts
 use Rattle.slice_strategy.proofs.PartReads.{KeepsPart, few_of, kept_whole, known_whole, kept_reads}
 use Rattle.slice_strategy.proofs.ChangeParts.{Place, Outside, ToBefore, Inside, FitsPlace, spell_place, spell_number}
@@ -41,9 +39,6 @@ use Rattle.slice_strategy.proofs.ChangeRuns.{name_again}
 
 number_token : Lexeme
 number_token = record { kind = Integer; at = 0; text = [] }
-
-script_viable : (s : Script) → FitsScript s → IsViableScript (spell_script s)
-script_viable s fits = grind (arith, append-nil)
 
 -- what goes on in a strategy goes on in a change
 pub inner_viable : (s : Script) (w n : Lexeme) (inner : List Lexeme) → FitsScript s → IsBefore w → IsNumber n
@@ -72,7 +67,7 @@ number_viable s w n fits is count =
 
 pub place_viable : (p : Place) → FitsPlace p → IsViableScript (spell_place p)
 unfolding number_token integer_value digits_value
-place_viable Outside fits = script_viable NoChange tt
+place_viable Outside fits = grind (arith, append-nil)
 place_viable (ToBefore s w) fits =
     viable_front (spell_script s ++ w ∷ []) number_token
     (number_viable s w number_token fits.0 fits.1 (refl, refl))
@@ -166,7 +161,7 @@ module _ (vars : List Var) where
         | inl kept ↦
             rw (equal, ← again, named ∙ kept.1, stepped vars (behind vars (ToName es w)) t Equal kind)
             (leads_to (ToBefore (Change s v n es) w) (Inside s v n (ToEqual es w t)) t
-            (fits.0.0, fits.0.1, fits.0.2, (fits.0.3, word, kind), tt) spelled_so)
+            (fits.0.0, fits.0.1, fits.0.2, (fits.0.3, word, kind), tt) (simp (append_assoc)))
         | inr b ↦
             rw (equal, ← again, named ∙ b.shown)
             (strategy_shows (ToBefore (Change s v n es) w) t b.fault b.is_rule.0
@@ -181,11 +176,6 @@ module _ (vars : List Var) where
               cause = b.is_rule.1;
             })))
       ]
-    where
-      spelled_so : spell_place (Inside s v n (ToEqual es w t)) ≡ spell_place (ToBefore (Change s v n es) w) ++ t ∷ []
-      spelled_so =
-          sym (append_assoc (spell_number s v n) (spell [] es ++ w ∷ []) (t ∷ []))
-          ∙ ap (λ ts. ts ++ t ∷ []) (sym (append_assoc (spell_number s v n) (spell [] es) (w ∷ [])))
 
   stopped_moves : (s : Script) (w t : Lexeme) (k : Kind) → t.kind ≡ k → FitsPlace (ToBefore s w)
       → KeepsPlace vars (ToBefore s w) → Moves (ToBefore s w) t (step vars (stopped vars s w) t)
@@ -217,7 +207,7 @@ module _ (vars : List Var) where
           | inl few ↦
               rw few.0 (leads_to (Here (Whole (Then es o is))) (ToBefore (Change s w n (Then es o is)) t) t
               ((fits.0, fits.1, fits.2, fits.3), before) refl)
-          | inr many ↦ grind (arith, over_of, behind, before_word, place_in, spell_place)
+          | inr many ↦ grind (arith, behind, before_word, place_in, spell_place)
         ]
 
     before_moves : (p : Part) (t : Lexeme) → FitsPlace (Here p) → IsBefore t → may_begin (behind vars p).stage ≡ true
@@ -232,11 +222,6 @@ module _ (vars : List Var) where
         let same = (part_stands vars (spell_part p) (behind vars p) (Whole es) (kept_reads vars p fits kept) is).1 in
         let begins = ap (λ (x : Partial). may_begin x.stage) same ∙ whole_begins vars es in
         sym (and-true (is_before t.kind t.text)) ∙ rw begins at other
-
-    own_of : (p : Part) (t : Lexeme) (fault : StrategyFault) → FitsPart p → KeepsPart vars p
-        → (is_before t.kind t.text && may_begin (behind vars p).stage) ≡ false
-        → strategy_causes.IsCause vars (spell_part p) t fault → IsOwn t fault
-    own_of p t fault fits kept other c = grind (arith, own_by)
 
     named_own : (p q : Part) (t : Lexeme) → IsNamedBy vars p t q
         → (is_before t.kind t.text && may_begin (behind vars p).stage) ≡ false → IsNoBefore q
@@ -259,7 +244,7 @@ module _ (vars : List Var) where
           inner = spell_part p;
           place = place_in _ s w n p fits refl;
           cause = cause;
-          own = own_of p t fault fits.3 kept.2 other cause;
+          own = grind (arith, own_by);
         }))
 
     inside_moves : (p : Part) (t : Lexeme) → FitsPlace (Here p) → KeepsPlace vars (Here p)

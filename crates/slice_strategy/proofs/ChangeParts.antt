@@ -17,7 +17,6 @@ use Rattle.slice_strategy.specs.ChangeReading.{ScriptOf, lifted, change_goes_on,
 use Rattle.slice_strategy.specs.ChangeReading.{nothing_read}
 use Rattle.slice_strategy.specs.ChangeRules.{point_number, changes_of, IsNotBelow, KeepsScript}
 use Rattle.slice_strategy.specs.Grammar.{NoEntry, Part, Whole, FitsPart, spell_part}
-use Rattle.slice_strategy.specs.Reading as strategy
 use Rattle.slice_strategy.proofs.Moves as strategies
 use Rattle.slice_strategy.proofs.Moves.{AreFew, so_far, behind, ended_judged, whole_begins}
 use Rattle.slice_strategy.proofs.PartReads.{KeepsPart, few_kept, kept_whole, few_of, part_read}

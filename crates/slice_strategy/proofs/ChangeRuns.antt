@@ -73,14 +73,9 @@ module _ (vars : List Var) (done : List Change) (number : ℕ) where
   abbrev pub Alike : List Lexeme → Type 0
   Alike ts = Told ts ≡ within_of (Ran ts)
 
-  then_by : (t : Lexeme) (r : Result Partial StrategyFault)
-      → ((p : Partial) → r ≡ Ok p → script.step vars (change_goes_on done number p) t ≡ within_of (step vars p t))
-      → (within_of r >>= λ s. script.step vars s t) ≡ within_of (r >>= λ p. step vars p t)
-  then_by t r same = grind arith
-
   then_alike : (front : List Lexeme) (t : Lexeme) → Alike front → ((p : Partial) → Ran front ≡ Ok p
       → script.step vars (change_goes_on done number p) t ≡ within_of (step vars p t)) → Alike (front ++ t ∷ [])
-  then_alike front t alike same = rw (more_told front t, more_ran front t, alike) (then_by t (Ran front) same)
+  then_alike front t alike same = rw (more_told front t, more_ran front t, alike) (grind arith)
 
   -- behind a part, a token that is no `before` or not at an entry's place
   part_alike : (p : Part) (t : Lexeme) → FitsPart p → Alike (spell_part p)

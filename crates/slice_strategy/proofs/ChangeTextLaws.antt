@@ -1,7 +1,7 @@
 -- The laws of the reader of change scripts: what it reads is what a text spells, and each fault is the first
 -- that is shown.
 use Rattle.std.proofs.Common.{◌≡◌, ◌≢◌, ◌∙◌, ℕ, true, List, [], ◌∷◌, ◌++◌, length, Some, None, Option, Result, Ok, Err}
-use Rattle.std.proofs.Common.{IfOk, IfErr, refl, ap, sym}
+use Rattle.std.proofs.Common.{IfOk, IfErr, refl, ap, sym, arith}
 use Rattle.mfotl_lex.specs.declared.{fault.LexFault.LexFault, kind.Mode.TheVariants.Plain}
 use Rattle.mfotl_lex.specs.FirstFault as layer
 use Rattle.mfotl_lex.specs.FirstFault.{Broken, End, run}
@@ -13,8 +13,7 @@ use Rattle.mfotl_model.specs.Strategies.{Strategy as StrategyOf}
 use Rattle.mfotl_model.specs.declared.policy.Var.{Var}
 use Rattle.slice_strategy.specs.declared.{change.Change.Change as ChangeOf, change.ChangeFault.ChangeFault}
 use Rattle.slice_strategy.specs.declared.{change.ChangeFault.TheVariants.Strategy as Within}
-use Rattle.slice_strategy.specs.declared.{fault.StrategyFault.StrategyFault, fault.StrategyFault.TheVariants.Syntax}
-use Rattle.slice_strategy.specs.declared.{fault.StrategyFault.TheVariants.Memory}
+use Rattle.slice_strategy.specs.declared.{fault.StrategyFault.StrategyFault, fault.StrategyFault.TheVariants.Memory}
 use Rattle.slice_strategy.specs.{ChangeAnswers.Gives, ChangeCauses.IsCause, ChangeCauses.IsLast, Grammar.Whole}
 use Rattle.slice_strategy.specs.{Grammar.spell_part, Rules.strategy_of, Rules.text_of}
 use Rattle.slice_strategy.specs.ChangeGrammar.{Script, NoChange, Change, FitsScript, spell_script, IsViableScript}
@@ -24,7 +23,7 @@ use Rattle.slice_strategy.specs.ChangeRules.{point_number, changes_of, KeepsScri
 use Rattle.slice_strategy.specs.Reading as strategy
 use Rattle.slice_strategy.specs.Reading.{Partial, complete, ended}
 use Rattle.slice_strategy.proofs.CauseLaw.{closed_few, ends_accepted, few_closed, part_stands}
-use Rattle.slice_strategy.proofs.{Moves.behind, PartReads.few_kept, PartReads.few_of, TokenRuns.never_ok}
+use Rattle.slice_strategy.proofs.{Moves.behind, PartReads.few_kept, PartReads.few_of}
 use Rattle.slice_strategy.proofs.ChangeCauseLaw.{follows, stands, place_stands, inner_ran, IsPlace}
 use Rattle.slice_strategy.proofs.ChangeParts.{IsRule, Place, Outside, ToBefore, Inside, spell_number, at_place}
 use Rattle.slice_strategy.proofs.ChangeParts.{at_whole, KeepsWhole, whole_of, script_read}
@@ -84,7 +83,7 @@ module _ (vars : List Var) (bytes : List ℕ) where
   broken_never x (ToBefore r w) changes e = cc
   broken_never x (Inside r w n p) changes e =
       let last = last_is (changes_of vars r) (point_number n) (strategy.broken_at (behind vars p) x.at) changes e in
-      never_ok (ended (behind vars p).entries (behind vars p).stage) (Syntax x.at) last.0 last.1
+      (grind arith)
 
   tail_by : (fault : Option LexFault) (p : Place) (changes : List ChangeOf)
       → at_tail (tail_of true end fault) (at_place vars p) ≡ Ok changes

@@ -7,12 +7,11 @@ use Rattle.std.specs.Prelude.{ℤ}
 use Rattle.mfotl_lex.specs.Lexemes.{Lexeme}
 use Rattle.mfotl_model.specs.{Strategies.Entry, Strategies.workers_of, Strategies.Entry.Uncut}
 use Rattle.mfotl_model.specs.declared.policy.Var.{Var}
-use Rattle.slice_strategy.specs.declared.{fault.StrategyFault.TheVariants.RepeatedVariable, stage.Method.Method}
-use Rattle.slice_strategy.specs.declared.stage.Method.TheVariants as method
+use Rattle.slice_strategy.specs.declared.fault.StrategyFault.TheVariants.{RepeatedVariable}
 use Rattle.slice_strategy.specs.Grammar.{Integers, Entries, NoEntry, Then}
 use Rattle.slice_strategy.specs.{Limits.max_workers, Reading.fresh}
-use Rattle.slice_strategy.specs.Rules.{variable_of, or_zero, number_of, numbers, last_of, entry_by, strategy_of}
-use Rattle.slice_strategy.specs.Rules.{HasEntry, IsNew, KeepsRules}
+use Rattle.slice_strategy.specs.Rules.{variable_of, or_zero, number_of, numbers, last_of, strategy_of, HasEntry, IsNew}
+use Rattle.slice_strategy.specs.Rules.{KeepsRules}
 use Rattle.slice_strategy.proofs.SoundLemmas.{uncut_one}
 
 -- ---- lists
@@ -74,10 +73,6 @@ module _ (vars : List Var) where
     pub first : HasEntry vars es x → ⊥
     pub uncut : slice_get (strategy_of vars es) x ≡ Some Uncut
 
-  had_by : (m : Method) (is : Integers) (x : ℕ) (t : Lexeme)
-      → fresh (Some (entry_by m is)) x t ≡ Err (RepeatedVariable t.at)
-  had_by m is x t = grind arith
-
   -- the names of whole entries are known
   abbrev pub AreKnown : Entries → Type 0
   AreKnown NoEntry = Unit {0}
@@ -90,7 +85,7 @@ module _ (vars : List Var) where
   pub had_or_free : (es : Entries) (x : ℕ) → AreKnown es → x < length vars → IsHad es x ⊎ IsFree es x
   had_or_free NoEntry x known low = grind (arith, got_uncut)
   had_or_free (Then es o is) x known low =
-      grind (arith, strategy_size, got_set, set_shows, number_named, had_by, had_or_free es x known.0 low)
+      grind (arith, strategy_size, got_set, set_shows, number_named, had_or_free es x known.0 low)
 
   -- without an entry there is one worker
   pub one_worker : workers_of (strategy_of vars NoEntry) ≤ max_workers

@@ -1,6 +1,6 @@
 -- Where the reader stands behind each part of a strategy, and what each token makes of it there.
-use Rattle.std.proofs.Common.{◌≡◌, ◌≢◌, ◌<◌, ◌≤◌, true, if◌then◌else◌, List, Option, Some, None, Result, Ok, Err}
-use Rattle.std.proofs.Common.{slice_get, ap, refl, arith}
+use Rattle.std.proofs.Common.{◌≡◌, ◌≢◌, ◌≤◌, true, if◌then◌else◌, List, Option, Some, None, Result, Ok, Err, slice_get}
+use Rattle.std.proofs.Common.{ap, refl, arith}
 use Rattle.std.proofs.{lemmas.Bool.cases_Bool, lemmas.Bool.Decides.leb_tells, lemmas.Option.same_Some}
 use Rattle.std.specs.Prelude.{int_lt}
 use Rattle.mfotl_lex.specs.declared.kind.Kind.{Kind}
@@ -13,10 +13,10 @@ use Rattle.mfotl_model.specs.declared.policy.Var.{Var}
 use Rattle.slice_strategy.specs.declared.{fault.StrategyFault.StrategyFault, fault.StrategyFault.TheVariants.Syntax}
 use Rattle.slice_strategy.specs.declared.{fault.StrategyFault.TheVariants.CutSort, stage.Head.Head, stage.Method.Method}
 use Rattle.slice_strategy.specs.declared.stage.Method.TheVariants as method
-use Rattle.slice_strategy.specs.{Causes.IsCause, Causes.IsOver, ChangeReading.may_begin, Limits.max_workers}
+use Rattle.slice_strategy.specs.{Causes.IsCause, ChangeReading.may_begin, Limits.max_workers}
 use Rattle.slice_strategy.specs.Grammar.{Integers, First, Next, Opening, Entries, NoEntry, Then, Part, Whole, ToName}
 use Rattle.slice_strategy.specs.Grammar.{ToEqual, ToMethod, ToColon, ToComma, FitsPart, Fits, spell_part, method_of}
-use Rattle.slice_strategy.specs.Grammar.{IsPart, Spells}
+use Rattle.slice_strategy.specs.Grammar.{IsPart}
 use Rattle.slice_strategy.specs.Reading.{StageOf, Named, Chosen, Between, Divided, Cutting, Behind, Partial}
 use Rattle.slice_strategy.specs.Reading.{entry_named, opened, stage_step, ended, entry_settled, with_stage, step}
 use Rattle.slice_strategy.specs.Reading.{nothing_read, syntax_at, chosen_method}
@@ -79,16 +79,11 @@ module _ (vars : List Var) where
   abbrev pub AreFew : Entries → Type 0
   AreFew es = workers_of (strategy_of vars es) ≤ max_workers
 
-  -- with the last entry there are too many
-  pub over_of : (ts : List Lexeme) (es : Entries) (o : Opening) (is : Integers) → Spells ts (Then es o is)
-      → max_workers < workers_of (strategy_of vars (Then es o is)) → IsOver vars ts o.name.at
-  over_of ts es o is spelled many = grind arith
-
   -- no more of the last entry comes
   pub ended_judged : (es : Entries) → Fits es → (t : Lexeme) → t.kind ≢ Comma
       → Judged (spell_part (Whole es)) t (AreFew es) (ended (behind (Whole es)).entries (behind (Whole es)).stage)
       (so_far es Between)
-  ended_judged es fits t other = grind (arith, one_worker, leb_tells, over_of, itself, breaks)
+  ended_judged es fits t other = grind (arith, one_worker, leb_tells, itself, breaks)
 
   -- a name where an entry may begin
   new_judged : (es : Entries) → Fits es → AreKnown vars es → AreFew es → (t : Lexeme) → t.kind ≡ Word

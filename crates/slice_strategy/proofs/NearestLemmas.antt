@@ -2,8 +2,8 @@
 use Rattle.std.proofs.Common.{◌≡◌, ◌∙◌, ap, sym, refl, subst, arith, ℕ, ◌+◌, ◌*◌, ◌/◌, ◌%◌, ◌<◌, ◌≤◌, Bool, true, false}
 use Rattle.std.proofs.Common.{◌&&◌, ◌||◌, not, nat_eq, List, length, get_or, ◌⊎◌, inl, inr, Option, Some, None, IfSome}
 use Rattle.std.proofs.lemmas.Bool.{and_from, cases_eq, cases_lt}
-use Rattle.std.proofs.lemmas.Nat.{div-mul-add, mod-mul-add, mod_below, mul-le, div-add-mod'}
-use Rattle.std.proofs.{Math.Bool.and-false, Math.Nat.mul-div_cancel_left}
+use Rattle.std.proofs.{Math.Nat.div-lt_iff_lt-mul, Math.Nat.mul-div_cancel_left, Math.Bool.and-false}
+use Rattle.std.proofs.lemmas.Nat.{div-mul-add, mod-mul-add, mod_below, div-add-mod'}
 use Rattle.std.specs.Option.{unwrap_or}
 use Rattle.mfotl_model.proofs.LogicLemmas.{funext}
 use Rattle.mfotl_model.specs.{FreeVariables.among, Regions.near_from, Satisfaction.Valuation}
@@ -26,10 +26,14 @@ digits_up a b place r s rs ss h =
       | inr up ↦ up
     ]
 
+-- a digit passes one test, and the rest another
+abbrev pub passes : (ℕ → Bool) → (ℕ → Bool) → ℕ → ℕ → Bool
+passes high low place k = high (k / place) && low (k % place)
+
 module _ (high low : ℕ → Bool) (parts place digit rest : ℕ) (some : 0 < place) (inside : rest < place)
     (within : digit < parts) where
-  abbrev pub both : ℕ → Bool
-  both k = high (k / place) && low (k % place)
+  abbrev both : ℕ → Bool
+  both = passes high low place
 
   joined : (a r : ℕ) → r < place → high a ≡ true → low r ≡ true → both (a * place + r) ≡ true
   joined a r small is lies =
@@ -76,36 +80,29 @@ module _ (high low : ℕ → Bool) (parts place digit rest : ℕ) (some : 0 < pl
               joined d least below.low h.2 below.near,
             )
 
+    -- with this digit, or a higher one
+    by_digit : (k : ℕ) → digit * place + rest ≤ k → (k / place ≡ digit → rest ≤ k % place → both k ≡ false)
+        → (digit + 1 ≤ k / place → both k ≡ false) → both k ≡ false
+    by_digit k from stays higher =
+        let is = div-add-mod' k place in
+        let up = digits_up digit (k / place) place rest (k % place) inside (mod_below k place some)
+        (omega (arith, is, from)) in
+        elim (cases_eq (k / place) digit) [
+          | inl same ↦
+              let e = ap (λ n. n * place + k % place) same in
+              stays same (omega (arith, is, e, from))
+          | inr other ↦ higher (omega (arith, up, other))
+        ]
+
     raised_first : StaysFalse → NoneFrom (digit * place + rest) (end_of (parts * place) (raised place least above)) both
     raised_first stays = by above above_first
       where
-        -- with this digit, or a higher one
-        cases : (k : ℕ) → digit * place + rest ≤ k → ((digit + 1 ≤ k / place) → both k ≡ false) → both k ≡ false
-        cases k from higher =
-            let is = div-add-mod' k place in
-            let small = mod_below k place some in
-            let up = digits_up digit (k / place) place rest (k % place) inside small (omega (arith, is, from)) in
-            elim (cases_eq (k / place) digit) [
-              | inl same ↦
-                  let e = ap (λ n. n * place + k % place) same in
-                  stays k same (omega (arith, is, e, from))
-              | inr other ↦ higher (omega (arith, up, other))
-            ]
-
         by : (o : Option ℕ) → NoneFrom (digit + 1) (end_of parts o) high
             → NoneFrom (digit * place + rest) (end_of (parts * place) (raised place least o)) both
         by None none k from to =
-            cases k from (λ up.
-            let is = div-add-mod' k place in
-            let small = mod_below k place some in
-            apart k (inl (none (k / place) up (in_parts (cases_lt (k / place) parts) is))))
-          where
-            in_parts : ((k / place) < parts) ⊎ (parts ≤ k / place) → k / place * place + k % place ≡ k
-                → k / place < parts
-            in_parts (inl low_k) is = low_k
-            in_parts (inr past) is =
-                let m = mul-le parts place (k / place) place past (omega arith) in absurd (omega (arith, m, is, to))
-        by (Some d) none k from to = cases k from (λ up. none_before d (digit + 1) none k up to)
+            by_digit k from (stays k)
+            (λ up. apart k (inl (none (k / place) up ((div-lt_iff_lt-mul {k = place} {x = k} {y = parts} some).1 to))))
+        by (Some d) none k from to = by_digit k from (stays k) (λ up. none_before d (digit + 1) none k up to)
 
     stay_none : next ≡ None → StaysFalse
     stay_none is k same up =
@@ -137,21 +134,17 @@ module _ (high low : ℕ → Bool) (parts place digit rest : ℕ) (some : 0 < pl
 
         first_by : (b : Bool) (o : Option ℕ) → b ≡ high digit → next ≡ o
             → NoneFrom (digit * place + rest) (end_of (parts * place) (next_number b digit place least o above)) both
-        first_by true (Some n) e at = one
-          where
-            small_n : n < place
-            small_n = (rw at at below.found).1
-
-            one : NoneFrom (digit * place + rest) (digit * place + n) both
-            one k from to =
-                let is = div-add-mod' k place in
-                let small = mod_below k place some in
-                let up = digits_up digit (k / place) place rest (k % place) inside small (omega (arith, is, from)) in
-                let down = digits_up (k / place) digit place (k % place) n small small_n (omega (arith, is, to)) in
-                let same : k / place ≡ digit = omega (arith, up, down) in
-                let e = ap (λ m. m * place + k % place) same in
-                apart k (inr (below.next_first (k % place) (omega (arith, is, e, from))
-                (rw at (omega (arith, is, e, to)))))
+        first_by true (Some n) e at = λ k from to.
+            let small : n < place = (rw at at below.found).1 in
+            by_digit k from
+            (λ same up.
+            let is = div-add-mod' k place in
+            let e = ap (λ m. m * place + k % place) same in
+            apart k (inr (below.next_first (k % place) up (rw at (omega (arith, is, e, to))))))
+            (λ higher.
+            let is = div-add-mod' k place in
+            let m = lower digit (k / place) place n (k % place) (omega (arith, higher)) small in
+            absurd (omega (arith, m, is, to)))
         first_by true None e at = raised_first (stay_none at)
         first_by false o e at = raised_first (λ k same up. apart k (inl (ap high same ∙ sym e)))
 
@@ -185,14 +178,7 @@ module _ (items : List Entry) (e : Entry) (vs : List ℕ) (v : Valuation) (y pla
 
   pub digit_inside : from / (place / parts) < parts
   digit_inside =
-      let all = div-add-mod' from others in
-      let is = ap (λ n. from / n) divides in
-      elim (cases_lt (from / others) parts) [
-        | inl low ↦ omega (arith, is, low)
-        | inr past ↦
-            let m = mul-le parts others (from / others) others past (omega arith) in
-            absurd (omega (arith, m, all, product, inside))
-      ]
+      rw divides ((div-lt_iff_lt-mul {k = others} {x = from} {y = parts} positive.1).1 (omega (arith, product, inside)))
 
   pub nearest_next : IsNearest (λ k. near_from (y + 1) (behind items 1) k vs v) (from % (place / parts)) (place / parts)
       least next → ((d : ℕ) → may_be held d ≡ (not (among y vs) || nat_eq (strategy_part (entry_of e) (v y)) d))
@@ -212,14 +198,11 @@ module _ (items : List Entry) (e : Entry) (vs : List ℕ) (v : Valuation) (y pla
       (unwrap_or held 0) least next above below (held_low held parts positive.0
       (subst (λ n. IfSome held (λ a. a < n)) (sym parts_is) low)) (held_near held) (held_first held)
       found first stays refl in
-      let same : both (may_be held) rest parts w (from / w) (from % w) some (mod_below from w some) digit_inside
-      ≡ (λ k. near_from y (entries_of items) k vs v) =
-      funext (both (may_be held) rest parts w (from / w) (from % w) some (mod_below from w some) digit_inside)
-      (λ k. near_from y (entries_of items) k vs v)
+      let test = passes (may_be held) rest w in
+      let same : test ≡ (λ k. near_from y (entries_of items) k vs v) =
+      funext test (λ k. near_from y (entries_of items) k vs v)
       (λ k. rw (digits (k / w), divides, entry_next items 0 e any is)) in
       let count : parts * w ≡ place = ap (λ n. parts * n) divides ∙ sym product in
       subst (λ t. IsNearest t from place number answer) same
-      (subst (λ n. IsNearest (both (may_be held) rest parts w (from / w) (from % w) some (mod_below from w some)
-      digit_inside) from n number answer) count
-      (subst (λ n. IsNearest (both (may_be held) rest parts w (from / w) (from % w) some (mod_below from w some)
-      digit_inside) n (parts * w) number answer) (div-add-mod' from w) all))
+      (subst (λ n. IsNearest test from n number answer) count
+      (subst (λ n. IsNearest test n (parts * w) number answer) (div-add-mod' from w) all))

@@ -1,21 +1,20 @@
 -- Behind each part of a strategy: to which part a token leads, or of which fault it is the cause.
-use Rattle.std.proofs.Common.{◌≡◌, ◌≢◌, inl, inr, ℕ, List, [], ◌∷◌, ◌++◌, Result, Ok, Err, refl, subst, arith}
+use Rattle.std.proofs.Common.{◌≡◌, inl, inr, ℕ, List, [], ◌∷◌, ◌++◌, Result, Ok, Err, refl, subst, arith}
 use Rattle.std.specs.Prelude.{codes}
 use Rattle.std.proofs.{lemmas.List.append-nil, lemmas.List.append_assoc, lemmas.Grind.common_steps}
 use Rattle.mfotl_lex.specs.declared.kind.Kind.{Kind}
 use Rattle.mfotl_lex.specs.declared.kind.Kind.TheVariants.{Word, Integer, Comma, Colon, Equal}
-use Rattle.mfotl_lex.specs.{FirstFault.◌>>=◌, Lexemes.Lexeme}
+use Rattle.mfotl_lex.specs.Lexemes.{Lexeme}
 use Rattle.mfotl_lex.proofs.Verdicts as layer
 use Rattle.mfotl_model.specs.declared.policy.Var.{Var}
 use Rattle.slice_strategy.specs.declared.{fault.StrategyFault.StrategyFault, fault.StrategyFault.TheVariants.Syntax}
 use Rattle.slice_strategy.specs.declared.{stage.Method.Method}
 use Rattle.slice_strategy.specs.declared.stage.Method.TheVariants as method
-use Rattle.slice_strategy.specs.Causes.{IsCause}
+use Rattle.slice_strategy.specs.{Causes.IsCause, Reading.Partial, Reading.step}
 use Rattle.slice_strategy.specs.Grammar.{Integers, First, Next, Opening, Entries, NoEntry, Then, Part, Whole, ToName}
-use Rattle.slice_strategy.specs.Grammar.{ToEqual, ToMethod, ToColon, ToComma, FitsPart, Fits, FitsIntegers, spell_part}
-use Rattle.slice_strategy.specs.Grammar.{method_of, IsAccepted, IsViable}
-use Rattle.slice_strategy.specs.Reading.{Between, Partial, opened, ended, step}
-use Rattle.slice_strategy.proofs.Moves.{IsCaused, head_of, so_far, behind, step_by, stepped, ended_judged, name_judged}
+use Rattle.slice_strategy.specs.Grammar.{ToEqual, ToMethod, ToColon, ToComma, FitsPart, Fits, spell_part, method_of}
+use Rattle.slice_strategy.specs.Grammar.{IsAccepted, IsViable}
+use Rattle.slice_strategy.proofs.Moves.{IsCaused, head_of, behind, step_by, stepped, ended_judged, name_judged}
 use Rattle.slice_strategy.proofs.Moves.{method_judged, first_judged, next_judged, comma_step, chosen_by}
 use Rattle.slice_strategy.proofs.{PartReads.KeepsPart, PartReads.known_whole, EntryLaws.cases_Option}
 
@@ -53,14 +52,10 @@ equal_viable es n e fits =
     viable_front (spell_part (ToEqual es n e)) t
     (method_viable es n e t method.Hash (fits.0, fits.1, fits.2, refl, refl))
 
-pub cut_fits : (m : Method) (is : Integers) (c t : Lexeme) → m ≡ method.Cut → FitsIntegers m is → c.kind ≡ Comma
-    → t.kind ≡ Integer → FitsIntegers m (Next is c t)
-cut_fits m is c t cut fits comma kind = grind arith
-
 -- the entries with one more integer
 pub next_fits : (es : Entries) (o : Opening) (is : Integers) (c t : Lexeme) → FitsPart (ToComma es o is c)
     → t.kind ≡ Integer → Fits (Then es o (Next is c t))
-next_fits es o is c t fits kind = (fits.0, fits.1, cut_fits o.method is c t fits.2 fits.3 fits.4 kind)
+next_fits es o is c t fits kind = (fits.0, fits.1, grind arith)
 
 pub part_viable : (p : Part) → FitsPart p → IsViable (spell_part p)
 unfolding of_kind
@@ -112,23 +107,12 @@ module _ (vars : List Var) where
       → layer.Judged (IsCaused vars (spell_part p) t) rules r (behind vars q) → Moves p t r
   judged_moves p q t rules r fits spelled name h = grind (arith, leads, shows)
 
-  -- no entry may begin with the token
-  ends_moves : (es : Entries) (t : Lexeme) → Fits es → t.kind ≢ Comma
-      → (next : Partial → Result Partial StrategyFault) → next (so_far vars es Between) ≡ Err (Syntax t.at)
-      → Moves (Whole es) t (ended (behind vars (Whole es)).entries (behind vars (Whole es)).stage >>= next)
-  ends_moves es t fits other next syntax = grind (arith, common_steps, ended_judged, shows)
-
   -- a comma behind integers
   comma_moves : (es : Entries) (o : Opening) (is : Integers) (t : Lexeme) → Fits (Then es o is) → t.kind ≡ Comma
       → (m : Method) → o.method ≡ m
       → Moves (Whole (Then es o is)) t (step_by vars (behind vars (Whole (Then es o is))) t Comma)
   comma_moves es o is t fits kind method.Hash hash = rw hash refl
   comma_moves es o is t fits kind method.Cut cut = search (comma_step, leads)
-
-  -- no integer behind a `:`
-  opened_moves : (es : Entries) (o : Opening) (t : Lexeme) (k : Kind) → k ≢ Integer → (m : Method)
-      → Moves (ToColon es o) t (step_by vars (so_far vars es (opened (head_of vars o.name) m)) t k)
-  opened_moves es o t k other m = grind arith
 
   part_moves : (p : Part) (t : Lexeme) (k : Kind) → t.kind ≡ k → FitsPart p → KeepsPart vars p
       → Moves p t (step_by vars (behind vars p) t k)
@@ -137,7 +121,7 @@ module _ (vars : List Var) where
       (name_judged vars es fits (known_whole vars es kept) t kind)
   part_moves (Whole NoEntry) t Comma kind fits kept = refl
   part_moves (Whole (Then es o is)) t Comma kind fits kept = comma_moves es o is t fits kind o.method refl
-  part_moves (Whole es) t k kind fits kept = grind (arith, ends_moves es t)
+  part_moves (Whole es) t k kind fits kept = grind (arith, common_steps, ended_judged, shows)
   part_moves (ToName es n) t Equal kind fits kept =
       leads (ToName es n) (ToEqual es n t) t (fits.0, fits.1, kind) refl tt
   part_moves (ToName es n) t _ kind fits kept = refl
@@ -156,7 +140,7 @@ module _ (vars : List Var) where
   part_moves (ToColon es o) t Integer kind fits kept =
       judged_moves (ToColon es o) (Whole (Then es o (First t))) t _ _ (fits.0, fits.1, kind) refl tt
       (first_judged vars es o fits t kind)
-  part_moves (ToColon es o) t k kind fits kept = opened_moves es o t k (λ integer. cc) o.method
+  part_moves (ToColon es o) t k kind fits kept = grind arith
   part_moves (ToComma es o is c) t Integer kind fits kept =
       judged_moves (ToComma es o is c) (Whole (Then es o (Next is c t))) t _ _
       (next_fits es o is c t fits kind) refl tt

@@ -1,20 +1,19 @@
 -- What a reader has read stays sound, token by token.
-use Rattle.std.proofs.Common.{◌≡◌, ◌∙◌, ℕ, zero, suc, ◌-◌, ◌^◌, ◌<◌, ◌≤◌, Bool, if◌then◌else◌, min, List, [], ◌∷◌}
-use Rattle.std.proofs.Common.{length, replicate, Option, Result, Ok, Err, slice_get, slice_set, refl, arith}
+use Rattle.std.proofs.Common.{◌≡◌, ◌∙◌, ℕ, zero, suc, ◌-◌, ◌^◌, ◌<◌, ◌≤◌, min, List, [], ◌∷◌, length, replicate, Option}
+use Rattle.std.proofs.Common.{Result, Ok, Err, slice_get, slice_set, refl, arith}
 use Rattle.std.specs.Prelude.{ℤ}
 use Rattle.std.proofs.lemmas.Bool.{le-leb, leb-true, lt-leb}
 use Rattle.std.proofs.{lemmas.Option.slice_get_within, lemmas.List.map-set, Math.Nat.one-mul, Math.Nat.one-le-mul}
 use Rattle.mfotl_lex.specs.declared.kind.Kind.{Kind}
 use Rattle.mfotl_lex.specs.Lexemes.{Lexeme}
 use Rattle.mfotl_model.specs.Strategies.{Entry, Strategy, parts_of, workers_of}
-use Rattle.mfotl_model.specs.Strategies.Entry.{Uncut, Hash, Cut}
+use Rattle.mfotl_model.specs.Strategies.Entry.{Uncut}
 use Rattle.mfotl_model.specs.declared.policy.Var.{Var}
 use Rattle.slice_strategy.specs.declared.{fault.StrategyFault.StrategyFault, entry.Entry.Entry as Item, stage.Head.Head}
-use Rattle.slice_strategy.specs.declared.fault.StrategyFault.TheVariants.{CutSort, CutOrder, TooManyWorkers}
-use Rattle.slice_strategy.specs.declared.stage.Method.TheVariants as method
+use Rattle.slice_strategy.specs.declared.{fault.StrategyFault.TheVariants.TooManyWorkers}
 use Rattle.slice_strategy.specs.{Entries.entries_of, Entries.entry_of, Limits.max_workers, SlicerLemmas.both_some}
-use Rattle.slice_strategy.specs.Reading.{StageOf, Between, Divided, Behind, StageFits, PartialFits, fresh, entry_named}
-use Rattle.slice_strategy.specs.Reading.{with_count, stage_step, syntax_at, ended}
+use Rattle.slice_strategy.specs.Reading.{StageOf, Between, Behind, StageFits, PartialFits, entry_named, with_count}
+use Rattle.slice_strategy.specs.Reading.{stage_step, ended}
 
 -- ---- the stages
 
@@ -23,29 +22,17 @@ abbrev Sound : ℕ → Result StageOf StrategyFault → Type 0
 Sound n (Ok s) = StageFits n s
 Sound n (Err fault) = Unit {0}
 
-fresh_sound : (entries : Strategy) (variable : ℕ) (t : Lexeme) (found : Option Entry)
-    → slice_get entries variable ≡ found → Sound (length entries) (fresh found variable t)
-fresh_sound entries variable t found is = grind (arith, slice_get_within)
-
 named_sound : (entries : Strategy) (found : Option ℕ) (t : Lexeme)
     → Sound (length entries) (entry_named entries found t)
-named_sound entries found t = grind (arith, fresh_sound, slice_get)
+named_sound entries found t = grind (arith, slice_get_within, slice_get)
 
 module _ (n : ℕ) (head : Head) (low : head.variable < n) (t : Lexeme) where
-  chosen_sound : (a b c : Bool) → Sound n (if a then Ok (Divided head method.Hash)
-      else if b then (if c then Err (CutSort t.at) else Ok (Divided head method.Cut)) else syntax_at t)
-  chosen_sound a b c = grind arith
-
   count_sound : (v : ℤ) → Sound n (with_count head v t.at)
   count_sound v = grind (arith, leb-true)
 
-  cut_sound : (cuts : List ℤ) (above : Bool)
-      → Sound n (if above then Ok (Behind head (Cut cuts)) else Err (CutOrder t.at))
-  cut_sound cuts above = grind arith
-
 step_sound : (vars : List Var) (entries : Strategy) (stage : StageOf) (t : Lexeme) (kind : Kind)
     → StageFits (length entries) stage → Sound (length entries) (stage_step vars entries stage t kind)
-step_sound vars entries stage t kind fits = grind (arith, named_sound, chosen_sound, slice_get, count_sound, cut_sound)
+step_sound vars entries stage t kind fits = grind (arith, named_sound, slice_get, count_sound)
 
 pub stage_fits : (vars : List Var) (entries : Strategy) (stage : StageOf) (t : Lexeme) (kind : Kind) (s : StageOf)
     → StageFits (length entries) stage → stage_step vars entries stage t kind ≡ Ok s → StageFits (length entries) s

@@ -1,8 +1,7 @@
 -- The laws of the reader: what it reads is what a text spells, and each fault is the first that is shown.
-use Rattle.std.proofs.Common.{◌≡◌, ◌≢◌, ◌∙◌, ℕ, true, List, length, Option, Result, Ok, Err, IfOk, IfErr, ap, arith}
-use Rattle.mfotl_lex.specs.declared.fault.LexFault.{LexFault}
+use Rattle.std.proofs.Common.{◌≡◌, ◌≢◌, ◌∙◌, ℕ, List, length, Result, Ok, Err, IfOk, IfErr, ap, arith}
 use Rattle.mfotl_lex.specs.FirstFault as layer
-use Rattle.mfotl_lex.specs.{FirstFault.End, FirstFault.run, Texts.tail_of}
+use Rattle.mfotl_lex.specs.FirstFault.{End, run}
 use Rattle.mfotl_lex.proofs.FirstFaultLaws as firsts
 use Rattle.mfotl_lex.proofs.FirstFaultLaws.{bind_ok}
 use Rattle.mfotl_model.specs.Strategies.{Strategy}
@@ -14,7 +13,7 @@ use Rattle.slice_strategy.specs.Laws.{OneAnswer, IsShown, ExactFaults, ExactSoun
 use Rattle.slice_strategy.specs.Reading.{Partial, complete, ended, step, nothing_read, at_tail, reading}
 use Rattle.slice_strategy.proofs.CauseLaw.{follows, few_closed, ends_accepted, part_stands, closed_few}
 use Rattle.slice_strategy.proofs.PartReads.{few_kept, kept_whole, kept_reads, few_of}
-use Rattle.slice_strategy.proofs.{EntryLaws.strategy_size, TokenRuns.never_ok}
+use Rattle.slice_strategy.proofs.EntryLaws.{strategy_size}
 
 module _ (vars : List Var) (bytes : List ℕ) where
   -- ---- values
@@ -30,15 +29,9 @@ module _ (vars : List Var) (bytes : List ℕ) where
       let few = closed_few vars es accepted.1.fits q (rw at.1 at closed) in
       grind (arith, few_kept)
 
-  at_end_by : (fault : Option LexFault) (s : Partial) (strategy : Strategy)
-      → at_tail (tail_of true (length bytes) fault) s ≡ Ok strategy
-      → (tail_of true (length bytes) fault ≡ End (length bytes))
-      × (q : Partial) × (ended s.entries s.stage ≡ Ok q) × (complete (length bytes) q.entries q.stage ≡ Ok strategy)
-  at_end_by fault s strategy e = grind (arith, bind_ok, never_ok)
-
   pub read_is_spelled : (strategy : Strategy) → reading vars bytes ≡ Ok strategy → IsValue vars bytes strategy
   unfolding reading layer.reading
-  read_is_spelled strategy e = grind (arith, bind_ok, at_end_by, accepted_value, ends_accepted)
+  read_is_spelled strategy e = grind (arith, bind_ok, bind_ok, accepted_value, ends_accepted)
 
   pub spelled_is_read : (strategy : Strategy) → IsValue vars bytes strategy → reading vars bytes ≡ Ok strategy
   unfolding reading layer.reading

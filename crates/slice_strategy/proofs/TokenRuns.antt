@@ -1,15 +1,11 @@
 -- Tokens one by one: what is the same of the reader of strategies and the reader of scripts.
-use Rattle.std.proofs.Common.{◌≡◌, List, [], ◌∷◌, ◌++◌, Result, Ok, Err, arith}
+use Rattle.std.proofs.Common.{◌≡◌, List, [], ◌∷◌, ◌++◌, Result, Ok, arith}
 use Rattle.mfotl_lex.specs.FirstFault.{◌>>=◌, run}
 use Rattle.mfotl_lex.proofs.{FirstFaultLaws.run-append, FirstFaultLaws.bind_same, Verdicts.Judged, Verdicts.then_judged}
 
 -- a result that is given on as it is
 all_of : {A E : Type 0} (r : Result A E) → (r >>= λ x. Ok x) ≡ r
 all_of r = grind arith
-
--- behind a result, or instead of it, stands a fault
-pub never_ok : {A B E : Type 0} (r : Result A E) (fault : E) (y : B) → (r >>= λ x. Err fault) ≡ Ok y → ⊥
-never_ok r fault y e = grind arith
 
 -- a fault of a rule, whatever its cause
 pub told : {A E : Type 0} (IsRule IsCause : E → Type 0) (rules : Type 0) (r : Result A E) (x : A)
