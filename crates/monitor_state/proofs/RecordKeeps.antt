@@ -17,7 +17,6 @@ use Rattle.monitor_state.specs.declared.{node.Node.Node, state.NodeData.NodeData
 use Rattle.monitor_state.specs.declared.{window.Window.Window}
 use Rattle.std.proofs.lemmas.Grind.{common_steps}
 
-
 -- exact tables are over the formula's variables
 exact_over : (view : View) (f : Form) (p : ℕ) (tables : List TableOf) → AllExact view f p tables → AreOver (fv f) tables
 exact_over view f p [] all = tt
