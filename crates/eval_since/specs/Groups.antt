@@ -22,7 +22,8 @@ NoneEmpty groups = (q : List Value) → IfSome (kept_for groups q) (λ group. (0
 
 -- the same but for the group of a key, where that is to go
 abbrev pub NoneEmptyBut : Bool → List Value → List (List Value × List (List Value × List ℕ)) → Type 0
-NoneEmptyBut goes key groups = (q : List Value) → IfSome (cond (goes && eq_by_cmp row_cmp key q) None (kept_for groups q))
+NoneEmptyBut goes key groups =
+    (q : List Value) → IfSome (cond (goes && eq_by_cmp row_cmp key q) None (kept_for groups q))
     (λ group. (0 < length group) × HaveTimes group)
 
 -- whether an entry of a group is the row's and reaches

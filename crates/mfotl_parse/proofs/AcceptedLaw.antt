@@ -146,7 +146,8 @@ module _ (sig : List PredOf) where
     have_one stack tree f nodes names held operand t ts (classes.Operator o) class h few =
         let c = close (precedence o) (omega (arith, (levels o).most)) hs tree fit (operand.fits (wanted hs))
         (λ p e. operand.fits _) (λ some. operand.shut) in
-        at_operator tree o t ts (context_at stack nodes names) (reduce (precedence o) f stack) c (omega (arith, few)) class
+        at_operator tree o t ts (context_at stack nodes names) (reduce (precedence o) f stack) c (omega (arith, few))
+        class
         (closed_alike (precedence o) f stack hs tree c held) h
     have_one stack tree f nodes names held operand t ts classes.CloseParen class h few =
         let c = close_all hs tree fit operand in
@@ -197,7 +198,8 @@ module _ (sig : List PredOf) where
         (subst (λ (ns : List ℕ). Wanting sig (push_ones r.variables ns) r.rest) held r.wanting)
     want_one stack nodes names held t ts classes.Name class h few =
         primary_then stack (t ∷ ts) few held
-        (by_token sig (λ us. Primary sig stack (t ∷ us)) _ refl (word_one sig stack t t.at t.text nodes names class) ts h)
+        (by_token sig (λ us. Primary sig stack (t ∷ us)) _ refl (word_one sig stack t t.at t.text nodes names class) ts
+        h)
     want_one stack nodes names held t ts classes.Blank class h few =
         primary_then stack (t ∷ ts) few held
         (by_token sig (λ us. Primary sig stack (t ∷ us)) _ refl (blank_one sig stack t t.at nodes names class) ts h)
@@ -220,7 +222,8 @@ module _ (sig : List PredOf) where
   have_all n later hs stack tree [] few fit held operand b = at_end hs stack tree fit held operand b
   have_all zero later hs stack tree (t ∷ ts) few fit held operand b = absurd (omega (arith, few))
   have_all (suc n) later hs stack tree (t ∷ ts) few fit held operand b =
-      have_one n (later n refl).0 (later n refl).1 hs fit stack tree b.form b.nodes b.names held operand t ts (class_of t)
+      have_one n (later n refl).0 (later n refl).1 hs fit stack tree b.form b.nodes b.names held operand t ts
+      (class_of t)
       refl b.accepted few
 
   want_all : (n : ℕ) → ((m : ℕ) → n ≡ suc m → HaveLater sig m × WantLater sig m) → WantLater sig n

@@ -94,7 +94,8 @@ module _ (sig : List PredOf) (stack : List Frame) where
       → Turns sig (against_move (context_at stack nodes names) left at sign) (RightSide sig stack)
   against_one left at sign nodes names t ts classes.Name class h = right_side _ _ _ (Named (Bare t)) ts class h
   against_one left at sign nodes names t ts classes.Question class h =
-      by_token sig (λ us. RightSide sig stack (t ∷ us)) _ refl (against_marked_one left at sign t nodes names class) ts h
+      by_token sig (λ us. RightSide sig stack (t ∷ us)) _ refl (against_marked_one left at sign t nodes names class) ts
+      h
   against_one left at sign nodes names t ts (classes.Integer z) class h = right_side _ _ _ (Number t z) ts class h
   against_one left at sign nodes names t ts classes.Text class h = right_side _ _ _ (Quoted t) ts class h
   against_one left at sign nodes names t ts _ class h = refused h _
@@ -117,14 +118,16 @@ module _ (sig : List PredOf) (stack : List Frame) where
       }
 
   compared_one : (left : WrittenTerm) (side : Side) (nodes : ℕ) (names : SymbolTable) → FitsTerm left
-      → Turns sig (compared_move (context_at stack nodes names) side) (λ us. Primary sig stack (term_spelling left ++ us))
+      → Turns sig (compared_move (context_at stack nodes names) side)
+      (λ us. Primary sig stack (term_spelling left ++ us))
   compared_one left side nodes names fits t ts c class h = grind (arith, sign_back, refused)
 
   pub compared_back : (left : WrittenTerm) (side : Side) (ts : List Lexeme) (nodes : ℕ) (names : SymbolTable)
       → FitsTerm left → accepts sig ts (at_place (ExpectSign side) stack nodes names) ≡ true
       → Primary sig stack (term_spelling left ++ ts)
   compared_back left side ts nodes names fits h =
-      by_token sig (λ us. Primary sig stack (term_spelling left ++ us)) _ refl (compared_one left side nodes names fits) ts h
+      by_token sig (λ us. Primary sig stack (term_spelling left ++ us)) _ refl
+      (compared_one left side nodes names fits) ts h
 
   pub marked_one : (mark : Lexeme) (at nodes : ℕ) (names : SymbolTable) → class_of mark ≡ classes.Question
       → Turns sig (marked_move (context_at stack nodes names) at) (λ us. Primary sig stack (mark ∷ us))
@@ -237,7 +240,8 @@ module _ (sig : List PredOf) (stack : List Frame) where
       by_token sig (λ us. Primary sig stack (name ∷ opening ∷ us)) _ refl
       (first_one name opening call nodes names named opens) ts h
 
-  pub word_one : (name : Lexeme) (at : ℕ) (text : List ℕ) (nodes : ℕ) (names : SymbolTable) → class_of name ≡ classes.Name
+  pub word_one : (name : Lexeme) (at : ℕ) (text : List ℕ) (nodes : ℕ) (names : SymbolTable)
+      → class_of name ≡ classes.Name
       → Turns sig (word_move sig (context_at stack nodes names) at text) (λ us. Primary sig stack (name ∷ us))
   word_one name at text nodes names named t ts classes.OpenParen class h = grind (arith, first_back)
   word_one name at text nodes names named t ts (classes.Sign sign) class h =

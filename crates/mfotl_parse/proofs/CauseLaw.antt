@@ -56,7 +56,8 @@ module _ (sig : List PredOf) (front : List Lexeme) (s : Partial) (t : Lexeme)
   begins_so m e =
       let due = completes sig m.next in (
         due.0,
-        accepted_formula sig (front ++ t ∷ due.0) (grind (arith, accepts_read sig front (t ∷ due.0) nothing_read s ran)),
+        accepted_formula sig (front ++ t ∷ due.0)
+            (grind (arith, accepts_read sig front (t ∷ due.0) nothing_read s ran)),
       )
 
   -- where it doesn't, none does

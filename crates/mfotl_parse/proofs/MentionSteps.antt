@@ -152,7 +152,8 @@ module _ (before : List SortMention) (count : ℕ) (n : SymbolTable) (f : Follow
   pub stands : (given : Sort) (at : ℕ) (sort : Sort)
       → Follows (before ++ Stands given at sort ∷ []) count (agreed given at sort n)
   stands given at sort =
-      matched given sort (Stands given at sort) refl (λ none. refl) (λ e none c t. nothing_more (differ (given_to c n) (Some t)))
+      matched given sort (Stands given at sort) refl (λ none. refl)
+      (λ e none c t. nothing_more (differ (given_to c n) (Some t)))
 
   -- a variable that had no sort
   first_sort : (b : Binding) (at : ℕ) (s : Sort) (later : ℕ) (m : SymbolTable) → given_to b n ≡ None

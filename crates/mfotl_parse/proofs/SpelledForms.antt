@@ -177,7 +177,8 @@ module _ (sig : List PredOf) (stack : List Frame) (nodes : ℕ) (names : SymbolT
       (c : Class) → IsHave q.now
       → behind_move (record { rules = within_depth at stack ∷ []; next = q0 })
       (then_moves (operand_move (context_at (Parens ∷ stack) nodes names) t c) (moves sig ts)) ≡ goes rules q
-      → behind_move (record { rules = []; next = r0 }) (then_moves (maybe_move (context_at stack nodes names) at t c) (moves sig ts))
+      → behind_move (record { rules = []; next = r0 })
+      (then_moves (maybe_move (context_at stack nodes names) at t c) (moves sig ts))
       ≡ goes rules q
   after_open at q0 r0 t ts rules q c have h =
       grind (arith, at_place, behind_move, behind_nothing, moves, number_too, first_first, context_at)

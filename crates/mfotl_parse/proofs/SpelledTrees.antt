@@ -223,7 +223,8 @@ module _ (sig : List PredOf) where
       let inner = reads body 6 edge fits.2 (unary_reaches rule edge reach) ends (Moment operator i ∷ stack)
       (suc nodes) names (omega arith) in
       let whole = takes_closed sig _ (spelling body) (Moment operator i) stack edge _ _ _ _ reach.0 inner in
-      let behind = takes_interval sig true interval frame stack stack (spelling body) (suc nodes) edge _ names _ _ _ fits.1
+      let behind = takes_interval sig true interval frame stack stack (spelling body) (suc nodes) edge _ names _ _ _
+      fits.1
       (λ j. refl) whole in
       takes_as _ _ _ _ _ _ (suc nodes + node_count body) _ _ _ _ refl (omega arith) (λ k. k) (λ d k. k)
       (takes_behind sig (at_place ExpectOperand stack nodes names)
@@ -255,7 +256,8 @@ module _ (sig : List PredOf) where
       let before = reads left (left_precedence operator) (suc (precedence operator)) fits.1 (left_reaches operator)
       (λ e. absurd (cc (e, fits.2))) stack nodes names
       (looser rule (left_precedence operator) stack (omega (arith, fits.0, (levels operator).left)) loose) in
-      let inner = reads right (right_precedence operator) edge fits.5 (right_reaches operator rule edge fits.0 reach) ends
+      let inner = reads right (right_precedence operator) edge fits.5 (right_reaches operator rule edge fits.0 reach)
+      ends
       (Left operator (interval_of interval) v ∷ stack) (suc middle) between (omega arith) in
       let behind = takes_interval sig (is_timed operator) interval (λ j. Left operator j v) stack _ (spelling right)
       (suc middle) edge _ between _ _ _ fits.4 (λ j. refl) inner in

@@ -70,7 +70,8 @@ module _ (sig : List PredOf) (stack : List Frame) (nodes : ℕ) (names : SymbolT
   by_class : (at : ℕ) (t : Lexeme) (ts : List Lexeme) (rules : List Rule) (q : Partial) (c : Class) → IsHave q.now
       → then_moves (operand_move (context_at (Parens ∷ stack) nodes names) t c) (moves sig ts) ≡ goes rules q
       → traced t.at (maybe_move (context_at stack nodes names) at t c) (trace sig ts)
-      ≡ postponed at (depth stack) (is_integer c) (traced t.at (operand_move (context_at (Parens ∷ stack) nodes names) t c) (trace sig ts))
+      ≡ postponed at (depth stack) (is_integer c)
+      (traced t.at (operand_move (context_at (Parens ∷ stack) nodes names) t c) (trace sig ts))
   by_class at t ts rules q c have e =
       grind (arith, at_place, number_side, rest_of, moves, behind_number, first_kept, context_at)
 

@@ -230,9 +230,9 @@ module _ {checked : CheckedPolicy} {log : Name} {core : CoreForm} (is : IsCoreOf
           later = omega (arith, later, later_on);
           later_out = later_out;
           comes = told_map before.files _ _
-              (λ files rest_is. log_comes (task_on checked (content files log)) core is before opened after old new later
-              f.bytes f.ended (opened_read opened.rest (content files log) rest_is after (stays ∙ is_open) f.bytes f.ended
-              f.taken f.whole) end f.ends f.front) opens;
+              (λ files rest_is. log_comes (task_on checked (content files log)) core is before opened after old new
+              later f.bytes f.ended (opened_read opened.rest (content files log) rest_is after (stays ∙ is_open)
+              f.bytes f.ended f.taken f.whole) end f.ends f.front) opens;
           causes = log_causes before opened after old new later f.ended checked.policy.formula _ end f.ends;
         };
       }

@@ -11,8 +11,8 @@ use Rattle.monitor_state.proofs.GrowthLemmas.{stand_split}
 use Rattle.monitor_state.specs.Feeding.{LeftsPushed, RightsPushed, SincePulled}
 use Rattle.monitor_state.specs.Ordered.{PushedInOrder}
 
-pub lefts_more : {old s new : SinceOf} {front tables : List TableOf} → LeftsPushed old s front → LeftsPushed s new tables
-    → LeftsPushed old new (front ++ tables)
+pub lefts_more : {old s new : SinceOf} {front tables : List TableOf} → LeftsPushed old s front
+    → LeftsPushed s new tables → LeftsPushed old new (front ++ tables)
 lefts_more {old} {s} {new} {front} {tables} before more =
     let place : old.pulled + length (old.lefts ++ front) ≡ old.pulled + length old.lefts + length front =
     omega (arith, length-append old.lefts front) in

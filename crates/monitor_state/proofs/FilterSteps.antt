@@ -48,9 +48,15 @@ columns_within : (whole w : CoreForm) (s : Window) → IsWellFormedIn whole w �
     → (all_among (window_columns s) (fv (meaning w)) ≡ true) × (all_among (fv (meaning w)) (window_columns s) ≡ true)
 unfolding fv
 columns_within whole (Since i f g) (window.Since s) sound is =
-    rw is.right (right_inside (fv (meaning f)) (fv (meaning g)), joined_inside (fv (meaning f)) (fv (meaning g)) sound.0)
+    rw is.right (
+      right_inside (fv (meaning f)) (fv (meaning g)),
+      joined_inside (fv (meaning f)) (fv (meaning g)) sound.0,
+    )
 columns_within whole (Until i f g) (window.Until s) sound is =
-    rw is.right (right_inside (fv (meaning f)) (fv (meaning g)), joined_inside (fv (meaning f)) (fv (meaning g)) sound.0)
+    rw is.right (
+      right_inside (fv (meaning f)) (fv (meaning g)),
+      joined_inside (fv (meaning f)) (fv (meaning g)) sound.0,
+    )
 columns_within whole w s sound is = absurd is
 
 joined_among : (xs ys zs : List ℕ) → all_among ys zs ≡ true → all_among (joined xs ys) (joined xs zs) ≡ true

@@ -101,7 +101,10 @@ constant_one {view} {point} {given} {whole} {f} {table} below stack premises is 
   rw (is.alone, append-nil) at stacked,
   rw made
       (one_new view point premises.rising f all table
-      (record { columns = is.columns; rows = λ dom v covers near. is.rows (longer view point).log dom v (length view.log) })),
+      (record {
+        columns = is.columns;
+        rows = λ dom v covers near. is.rows (longer view point).log dom v (length view.log);
+      })),
 )
 
 pub constant_advances : (table : TableOf) (given : TimePoint) (stack : List (List TableOf)) (tables : List TableOf)

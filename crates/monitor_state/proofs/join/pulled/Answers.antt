@@ -25,6 +25,6 @@ loop-tables-preserved c =
     let pulled = rw c.in-Some.is at c.in_ok-table.ensures in
     record {
       some = (join_fewer c.loop-tables.state c.loop-tables.invariant.some pulled.due pulled.state).1;
-      pulled = join_pulled_more c.in-Some.table c.loop-tables.invariant.pulled pulled.due pulled.state pulled.columns pulled.rows
-          c.in_ok-push.ensures;
+      pulled = join_pulled_more c.in-Some.table c.loop-tables.invariant.pulled pulled.due pulled.state
+          pulled.columns pulled.rows c.in_ok-push.ensures;
     }

@@ -8,5 +8,6 @@ loop-tables-smaller c =
 pub loop-tables-preserved : goal.loop-tables-preserved
 loop-tables-preserved c =
     let pulled = rw c.in-Some.is at c.in_ok-table.ensures in
-    pulled_more c.in-Some.table c.loop-tables.invariant pulled.due pulled.state pulled.follows pulled.columns pulled.rows
+    pulled_more c.in-Some.table c.loop-tables.invariant pulled.due pulled.state pulled.follows pulled.columns
+    pulled.rows
     c.in_ok-push.ensures

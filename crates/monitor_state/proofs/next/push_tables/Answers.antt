@@ -6,7 +6,8 @@ loop-table-init c = pushed_none c.args.state.now
 
 pub loop-table-preserved : goal.loop-table-preserved
 loop-table-preserved c =
-    pushed_more c.in-Some.table c.loop-table.invariant c.in_ok-push_table.ensures.pushed c.in_ok-push_table.ensures.follows
+    pushed_more c.in-Some.table c.loop-table.invariant c.in_ok-push_table.ensures.pushed
+    c.in_ok-push_table.ensures.follows
 
 pub returns : goal.returns
 returns c =

@@ -11,4 +11,5 @@ loop-tables-smaller c =
 pub loop-tables-preserved : goal.loop-tables-preserved
 loop-tables-preserved c =
     let pulled = rw c.in-Some.is at c.in_ok-table.ensures in
-    or_pulled_more c.in-Some.table c.loop-tables.invariant pulled.due pulled.state pulled.columns pulled.rows c.in_ok-push.ensures
+    or_pulled_more c.in-Some.table c.loop-tables.invariant pulled.due pulled.state pulled.columns pulled.rows
+    c.in_ok-push.ensures

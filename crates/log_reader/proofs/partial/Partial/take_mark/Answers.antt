@@ -22,7 +22,8 @@ returns-in-AfterValue-2 c =
 
 pub returns-in-AfterName : goal.returns-in-AfterName
 returns-in-AfterName c =
-    mark_steps 40 OpenParen AfterName AfterOpen (staged c.self.view_is c.in-AfterName.is) c.if-b-eq40.true refl refl refl
+    mark_steps 40 OpenParen AfterName AfterOpen (staged c.self.view_is c.in-AfterName.is) c.if-b-eq40.true refl refl
+    refl
     (λ _. c.begin_group.ensures)
 
 pub returns-in-AfterClose : goal.returns-in-AfterClose
