@@ -84,8 +84,30 @@ fn push_first(
     Ok(())
 }
 
-/// Queues a part for each worker that has a state.
-pub(crate) fn push_parts(
+/// Queues a part for each worker of the old strategy, and behind it a place for all their pieces for each worker of
+/// the new one, which all have a queue then.
+pub(crate) fn push_change(
+    alloc: Global,
+    queues: &mut Vec<Queue>,
+    generation: u64,
+    old: &Strategy,
+    new: &Strategy,
+) -> Result<(), AllocError>
+    requires { workers_of old.now ≤ length queues.old.items }
+    ensures len { IfOk result (λ _. length queues.old.items ≤ length queues.new.items) }
+    ensures wide { IfOk result (λ _. workers_of new.now ≤ length queues.new.items) }
+    ensures queued { IfOk result (λ _. (q : ℕ) → queue_at queues.new.items q ≡ queue_at queues.old.items q
+        ++ part_below q (workers_of old.now) generation old.now new.now
+        ++ place_below q (workers_of new.now) generation new.now (workers_of old.now)) }
+{
+    grow(alloc, queues, new.workers())?;
+    push_parts(alloc, queues, generation, old, new)?;
+    push_places(alloc, queues, generation, new, old.workers())?;
+    Ok(())
+}
+
+// Queues a part for each worker that has a state.
+fn push_parts(
     alloc: Global,
     queues: &mut Vec<Queue>,
     generation: u64,
@@ -109,8 +131,8 @@ pub(crate) fn push_parts(
     Ok(())
 }
 
-/// Queues a place for so many pieces for each worker that gets a state.
-pub(crate) fn push_places(
+// Queues a place for so many pieces for each worker that gets a state.
+fn push_places(
     alloc: Global,
     queues: &mut Vec<Queue>,
     generation: u64,
@@ -129,8 +151,8 @@ pub(crate) fn push_places(
     Ok(())
 }
 
-/// Adds empty queues until there is one for each of so many workers.
-pub(crate) fn grow(alloc: Global, queues: &mut Vec<Queue>, workers: u32) -> Result<(), AllocError>
+// Adds empty queues until there is one for each of so many workers.
+fn grow(alloc: Global, queues: &mut Vec<Queue>, workers: u32) -> Result<(), AllocError>
     ensures wide { IfOk result (λ _. workers ≤ length queues.new.items) }
     ensures len { IfOk result (λ _. length queues.old.items ≤ length queues.new.items) }
     ensures same { IfOk result (λ _. (q : ℕ) → queue_at queues.new.items q ≡ queue_at queues.old.items q) }

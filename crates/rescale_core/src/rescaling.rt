@@ -36,7 +36,7 @@ impl Worker {
         };
         let pieces = split_state(alloc, monitor, strategy, self.number, &new, generation)?;
         give_pieces(alloc, pieces, outs)?;
-        self.phase = Phase::Vacant;
+        self.enter(Phase::Vacant);
         Ok(())
     }
 
@@ -53,8 +53,15 @@ impl Worker {
         let phase = mem::replace(&mut self.phase, Phase::Vacant);
         let (mut merging, missing) = merging_for(alloc, &self.core, phase, piece.count)?;
         merging.adopt(alloc, piece)?;
-        self.phase = settle(alloc, merging, now, missing)?;
+        let next = settle(alloc, merging, now, missing)?;
+        self.enter(next);
         Ok(())
+    }
+
+    fn enter(&mut self, phase: Phase)
+        ensures { self.new ≡ record self.old { phase = phase } }
+    {
+        self.phase = phase;
     }
 }
 

@@ -13,7 +13,7 @@ use crate::cell::one_more;
 use crate::item::{Item, Out};
 use crate::outstanding::{grow_counts, lower, none_outstanding, raise};
 use crate::queue::{Queue, none_wait};
-use crate::queueing::{grow, push_parts, push_places, push_point};
+use crate::queueing::{push_change, push_point};
 use mfotl_model::TimePoint;
 use monitorable::Core;
 use slice_strategy::{Slicer, Strategy};
@@ -61,19 +61,15 @@ impl Router {
             → IsRouterOf self.new (world_after w (Read (Change strategy)))) }
     {
         let generation = one_more(self.generation)?;
-        let count = self.strategy.workers();
-        let workers = strategy.workers();
-        self.gather.begin(generation, workers)?;
-        grow(alloc, &mut self.queues, workers)?;
-        grow_counts(&mut self.outstanding, self.queues.len())?;
-        push_parts(
+        self.gather.begin(generation, strategy.workers())?;
+        push_change(
             alloc,
             &mut self.queues,
             generation,
             &self.strategy,
             &strategy,
         )?;
-        push_places(alloc, &mut self.queues, generation, &strategy, count)?;
+        grow_counts(&mut self.outstanding, self.queues.len())?;
         self.generation = generation;
         self.strategy = strategy;
         Ok(())

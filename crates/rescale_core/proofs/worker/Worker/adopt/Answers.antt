@@ -25,7 +25,8 @@ settle-requires-clause-full c =
 pub returns : goal.returns
 returns c =
     let e = c.in_ok-adopt.ensures in
-    takes_piece c.args.self.now c.args.piece c.args.now c.in_ok-merging.merging c.in_ok-merging.missing
+    rw c.enter.ensures
+    (takes_piece c.args.self.now c.args.piece c.args.now c.in_ok-merging.merging c.in_ok-merging.missing
     c.replace-phase.ensures.value c.in_ok-merging.ensures c.adopt.new.self
     (merges_more c.in_ok-merging.merging c.adopt.new.self c.args.piece e.core e.count e.adopted e.merges) _ refl refl
-    c.in_ok-self.ensures
+    c.in_ok-next.ensures)

@@ -12,8 +12,9 @@ returns c =
     let e = c.in_ok-pieces.ensures in (
       _,
       c.in_ok-give_pieces.ensures,
-      takes_part c.args.self.now c.in-Active.monitor c.in-Active.strategy c.args.generation c.args.old c.args.new
+      rw c.enter.ensures
+          (takes_part c.args.self.now c.in-Active.monitor c.in-Active.strategy c.args.generation c.args.old c.args.new
           c.in-Active.is _ c.in_ok-pieces.pieces.items refl refl refl
           (splits c.in-Active.monitor c.in-Active.strategy c.args.self.now.number c.args.new c.args.generation
-          c.in_ok-pieces.pieces.items e.pieces e.numbers e.stands),
+          c.in_ok-pieces.pieces.items e.pieces e.numbers e.stands)),
     )
