@@ -5,8 +5,9 @@ ghost use Rattle.mfotl_model.specs.Strategies.{workers_of};
 use crate::setting::Setting;
 use crate::texts::{Case, Stop, halves, number, put};
 use event_splitter::split;
-use mfotl_model::push_rows;
-use monitor_state::{Monitor, NodeData, Piece, State, WindowData};
+use mfotl_model::{TimePoint, push_rows};
+use monitor_state::{Monitor, NodeData, Piece, SinceKept, State, UntilKept, WindowData};
+use monitorable::Core;
 use relations::Table;
 use slice_strategy::{Slicer, Strategy};
 use state_split::split_state;
@@ -15,16 +16,27 @@ use std::slice;
 
 /// The rows that a worker keeps behind a time-point, and those of the pieces for the workers of a next strategy.
 pub fn pieces(alloc: Global, setting: &Setting, case: &Case<'_>) -> Result<Vec<u8>, Stop> {
-    let strategy = setting.strategy(alloc, case.strategy)?;
     let (next, rest) = halves(case.rest)?;
+    let strategy = setting.strategy(alloc, case.strategy)?;
     let next = setting.strategy(alloc, next)?;
-    let (worker, point) = halves(rest)?;
+    pieces_at(alloc, setting, &strategy, &next, rest)
+}
+
+// The same of the worker and the time-point of a text.
+fn pieces_at(
+    alloc: Global,
+    setting: &Setting,
+    strategy: &Strategy,
+    next: &Strategy,
+    text: &str,
+) -> Result<Vec<u8>, Stop> {
+    let (worker, point) = halves(text)?;
     let worker = number(worker)?;
     if worker >= strategy.workers() {
         return Err(Stop::Malformed);
     }
-    let monitor = monitor_behind(alloc, setting, &strategy, worker, point)?;
-    pieces_told(alloc, &monitor, &strategy, worker, &next)
+    let monitor = monitor_behind(alloc, setting, strategy, worker, point)?;
+    pieces_told(alloc, &monitor, strategy, worker, next)
 }
 
 // The rows that a worker's monitor keeps, and those of its pieces.
@@ -37,12 +49,19 @@ fn pieces_told(
 ) -> Result<Vec<u8>, Stop>
     requires { worker < workers_of strategy.now }
 {
-    let mut told = Vec::new(alloc);
-    put(&mut told, "keeps")?;
-    put_state(&mut told, &monitor.state(alloc)?)?;
+    let mut told = kept(alloc, monitor)?;
     for piece in &split_state(alloc, monitor, strategy, worker, next, 1)? {
         put_piece(alloc, piece, &mut told)?;
     }
+    Ok(told)
+}
+
+// The rows that a monitor keeps.
+fn kept(alloc: Global, monitor: &Monitor) -> Result<Vec<u8>, Stop> {
+    let state = monitor.state(alloc)?;
+    let mut told = Vec::new(alloc);
+    put(&mut told, "keeps")?;
+    put_state(&mut told, &state)?;
     Ok(told)
 }
 
@@ -62,14 +81,20 @@ fn monitor_behind(
 ) -> Result<Monitor, Stop> {
     let point = setting.point(alloc, point)?;
     let slices = split(alloc, &setting.core, strategy, &point)?;
-    let mut monitor = Monitor::new(alloc, &setting.core)?;
     match slices.get(worker as usize) {
-        Some(slice) if monitor.taken() == 0 => {
-            let _tables = monitor.step(alloc, slice)?;
-            Ok(monitor)
-        }
-        _ => Err(Stop::Malformed),
+        Some(slice) => monitor_of(alloc, &setting.core, slice),
+        None => Err(Stop::Malformed),
     }
+}
+
+// A monitor behind a first time-point.
+fn monitor_of(alloc: Global, core: &Core, point: &TimePoint) -> Result<Monitor, Stop> {
+    let mut monitor = Monitor::new(alloc, core)?;
+    if monitor.taken() != 0 {
+        return Err(Stop::Malformed);
+    }
+    let _tables = monitor.step(alloc, point)?;
+    Ok(monitor)
 }
 
 // Puts all rows of a state.
@@ -105,23 +130,28 @@ fn put_node(told: &mut Vec<u8>, node: &NodeData) -> Result<(), AllocError> {
 
 fn put_window(told: &mut Vec<u8>, window: &WindowData) -> Result<(), AllocError> {
     match window {
-        WindowData::Since(since) => {
-            put_tables(told, &since.kept.lefts)?;
-            put_tables(told, &since.kept.rights)?;
-            for kept in &since.kept.rows {
-                push_rows(told, slice::from_ref(&kept.row))?;
-            }
-        }
-        WindowData::Until(until) => {
-            put_tables(told, &until.kept.lefts)?;
-            put_tables(told, &until.kept.rights)?;
-            for kept in &until.kept.starts {
-                push_rows(told, slice::from_ref(&kept.row))?;
-            }
-            for kept in &until.kept.rows {
-                push_rows(told, slice::from_ref(&kept.row))?;
-            }
-        }
+        WindowData::Since(since) => put_since(told, since),
+        WindowData::Until(until) => put_until(told, until),
+    }
+}
+
+fn put_since(told: &mut Vec<u8>, since: &SinceKept) -> Result<(), AllocError> {
+    put_tables(told, &since.kept.lefts)?;
+    put_tables(told, &since.kept.rights)?;
+    for kept in &since.kept.rows {
+        push_rows(told, slice::from_ref(&kept.row))?;
+    }
+    Ok(())
+}
+
+fn put_until(told: &mut Vec<u8>, until: &UntilKept) -> Result<(), AllocError> {
+    put_tables(told, &until.kept.lefts)?;
+    put_tables(told, &until.kept.rights)?;
+    for kept in &until.kept.starts {
+        push_rows(told, slice::from_ref(&kept.row))?;
+    }
+    for kept in &until.kept.rows {
+        push_rows(told, slice::from_ref(&kept.row))?;
     }
     Ok(())
 }

@@ -2,6 +2,8 @@
 ghost use Rattle.std.specs.Prelude.{◌≡◌, IfOk, length};
 ghost use Rattle.std.specs.List.{range_with_len};
 ghost use Rattle.mfotl_model.specs.FreeVariables.{fv};
+ghost use Rattle.mfotl_model.specs.Formulas.{form};
+ghost use Rattle.mfotl_parse.specs.WellSorted.{IsWellSorted};
 ghost use Rattle.monitorable.specs.Cores.{core_form};
 ghost use Rattle.monitorable.specs.CoreForms.{meaning};
 ghost use Rattle.rescale_core.specs.Workers.{IsFor};
@@ -25,22 +27,48 @@ pub struct Setting {
 }
 
 /// What the texts of a signature and of a policy say, or the first fault.
-#[tactic(auto, using(crate::proofs::SettingLemmas::columns))]
 pub fn setting_of(alloc: Global, signature: &str, policy: &str) -> Result<Setting, Stop> {
-    let signature = match read_signature(alloc, signature.as_bytes()) {
-        Ok(signature) => signature,
-        Err(fault) => return Err(Stop::Told(fault.to_string(alloc)?)),
-    };
-    let policy = match read_policy(alloc, policy.as_bytes(), &signature) {
-        Ok(policy) => policy,
-        Err(fault) => return Err(Stop::Told(fault.to_string(alloc)?)),
-    };
-    match to_core(alloc, &policy) {
-        Ok(core) => Ok(Setting {
-            signature,
-            policy,
-            core,
-        }),
+    let signature = signature_of(alloc, signature)?;
+    let (policy, core) = policy_of(alloc, policy, &signature)?;
+    Ok(Setting {
+        signature,
+        policy,
+        core,
+    })
+}
+
+fn signature_of(alloc: Global, text: &str) -> Result<Signature, Stop> {
+    match read_signature(alloc, text.as_bytes()) {
+        Ok(signature) => Ok(signature),
+        Err(fault) => Err(Stop::Told(fault.to_string(alloc)?)),
+    }
+}
+
+// The policy of a text over a signature, with its core.
+#[tactic(auto, using(crate::proofs::SettingLemmas::columns))]
+fn policy_of(alloc: Global, text: &str, signature: &Signature) -> Result<(Policy, Core), Stop>
+    ensures variables { IfOk result (λ parts.
+        fv (meaning (core_form parts.1)) ≡ range_with_len 0 (length parts.0.vars)) }
+{
+    let policy = policy_over(alloc, text, signature)?;
+    let core = core_of(alloc, &policy)?;
+    Ok((policy, core))
+}
+
+fn policy_over(alloc: Global, text: &str, signature: &Signature) -> Result<Policy, Stop>
+    ensures columns { IfOk result (λ policy. IsWellSorted signature.now policy.vars (form policy.formula)) }
+{
+    match read_policy(alloc, text.as_bytes(), signature) {
+        Ok(policy) => Ok(policy),
+        Err(fault) => Err(Stop::Told(fault.to_string(alloc)?)),
+    }
+}
+
+fn core_of(alloc: Global, policy: &Policy) -> Result<Core, Stop>
+    ensures variables { IfOk result (λ core. fv (meaning (core_form core)) ≡ fv (form policy.now.formula)) }
+{
+    match to_core(alloc, policy) {
+        Ok(core) => Ok(core),
         Err(fault) => Err(Stop::Told(fault.to_string(alloc)?)),
     }
 }
@@ -68,11 +96,27 @@ impl Setting {
         let mut reader = LogReader::new(alloc, &self.signature, Limits::standard());
         reader.feed_owned(alloc, bytes);
         reader.finish();
-        let point = next_point(alloc, &mut reader)?.ok_or(Stop::Malformed)?;
-        match next_point(alloc, &mut reader)? {
-            None => Ok(point),
-            Some(_) => Err(Stop::Malformed),
-        }
+        only_point(alloc, &mut reader)
+    }
+}
+
+// The one time-point that there is.
+fn only_point(alloc: Global, reader: &mut LogReader<'_>) -> Result<TimePoint, Stop> {
+    match next_point(alloc, reader)? {
+        Some(point) => last_point(alloc, reader, point),
+        None => Err(Stop::Malformed),
+    }
+}
+
+// The time-point, where there is no other behind it.
+fn last_point(
+    alloc: Global,
+    reader: &mut LogReader<'_>,
+    point: TimePoint,
+) -> Result<TimePoint, Stop> {
+    match next_point(alloc, reader)? {
+        None => Ok(point),
+        Some(_) => Err(Stop::Malformed),
     }
 }
 
