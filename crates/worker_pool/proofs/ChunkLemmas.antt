@@ -1,9 +1,9 @@
 -- Chunk after chunk of a log.
 use Rattle.std.proofs.Common.{◌≡◌, ◌∙◌, ap, ap₂, subst, sym, refl, ℕ, ◌≤◌, Bool, true, false, List, [], ◌++◌, length}
-use Rattle.std.proofs.Common.{take, Option, Some, None, append-nil, arith, IfSome}
+use Rattle.std.proofs.Common.{take, Option, Some, None, append-nil, arith}
 use Rattle.std.proofs.{Math.Seq.take-length, lemmas.List.take-append-le}
 use Rattle.std.proofs.KnownBytes.{Consumes-nil, Consumes-trans, Consumes-whole}
-use Rattle.std.specs.Prelude.{Ok, Err}
+use Rattle.std.specs.Prelude.{Result, Ok, Err}
 use Rattle.mon_outside.specs.{Inputs.Consumes, Inputs.Moves, Sink.Appends, Sink.AppendsFront}
 use Rattle.mfotl_model.specs.Formulas.{Form}
 use Rattle.mfotl_model.specs.declared.event.TimePoint.{TimePoint}
@@ -17,7 +17,8 @@ use Rattle.log_reader.specs.declared.limits.Limits.{Limits}
 use Rattle.monitorable.specs.CoreForms.{CoreForm}
 use Rattle.rescale_core.specs.declared.driver.Driver.{Driver}
 use Rattle.slice_strategy.specs.declared.change.Change.{Change}
-use Rattle.worker_pool.specs.Chunks.{Feeds, IsChunkStop, ReadsChunk, ReadsPlan, Routes, StopsLines, run_end}
+use Rattle.worker_pool.specs.Chunks.{Feeds, IsChunkStop, ReadsChunk, ReadsOn, ReadsPlan, Routes, StopsLines, run_end}
+pub use Rattle.worker_pool.specs.Courses.{Course}
 use Rattle.worker_pool.specs.Courses.{HasDone, HasDoneAll, Settles}
 use Rattle.worker_pool.specs.{Effects.Effect, Endings.EndsBy, Endings.FollowsLog, Policies.IsCoreOf}
 use Rattle.worker_pool.specs.Texts.{lines, tally_of, tally_on, text_on}
@@ -64,16 +65,11 @@ fed old new before chunk untold e reads =
       whole = λ end. absurd cc;
     }
 
--- What was read of the log so far, and that this was done with the time-points that were given.
-pub record Course (Done : List TimePoint → Type 0) (sig : List PredOf) (first rest : Option (List ℕ)) (reader : Reader)
-    : Type 0 where
-  pub bytes : List ℕ
-  pub reads : Reads reader bytes
-  pub sig_is : reader.sig ≡ sig
-  pub limits_is : reader.limits ≡ standard
-  pub taken : Consumes first rest bytes
-  pub whole : reader.is_ended ≡ true → IfSome first (λ all. all ≡ bytes)
-  pub so_far : HasDone Done (progress reader bytes)
+-- where the output handed on what it held, the chunk alone counts
+pub chunk_reads_on : {old new : Reader} (e : Effect) (r : Result Unit Stop)
+    → ReadsChunk old new e.before.rest e.after.rest e.before.faults e.after.faults r → ReadsOn old new e r
+chunk_reads_on e (Err Sink) reads = absurd reads.failed
+chunk_reads_on e r reads = reads
 
 -- Besides, it was done with all that the bytes show, all its lines were written, and they show no fault.
 pub record Settled (core : CoreForm) (Done : List TimePoint → Type 0) (sig : List PredOf)

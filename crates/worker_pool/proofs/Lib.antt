@@ -6,12 +6,17 @@ pub mod TallyLemmas
 pub mod WritingLemmas
 pub mod EntryLemmas
 pub mod ChangeLemmas
+pub mod StepLemmas
 pub mod PlanLaws
 pub mod PointLemmas
 pub mod GivenPoints
 pub mod RoutedPoints
+pub mod RoutedNext
+pub mod RoutingLemmas
 pub mod ChunkLemmas
+pub mod FollowLemmas
 pub mod AloneLemmas
+pub mod AloneRuns
 pub mod HandLemmas
 pub mod DealLemmas
 pub mod Sent

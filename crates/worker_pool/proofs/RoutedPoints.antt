@@ -1,30 +1,28 @@
 -- The time-points that a reader gives, routed by a plan of changes.
 use Rattle.std.proofs.Common.{◌≡◌, ◌∙◌, ap, subst, sym, refl, ℕ, ◌+◌, List, [], ◌∷◌, ◌++◌, length, Option, arith}
 use Rattle.mfotl_model.specs.declared.event.TimePoint.{TimePoint}
-use Rattle.log_reader.specs.Readers.{Reader, progress}
+use Rattle.log_reader.specs.Readers.{Reader}
 use Rattle.monitorable.specs.CoreForms.{CoreForm}
 use Rattle.rescale_core.specs.Workers.{MayFollow}
 use Rattle.rescale_core.specs.declared.driver.Driver.{Driver}
 use Rattle.slice_strategy.specs.declared.change.Change.{Change}
 use Rattle.worker_pool.specs.Changes.{changes_due, changes_later, entries_by}
-use Rattle.worker_pool.specs.Chunks.{ForEachRun, IsUnderWay, Routes}
+use Rattle.worker_pool.specs.Chunks.{IsUnderWay, Routes}
 use Rattle.worker_pool.specs.{Courses.Settles, Texts.tally_of}
 use Rattle.worker_pool.specs.Writing.{AddsPoint, AllEmitted, Falls, FallsShort, HasReadNothing, Runs, WritesOnly}
 use Rattle.worker_pool.specs.declared.tally.Tally.{Tally}
 use Rattle.worker_pool.proofs.EntryLemmas.{entries_more, left_more, points_read}
-use Rattle.worker_pool.proofs.{GivenPoints.IsAmid, WritingLemmas.nothing_read, WritingLemmas.over_written}
+use Rattle.worker_pool.proofs.WritingLemmas.{nothing_read, over_written}
 
 -- nothing was read
 pub routes_none : {core : CoreForm} {driver : Driver} {tally : Tally} (plan : List Change) (start : Option (List ℕ))
     → HasReadNothing core driver → tally ≡ tally_of [] → Routes core plan start driver plan start tally []
 routes_none plan start begins none = record { left = refl; writes = nothing_read _ _ start _ begins none }
 
--- so main runs, whichever run it is
-pub under : {first reader : Reader} {driver here : Driver} {changes left : List Change} {old now : Option (List ℕ)}
-    {t v : Tally} → IsUnderWay first driver changes old t → ForEachRun first driver changes old t
-    (λ core plan bytes start. IsAmid (Routes core plan start here left now v) (progress first bytes) reader)
-    → Runs here now v
-under u runs = (_, _, _, (runs u.core u.plan u.bytes u.start u.reads u.so_far).so_far.done.writes)
+-- so main runs
+pub runs_under : {reader : Reader} {driver : Driver} {changes : List Change} {now : Option (List ℕ)} {tally : Tally}
+    → IsUnderWay reader driver changes now tally → Runs driver now tally
+runs_under u = (_, _, _, u.so_far.done.writes)
 
 module _ {core : CoreForm} {plan : List Change} {old mid : Option (List ℕ)} {driver : Driver} {changes : List Change}
     {tally : Tally} where

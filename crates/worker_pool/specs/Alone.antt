@@ -80,6 +80,11 @@ pub record IsUnderWayAlone (reader : Reader) (monitor : Monitor) (now : Option (
   pub reads : Reads reader bytes
   pub so_far : HasDone (WritesAlone core start monitor now tally) (progress reader bytes)
 
+-- these are bytes that the reader may have been fed, and the worker took the time-points that it gave of them
+abbrev pub IsReadAlone : CoreForm → Option (List ℕ) → Reader → Monitor → Option (List ℕ) → Tally → List ℕ → Type 0
+IsReadAlone core start reader monitor now tally bytes =
+    Reads reader bytes × HasDone (WritesAlone core start monitor now tally) (progress reader bytes)
+
 -- whatever the core, the bytes that the reader may have been fed, and what stood in the output before the lines
 abbrev pub ForEachRunAlone : Reader → Monitor → Option (List ℕ) → Tally
     → (CoreForm → List ℕ → Option (List ℕ) → Type 0) → Type 0

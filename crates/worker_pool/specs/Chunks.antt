@@ -20,6 +20,7 @@ use Rattle.rescale_core.specs.declared.driver.Driver.{Driver}
 use Rattle.slice_strategy.specs.declared.change.Change.{Change}
 use Rattle.worker_pool.specs.Changes.{entries_by, left_by}
 use Rattle.worker_pool.specs.Courses.{HasDone}
+use Rattle.worker_pool.specs.Effects.{Effect}
 use Rattle.worker_pool.specs.Texts.{text_on}
 use Rattle.worker_pool.specs.Writing.{IsOutputStop, Writes}
 use Rattle.worker_pool.specs.declared.end.End.{End}
@@ -107,3 +108,8 @@ pub record ReadsChunk (old new : Reader) (before after : Option (List ℕ)) (fau
   pub taken : Consumes before after chunk
   pub ok : OnOk result (Feeds old new before chunk)
   pub failed : IfErr result (IsChunkStop chunk faults faults_after)
+
+-- What was written was handed on, and a chunk was read; or the output failed, and nothing was read.
+abbrev pub ReadsOn : Reader → Reader → Effect → Result Unit Stop → Type 0
+ReadsOn old new e (Err Sink) = (e.after.rest ≡ e.before.rest) × Rose e.old.faults e.new.faults
+ReadsOn old new e result = ReadsChunk old new e.before.rest e.after.rest e.before.faults e.after.faults result

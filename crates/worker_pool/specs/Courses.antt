@@ -1,8 +1,11 @@
 -- What was done with the time-points of a log, as far as it was read.
-use Rattle.std.specs.Prelude.{◌≡◌, ℕ, List, Option, length, take}
+use Rattle.std.specs.Prelude.{◌≡◌, ℕ, true, List, Option, IfSome, length, take}
+use Rattle.mon_outside.specs.Inputs.{Consumes}
 use Rattle.mon_outside.specs.Sink.{Appends}
 use Rattle.mfotl_model.specs.declared.event.TimePoint.{TimePoint}
+use Rattle.mfotl_sig.specs.Preds.{PredOf}
 use Rattle.monitorable.specs.CoreForms.{CoreForm}
+use Rattle.log_reader.specs.Limits.{standard}
 use Rattle.log_reader.specs.Progress.{Progress, read}
 use Rattle.log_reader.specs.Readers.{Reader, Reads, progress}
 use Rattle.log_reader.specs.Readings.{NoFault}
@@ -30,3 +33,14 @@ pub record HasDoneAll (core : CoreForm) (Done : List TimePoint → Type 0) (read
   pub all : reader.given ≡ length (read (progress reader bytes)).points
   pub clear : (read (progress reader bytes)).ending ≡ NoFault
   pub settles : Settles core (read (progress reader bytes)).points old new tally
+
+-- What was read of the log so far, and that this was done with the time-points that were given.
+pub record Course (Done : List TimePoint → Type 0) (sig : List PredOf) (first rest : Option (List ℕ)) (reader : Reader)
+    : Type 0 where
+  pub bytes : List ℕ
+  pub reads : Reads reader bytes
+  pub sig_is : reader.sig ≡ sig
+  pub limits_is : reader.limits ≡ standard
+  pub taken : Consumes first rest bytes
+  pub whole : reader.is_ended ≡ true → IfSome first (λ all. all ≡ bytes)
+  pub so_far : HasDone Done (progress reader bytes)

@@ -11,4 +11,7 @@ pub mod Courses
 pub mod Alone
 pub mod Steps
 pub mod Chunks
+pub mod Routing
+pub mod Following
+pub mod FollowingAlone
 pub mod Laws

@@ -1,11 +1,14 @@
 -- What main's steps do between two time-points: they make room, and the changes that are due.
-use Rattle.std.specs.Prelude.{◌≡◌, ◌≤◌, ℕ, List, Option, Result, IfErr, OnOk, OnErr}
+use Rattle.std.specs.Prelude.{◌≡◌, ◌≤◌, ℕ, Bool, true, false, List, Option, Some, None, Result, Ok, Err, IfErr, OnOk}
+use Rattle.std.specs.Prelude.{OnErr}
 use Rattle.mon_outside.specs.declared.sink.Sink.{Ghosts as SinkGhosts}
 use Rattle.rescale_core.specs.declared.driver.Driver.{Driver}
 use Rattle.turn_hub.specs.Ends.{IsMainOf}
 use Rattle.worker_pool.specs.Changes.{HaveCells, NoneDue, Suits, changes_due, changes_later}
 use Rattle.worker_pool.specs.Hands.{AreHandsOf, WorkerHand, WorkerHub}
-use Rattle.worker_pool.specs.Writing.{AddsEntries, FallsShort, IsOutputStop, IsRoomy, WritesOnly}
+use Rattle.worker_pool.specs.Writing.{AddsEntries, AllEmitted, FallsShort, IsOutputStop, IsRoomy, WritesOnly}
+use Rattle.worker_pool.specs.declared.main_turns.Until.{Until}
+use Rattle.worker_pool.specs.declared.main_turns.Until.TheVariants.{Drained, Roomy}
 use Rattle.worker_pool.specs.declared.schedule.Schedule.{Schedule}
 use Rattle.worker_pool.specs.declared.stop.Stop.{Stop}
 use Rattle.worker_pool.specs.declared.tally.Tally.{Tally}
@@ -25,6 +28,17 @@ main_state outs driver out tally = record {
   tally = tally;
   faults = outs.faults out;
 }
+
+-- how a loop ended whose body answered whether it is over, if it is
+abbrev pub end_of : {T : Type 0} → Result Bool Stop → T → Option (Result T Stop)
+end_of (Ok true) answer = Some (Ok answer)
+end_of (Ok false) answer = None
+end_of (Err stop) answer = Some (Err stop)
+
+-- what main waited for is so
+abbrev pub IsReached : Until → Driver → Type 0
+IsReached Drained driver = AllEmitted driver
+IsReached Roomy driver = IsRoomy driver
 
 -- Each worker's queue has room for an item, and nothing was read since; or main stopped, and what was written is a
 -- front of the lines due. What main serves behind it are hands of the hub still.

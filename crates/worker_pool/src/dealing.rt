@@ -2,6 +2,7 @@
 ghost use Rattle.std.specs.Prelude.{◌≡◌, ◌<◌, [], IfOk, length};
 ghost use Rattle.worker_pool.specs.Hands.{AreDealt, AreGroupsOf, AreHandsOf, WorkerHub, cells_of, dealt, group_cells};
 
+use crate::bells::Bells;
 use crate::hands::WorkerHand;
 use std::alloc::{AllocError, Global};
 
@@ -39,9 +40,9 @@ fn deal_round(
     Ok(groups)
 }
 
-/// The hands in groups for at most so many threads, and those that main serves: all of them where there is no thread.
-/// Thread t has the hands k with k mod threads = t, and none is without a hand.
-pub(crate) fn deal(
+// The hands in groups for at most so many threads, and those that main serves: all of them where there is no thread.
+// Thread t has the hands k with k mod threads = t, and none is without a hand.
+fn deal(
     alloc: Global,
     hands: Vec<WorkerHand>,
     threads: u32,
@@ -57,4 +58,20 @@ pub(crate) fn deal(
     }
     let groups = deal_round(alloc, hands, count)?;
     Ok((groups, Vec::new(alloc)))
+}
+
+/// The hands in groups for at most so many threads, those that main serves, and a bell for each group's thread.
+pub(crate) fn deal_with_bells(
+    alloc: Global,
+    hands: Vec<WorkerHand>,
+    threads: u32,
+) -> Result<(Vec<Vec<WorkerHand>>, Vec<WorkerHand>, Bells), AllocError>
+    ensures dealt { IfOk result (λ r. AreDealt (cells_of hands.items) threads r.0.items r.1.items) }
+    ensures groups { IfOk result (λ r.
+        (hub : WorkerHub) → AreHandsOf hub hands.items → AreGroupsOf hub r.0.items) }
+    ensures own { IfOk result (λ r. (hub : WorkerHub) → AreHandsOf hub hands.items → AreHandsOf hub r.1.items) }
+{
+    let (groups, own) = deal(alloc, hands, threads)?;
+    let bells = Bells::new(alloc, groups.len())?;
+    Ok((groups, own, bells))
 }

@@ -133,6 +133,32 @@ fn make_changes<R: Wait, O: Sink, G: Gate>(
     Ok(())
 }
 
+// Makes the changes that are to be made before the next time-point, and then room for it; where `turns` is true, main
+// takes a turn.
+fn make_way<R: Wait, O: Sink, G: Gate>(
+    context: &LoopContext<'_, R, G>,
+    own: &mut Vec<WorkerHand>,
+    driver: &mut Driver,
+    schedule: &mut Schedule,
+    writer: &mut LineWriter,
+    out: &mut O,
+    turns: bool,
+) -> Result<(), Stop>
+    requires runs { Runs driver.old (O.written out.old) writer.old.tally }
+    requires suits { Suits driver.old schedule.old }
+    requires seated { HaveCells context.now.cells schedule.old }
+    requires main { IsMainOf context.now.hub.now driver.old.main }
+    requires cells { context.now.cells ≤ cell_count context.now.hub.now }
+    requires hands { AreHandsOf context.now.hub.now own.old.items }
+    ensures due { MakesDue context.now.hub.now context.now.cells own.new.items schedule.old schedule.new
+        (main_state O.Sink driver.old out.old writer.old.tally)
+        (main_state O.Sink driver.new out.new writer.new.tally) result }
+    ensures room { OnOk result (IsRoomy driver.new) }
+{
+    make_changes(context, own, driver, schedule, writer, out)?;
+    make_room(context, own, driver, writer, out, turns)
+}
+
 /// Reads a time-point, once the changes before it are made and there is room for it; where `turns` is true, main takes
 /// a turn first.
 pub(crate) fn route<R: Wait, O: Sink, G: Gate>(
@@ -166,8 +192,7 @@ pub(crate) fn route<R: Wait, O: Sink, G: Gate>(
     ensures stop { IfErr result (λ stop. IsOutputStop (O.faults out.old) (O.faults out.new) stop) }
     ensures later { O.faults out.old ≤ O.faults out.new }
 {
-    make_changes(context, own, driver, schedule, writer, out)?;
-    make_room(context, own, driver, writer, out, turns)?;
+    make_way(context, own, driver, schedule, writer, out, turns)?;
     admit(context.alloc, driver, schedule, point)?;
     schedule.count();
     Ok(())

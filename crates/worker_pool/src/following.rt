@@ -6,17 +6,18 @@ ghost use Rattle.log_reader.specs.Readers.{Reads, progress};
 ghost use Rattle.monitorable.specs.CoreForms.{CoreForm};
 ghost use Rattle.turn_hub.specs.Ends.{IsMainOf, cell_count};
 ghost use Rattle.worker_pool.specs.Changes.{HaveCells, Suits};
-ghost use Rattle.worker_pool.specs.Chunks.{ReadsChunk, ReadsPlan, run_end};
+ghost use Rattle.worker_pool.specs.Chunks.{ReadsChunk, ReadsOn, ReadsPlan, run_end};
 ghost use Rattle.worker_pool.specs.Effects.{effect};
 ghost use Rattle.worker_pool.specs.Endings.{FollowsLog};
 ghost use Rattle.worker_pool.specs.Hands.{AreHandsOf};
 ghost use Rattle.worker_pool.specs.Policies.{ForEachPolicy};
+ghost use Rattle.worker_pool.specs.Texts.{tally_of};
 ghost use Rattle.worker_pool.specs.Writing.{HasReadNothing};
 
 use crate::hands::WorkerHand;
 use crate::line_writer::LineWriter;
 use crate::loop_context::LoopContext;
-use crate::routing::route_complete;
+use crate::loop_end::end_of;
 use crate::schedule::Schedule;
 use crate::stop::Stop;
 use crate::tally::Tally;
@@ -71,6 +72,33 @@ pub(crate) fn read_chunk<I: Inputs, O: Sink>(
     }
 }
 
+/// Hands on what was written, and then reads once.
+pub(crate) fn read_on<I: Inputs, O: Sink>(
+    alloc: Global,
+    inputs: &mut I,
+    buffer: &mut [u8],
+    reader: &mut LogReader<'_>,
+    out: &mut O,
+) -> Result<(), Stop>
+    requires room { 0 < length buffer.old }
+    requires opened { IsTrue (I.is_open inputs.old) }
+    requires works { reader.old.is_broken ≡ false }
+    requires open { reader.old.is_ended ≡ false }
+    ensures files { I.files inputs.new ≡ I.files inputs.old }
+    ensures stays_open { I.is_open inputs.new ≡ I.is_open inputs.old }
+    ensures asks_nothing { I.asked inputs.new ≡ I.asked inputs.old }
+    ensures later { I.faults inputs.old ≤ I.faults inputs.new }
+    ensures kept { O.written out.new ≡ O.written out.old }
+    ensures later_out { O.faults out.old ≤ O.faults out.new }
+    ensures reads { ReadsOn reader.old reader.new
+        (effect I.Inputs O.Sink inputs.old inputs.new out.old out.new) result }
+{
+    match out.flush() {
+        Ok(()) => read_chunk(alloc, inputs, buffer, reader, out),
+        Err(Failed) => Err(Stop::Sink),
+    }
+}
+
 /// What main's loop has and is lent.
 #[derive(Drop)]
 pub(crate) struct MainLoop<'o, 's, R, G, I, O> {
@@ -86,7 +114,11 @@ pub(crate) struct MainLoop<'o, 's, R, G, I, O> {
 impl<R: Wait, G: Gate, I: Inputs, O: Sink> MainLoop<'_, '_, R, G, I, O> {
     /// Monitors the open file as a log, chunk after chunk, and answers what was counted of its lines. What was
     /// written is handed on before each read.
-    pub(crate) fn follow(&mut self, own: &mut Vec<WorkerHand>) -> Result<Tally, Stop>
+    pub(crate) fn follow(
+        &mut self,
+        own: &mut Vec<WorkerHand>,
+        writer: &mut LineWriter,
+    ) -> Result<Tally, Stop>
         requires room { 0 < length self.old.buffer.now }
         requires opened { IsTrue (I.is_open self.old.inputs.now) }
         requires fresh { progress self.old.log.now [] ≡ nothing_fed self.old.log.now.sig standard }
@@ -95,6 +127,7 @@ impl<R: Wait, G: Gate, I: Inputs, O: Sink> MainLoop<'_, '_, R, G, I, O> {
         requires suits { Suits self.old.driver.now self.old.schedule.now }
         requires seated { HaveCells self.old.context.now.cells self.old.schedule.now }
         requires unread { self.old.schedule.now.routed ≡ 0 }
+        requires uncounted { writer.old.tally ≡ tally_of [] }
         requires main { IsMainOf self.old.context.now.hub.now self.old.driver.now.main }
         requires cells { self.old.context.now.cells ≤ cell_count self.old.context.now.hub.now }
         requires hands { AreHandsOf self.old.context.now.hub.now own.old.items }
@@ -114,36 +147,11 @@ impl<R: Wait, G: Gate, I: Inputs, O: Sink> MainLoop<'_, '_, R, G, I, O> {
         ensures planned { OnOk result (ReadsPlan self.old.log.now.sig self.old.schedule.now.changes.items
             (I.rest self.old.inputs.now) (I.rest self.new.inputs.now) self.new.driver.now) }
     {
-        let mut writer = LineWriter::new(self.context.alloc);
         'chunks: for _ in self.context.rt.forever() {
-            match route_complete(
-                self.context,
-                own,
-                &mut *self.driver,
-                &mut *self.schedule,
-                &mut writer,
-                &mut *self.log,
-                &mut *self.out,
-            ) {
-                Ok(()) => {}
-                Err(stop) => return Err(stop),
-            }
-            if self.log.is_finished() {
-                return Ok(writer.tally);
-            }
-            match self.out.flush() {
-                Ok(()) => {}
-                Err(Failed) => return Err(Stop::Sink),
-            }
-            match read_chunk(
-                self.context.alloc,
-                &mut *self.inputs,
-                &mut *self.buffer,
-                &mut *self.log,
-                &*self.out,
-            ) {
-                Ok(()) => {}
-                Err(stop) => return Err(stop),
+            let ended = self.take_chunk(own, writer);
+            match end_of(ended, writer.tally) {
+                None => {}
+                Some(end) => return end,
             }
         }
         unreachable!()

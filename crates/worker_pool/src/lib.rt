@@ -2,6 +2,8 @@
 #![tactic(auto)]
 
 mod alone;
+mod alone_points;
+mod batch;
 mod bell;
 mod bells;
 mod dealing;
@@ -14,12 +16,16 @@ mod line_front;
 mod line_writer;
 mod lone_worker;
 mod loop_context;
+mod loop_end;
+mod main_chunk;
 mod main_loop;
 mod main_task;
 mod main_turns;
 mod monitoring;
 mod opening;
 mod plan;
+mod preparing;
+mod rounds;
 mod routing;
 mod schedule;
 mod serving;

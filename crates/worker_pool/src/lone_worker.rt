@@ -69,16 +69,16 @@ impl LoneWorker {
     fn write_tables<O: Sink>(
         &mut self,
         first: u64,
-        mut tables: Tables,
+        tables: &mut Tables,
         out: &mut O,
     ) -> Result<(), Stop>
-        requires kept { IsKept (monitor_of self.old.monitor).state first (length tables) }
+        requires kept { IsKept (monitor_of self.old.monitor).state first (length tables.old) }
         ensures same { monitor_of self.new.monitor ≡ monitor_of self.old.monitor }
         ensures ok { OnOk result (ForEachDebt (monitor_of self.old.monitor).state (O.written out.old)
-            self.old.writer.tally first tables (λ core points start.
+            self.old.writer.tally first tables.old (λ core points start.
             Settles core points start (O.written out.new) self.new.writer.tally)) }
         ensures err { OnErr result (ForEachDebt (monitor_of self.old.monitor).state (O.written out.old)
-            self.old.writer.tally first tables (λ core points start. Falls core points start (O.written out.new))) }
+            self.old.writer.tally first tables.old (λ core points start. Falls core points start (O.written out.new))) }
         ensures stop { IfErr result (λ stop. IsOutputStop (O.faults out.old) (O.faults out.new) stop) }
         ensures later { O.faults out.old ≤ O.faults out.new }
     {
@@ -107,8 +107,7 @@ impl LoneWorker {
         ensures later { O.faults out.old ≤ O.faults out.new }
     {
         let first = self.monitor.given();
-        let tables = self.monitor.step(alloc, point)?;
-        self.write_tables(first, tables, out)?;
-        Ok(())
+        let mut tables = self.monitor.step(alloc, point)?;
+        self.write_tables(first, &mut tables, out)
     }
 }

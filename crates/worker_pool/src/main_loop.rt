@@ -15,6 +15,7 @@ ghost use Rattle.worker_pool.specs.Writing.{HasReadNothing};
 
 use crate::following::MainLoop;
 use crate::hands::WorkerHand;
+use crate::line_writer::LineWriter;
 use crate::loop_context::LoopContext;
 use crate::main_task::MainTask;
 use crate::schedule::Schedule;
@@ -78,7 +79,8 @@ impl<'o, 's, R: Wait, G: Gate, I: Inputs, O: Sink> MainTask for MainLoop<'o, 's,
         own: &mut Vec<WorkerHand>,
     ) -> Result<Tally, Stop> {
         ready?;
-        self.follow(own)
+        let mut writer = LineWriter::new(self.context.alloc);
+        self.follow(own, &mut writer)
     }
 }
 

@@ -1,4 +1,8 @@
 //! What is monitored.
+ghost use Rattle.std.specs.Prelude.{◌<◌, ◌≤◌, All};
+ghost use Rattle.mfotl_model.specs.Strategies.{workers_of};
+
+use crate::schedule::most_workers;
 use monitorable::Core;
 use slice_strategy::{Change, Strategy};
 
@@ -9,4 +13,14 @@ pub struct Plan {
     pub core: Core,
     pub first: Strategy,
     pub changes: Vec<Change>,
+}
+
+impl Plan {
+    /// How many workers the strategy with the most of them has.
+    pub(crate) fn most_workers(&self) -> u32
+        ensures some { 0 < result }
+        ensures changes { All (λ c. workers_of c.strategy ≤ result) self.now.changes.items }
+    {
+        most_workers(&self.first, self.changes.as_slice())
+    }
 }

@@ -44,6 +44,23 @@ pub(crate) fn serve_each<W: Work, G: Gate>(
     busy
 }
 
+impl<R: Wait, W: Work, G: Gate> Serving<'_, R, W, G> {
+    // Serves each of the hands once. Rings main's bell behind a round with work, and passes a little time behind one
+    // without. Answers how many without work came in a row. `heard` was asked of the thread's bell before.
+    fn serve_round(&self, hands: &mut Vec<Hand<W>>, heard: u32, idle: u64) -> u64
+        requires { AreHandsOf self.now.hub.now hands.old.items }
+        ensures { Serve self.now.hub.now (cells_of hands.old.items) hands.new.items }
+    {
+        if serve_each(self.alloc, self.hub, hands, self.gate) {
+            self.main.ring();
+            return 0;
+        }
+        let idle = idle.saturating_add(1);
+        self.bell.rest(self.rt, heard, idle);
+        idle
+    }
+}
+
 // Serves the hands in turn until the bell says to stop, and gives them back.
 fn serve_until<R: Wait, W: Work, G: Gate>(
     serving: Serving<'_, R, W, G>,
@@ -58,13 +75,7 @@ fn serve_until<R: Wait, W: Work, G: Gate>(
         if serving.bell.is_stopped() {
             return hands;
         }
-        if serve_each(serving.alloc, serving.hub, &mut hands, serving.gate) {
-            idle = 0;
-            serving.main.ring();
-        } else {
-            idle = idle.saturating_add(1);
-            serving.bell.rest(serving.rt, heard, idle);
-        }
+        idle = serving.serve_round(&mut hands, heard, idle);
     }
     unreachable!()
 }

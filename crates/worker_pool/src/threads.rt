@@ -2,6 +2,7 @@
 ghost use Rattle.std.specs.Prelude.{◌≡◌, List};
 ghost use Rattle.worker_pool.specs.Hands.{AreGroupsOf, AreHandsOf, WorkerHand};
 
+use crate::bell::Bell;
 use crate::hands::{WorkerHand, WorkerThread};
 use crate::loop_context::LoopContext;
 use crate::main_task::MainTask;
@@ -11,6 +12,33 @@ use std::alloc::AllocError;
 use std::sync::Wait;
 use std::thread;
 use std::thread::{Scope, Threads};
+
+// Starts the thread of this bell for a group. Main takes the hands if that is refused.
+fn start_one<'s, E, R: Wait + Sync, G: Gate + Sync>(
+    context: &LoopContext<'s, R, G>,
+    scope: &Scope<'s, E>,
+    bell: &'s Bell,
+    hands: Vec<WorkerHand>,
+    own: &mut Vec<WorkerHand>,
+    threads: &mut Vec<WorkerThread>,
+) -> Result<(), AllocError>
+    requires hands { AreHandsOf context.now.hub.now hands.items }
+    requires own { AreHandsOf context.now.hub.now own.old.items }
+    ensures own { AreHandsOf context.now.hub.now own.new.items }
+{
+    threads.reserve(1)?;
+    let serving = Serving {
+        rt: context.rt,
+        alloc: context.alloc,
+        hub: context.hub,
+        bell,
+        main: &context.bells.main,
+        gate: context.gate,
+    };
+    let mut refused = start(serving, scope, hands, threads);
+    own.append(&mut refused)?;
+    Ok(())
+}
 
 // Starts a thread for each group. Main takes the hands of those that were refused.
 fn start_all<'s, E, R: Wait + Sync, G: Gate + Sync>(
@@ -24,22 +52,19 @@ fn start_all<'s, E, R: Wait + Sync, G: Gate + Sync>(
     requires own { AreHandsOf context.now.hub.now own.old.items }
     ensures own { AreHandsOf context.now.hub.now own.new.items }
 {
-    threads.reserve(context.bells.threads.len())?;
     let mut left = groups.into_iter();
     for t in 0..context.bells.threads.len() {
         let Some(hands) = left.next() else {
             return Ok(());
         };
-        let serving = Serving {
-            rt: context.rt,
-            alloc: context.alloc,
-            hub: context.hub,
-            bell: &context.bells.threads[t],
-            main: &context.bells.main,
-            gate: context.gate,
-        };
-        let mut refused = start(serving, scope, hands, threads);
-        own.append(&mut refused)?;
+        start_one(
+            context,
+            scope,
+            &context.bells.threads[t],
+            hands,
+            own,
+            threads,
+        )?;
     }
     Ok(())
 }

@@ -1,11 +1,7 @@
-use Rattle.std.proofs.Common.{rules, ◌≡◌, ◌∙◌, ◌-◌, ◌^◌, ap, arith, sym, refl}
-use Rattle.log_reader.specs.{Progress.Progress, Readers.Reader}
-use Rattle.log_reader.specs.declared.limits.Limits.{Limits}
-use Rattle.monitorable.specs.CoreForms.{CoreForm}
-use Rattle.worker_pool.specs.Writing.{HasReadNothing}
-use Rattle.worker_pool.proofs.ChunkLemmas.{chunk_failed, course_begins, finished, lines_end, lines_stop, one_more_chunk}
-use Rattle.worker_pool.proofs.ChunkLemmas.{plan_read, settles}
-use Rattle.worker_pool.proofs.RoutedPoints.{routes_none}
+use Rattle.std.proofs.{Common.◌∙◌, Common.ap, Common.arith, Common.sym, Common.refl}
+use Rattle.log_reader.specs.Progress.{Progress}
+use Rattle.worker_pool.proofs.{ChunkLemmas.course_begins, FollowLemmas.came_to_end, RoutedPoints.routes_none}
+use Rattle.worker_pool.proofs.StepLemmas.{goes_on}
 use Rattle.worker_pool.proofs.following.MainLoop.follow.Goals as goal
 
 pub chunks-init : goal.chunks-init
@@ -16,84 +12,64 @@ chunks-init g c = record {
   same_out = refl;
   same_driver = refl;
   room = c.requires.room;
-  works = ap (λ (p : Progress). p.is_broken) c.requires.fresh;
   main = c.requires.main;
   hands = c.requires.hands;
   suits = c.requires.suits;
   seated = c.requires.seated;
-  routed = c.requires.unread ∙ sym (ap (λ (p : Progress). p.given) c.requires.fresh);
   files = refl;
   stays_open = refl;
   asks_nothing = refl;
   later = omega arith;
   later_out = omega arith;
-  course = λ core begins. course_begins (g.I.Inputs.rest c.args.self.now.inputs.now) c.requires.fresh c.requires.reads
-      (routes_none c.args.self.now.schedule.now.changes.items (g.O.Sink.written c.args.self.now.out.now) begins
-      c.new-writer.ensures);
+  comes = λ core begins. record {
+    works = ap (λ (p : Progress). p.is_broken) c.requires.fresh;
+    routed = c.requires.unread ∙ sym (ap (λ (p : Progress). p.given) c.requires.fresh);
+    later = omega arith;
+    later_out = omega arith;
+    course = course_begins (g.I.Inputs.rest c.args.self.now.inputs.now) c.requires.fresh c.requires.reads
+        (routes_none c.args.self.now.schedule.now.changes.items (g.O.Sink.written c.args.self.now.out.now) begins
+        c.requires.uncounted);
+  };
   can = tt;
   finite = tt;
 }
 
-pub route_complete-requires-clause-few : goal.route_complete-requires-clause-few
-route_complete-requires-clause-few g c =
-    let course = c.chunks.invariant.course c.requires.begins.0 c.requires.begins.1 in
-    let most : c.chunks.self.log.now.limits.points ≡ 2 ^ 32 - 1 = ap (λ (l : Limits). l.points) course.limits_is in
-    omega (arith, most)
+pub take_chunk-ended-requires-clause-under_way : goal.take_chunk-ended-requires-clause-under_way
+take_chunk-ended-requires-clause-under_way g c = (_, c.chunks.invariant.comes c.requires.begins.0 c.requires.begins.1)
 
-pub route_complete-requires-clause-under_way : goal.route_complete-requires-clause-under_way
-route_complete-requires-clause-under_way g c =
-    let course = c.chunks.invariant.course c.requires.begins.0 c.requires.begins.1 in
-    record { core = _; plan = _; bytes = course.bytes; start = _; reads = course.reads; so_far = course.so_far }
+pub returns-in-Some-end_of-clause-follows : goal.returns-in-Some-end_of-clause-follows
+returns-in-Some-end_of-clause-follows g c core begins =
+    (came_to_end _ _ c.take_chunk-ended.result c.in-Some-end_of.end c.in-Some-end_of.ensures
+    (c.take_chunk-ended.ensures.comes _ (c.chunks.invariant.comes core begins))).0
 
-pub returns-in-Err-clause-follows : goal.returns-in-Err-clause-follows
-returns-in-Err-clause-follows g c core begins policy is =
-    let course = c.chunks.invariant.course core begins in
-    lines_stop policy is _ course c.in-Err.stop _ c.chunks.invariant.later_out
-    (c.in-Err.ensures.stops core _ course.bytes _ course.reads course.so_far policy is)
-    (c.in-Err.ensures.front core _ course.bytes _ course.reads course.so_far policy is)
-
-pub returns-then-is_finished-clause-follows : goal.returns-then-is_finished-clause-follows
-returns-then-is_finished-clause-follows g c core begins policy is =
-    let course = c.chunks.invariant.course core begins in
-    finished policy is _
-    (settles course c.in-Ok.ensures.reader (c.in-Ok.ensures.ok core _ course.bytes _ course.reads course.so_far))
-    (sym c.is_finished.ensures ∙ c.if-is_finished.true)
-
-pub returns-then-is_finished-clause-planned : goal.returns-then-is_finished-clause-planned
-returns-then-is_finished-clause-planned g c =
-    let course = c.chunks.invariant.course c.requires.begins.0 c.requires.begins.1 in
-    plan_read
-    (settles course c.in-Ok.ensures.reader (c.in-Ok.ensures.ok _ _ course.bytes _ course.reads course.so_far))
-    (sym c.is_finished.ensures ∙ c.if-is_finished.true)
-
-pub returns-in-Err-flush-clause-follows : goal.returns-in-Err-flush-clause-follows
-returns-in-Err-flush-clause-follows g c core begins policy is =
-    let course = c.chunks.invariant.course core begins in
-    lines_end policy is _ c.flush.ensures.kept
-    (settles course c.in-Ok.ensures.reader (c.in-Ok.ensures.ok core _ course.bytes _ course.reads course.so_far))
-    (omega (arith, c.chunks.invariant.later_out, c.route_complete.ensures.later, c.in-Err-flush.ensures.cause.failed))
-
-pub returns-in-Err-read_chunk-clause-follows : goal.returns-in-Err-read_chunk-clause-follows
-returns-in-Err-read_chunk-clause-follows g c core begins policy is =
-    let course = c.chunks.invariant.course core begins in
-    chunk_failed policy is _ c.flush.ensures.kept
-    (settles course c.in-Ok.ensures.reader (c.in-Ok.ensures.ok core _ course.bytes _ course.reads course.so_far))
-    (sym c.is_finished.ensures ∙ c.if-is_finished.false) _ c.in-Err-read_chunk.stop c.chunks.invariant.later
-    c.in-Err-read_chunk.ensures.reads
+pub returns-in-Some-end_of-clause-planned : goal.returns-in-Some-end_of-clause-planned
+returns-in-Some-end_of-clause-planned g c =
+    let begins = c.requires.begins in
+    (came_to_end _ _ c.take_chunk-ended.result c.in-Some-end_of.end c.in-Some-end_of.ensures
+    (c.take_chunk-ended.ensures.comes _ (c.chunks.invariant.comes begins.0 begins.1))).1
 
 pub chunks-preserved : goal.chunks-preserved
 chunks-preserved g c =
     let inv = c.chunks.invariant in
-    let chunk = c.in-Ok-read_chunk.ensures.reads in
-    let works = ap (λ (r : Reader). r.is_broken) chunk.ok.same
-    ∙ ap (λ (r : Reader). r.is_broken) c.in-Ok.ensures.reader ∙ inv.works in
-    let routed = c.in-Ok.ensures.routed ∙ sym (ap (λ (r : Reader). r.given) chunk.ok.same) in
-    let files = c.read_chunk.ensures.files ∙ inv.files in
-    let stays_open = c.read_chunk.ensures.stays_open ∙ inv.stays_open in
-    let asks_nothing = c.read_chunk.ensures.asks_nothing ∙ inv.asks_nothing in
-    let course = λ (core : CoreForm) (begins : HasReadNothing core c.args.self.now.driver.now).
-    let course = inv.course core begins in
-    rw (← c.flush.ensures.kept) at (one_more_chunk
-    (settles course c.in-Ok.ensures.reader (c.in-Ok.ensures.ok core _ course.bytes _ course.reads course.so_far))
-    (sym c.is_finished.ensures ∙ c.if-is_finished.false) chunk.chunk chunk.taken chunk.ok) in
-    search rules
+    let same = c.take_chunk-ended.ensures in
+    let on = goes_on _ _ c.in-None-end_of.ensures in
+    record {
+      same_context = same.same_context ∙ inv.same_context;
+      same_log = same.same_log ∙ inv.same_log;
+      same_inputs = same.same_inputs ∙ inv.same_inputs;
+      same_out = same.same_out ∙ inv.same_out;
+      same_driver = same.same_driver ∙ inv.same_driver;
+      room = same.room;
+      main = rw on at same.main;
+      hands = same.hands;
+      suits = rw on at same.suits;
+      seated = rw on at same.seated;
+      files = same.files ∙ inv.files;
+      stays_open = same.stays_open ∙ inv.stays_open;
+      asks_nothing = same.asks_nothing ∙ inv.asks_nothing;
+      later = omega (arith, inv.later, same.later);
+      later_out = omega (arith, inv.later_out, same.later_out);
+      comes = λ core begins. rw on at (same.comes _ (inv.comes core begins));
+      can = tt;
+      finite = tt;
+    }

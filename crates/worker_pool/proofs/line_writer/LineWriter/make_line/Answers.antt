@@ -1,4 +1,4 @@
-use Rattle.std.proofs.Common.{refl, rules, replicate, ◌-◌}
+use Rattle.std.proofs.Common.{refl, rules, replicate}
 use Rattle.mfotl_model.specs.VerdictText.{line_front}
 use Rattle.worker_pool.proofs.LineLemmas.{front_in}
 use Rattle.worker_pool.proofs.line_writer.LineWriter.make_line.Goals as goal

@@ -1,3 +1,4 @@
+use Rattle.std.proofs.lemmas.Result.{on_err_weaker, on_ok_weaker}
 use Rattle.worker_pool.proofs.AloneLemmas.{are_kept, falls_short, owes_new, took_one}
 use Rattle.worker_pool.proofs.WritingLemmas.{on_err}
 use Rattle.worker_pool.proofs.lone_worker.LoneWorker.take.Goals as goal
@@ -13,15 +14,18 @@ write_tables-requires g c = record {
       c.in_ok-tables.ensures.first);
 }
 
-pub returns-in_err-write_tables-clause-err : goal.returns-in_err-write_tables-clause-err
-returns-in_err-write_tables-clause-err g c =
-    on_err c.from_residual-in_err-write_tables.result _ (λ core start points follows w.
-    (rw c.given-first.ensures at c.in_err-write_tables.ensures.err) core _ start
-    (owes_new c.step.new.self follows w c.in_ok-tables.ensures.steps))
+pub returns-clause-err : goal.returns-clause-err
+returns-clause-err g c =
+    on_err_weaker c.write_tables.result
+    (λ falls core start points follows w.
+    falls core _ start (owes_new c.step.new.self follows w c.in_ok-tables.ensures.steps))
+    (rw c.given-first.ensures at c.write_tables.ensures.err)
 
 pub returns-clause-ok : goal.returns-clause-ok
-returns-clause-ok g c core start points follows w =
+returns-clause-ok g c =
     let steps = c.in_ok-tables.ensures.steps in
+    on_ok_weaker c.write_tables.result
+    (λ settles core start points follows w.
     took_one c.step.new.self follows w steps c.write_tables.ensures.same c.in_ok-tables.ensures.core
-    ((rw c.given-first.ensures at c.in_ok-write_tables.ensures.ok) core _ start
-    (owes_new c.step.new.self follows w steps))
+    (settles core _ start (owes_new c.step.new.self follows w steps)))
+    (rw c.given-first.ensures at c.write_tables.ensures.ok)
