@@ -2,8 +2,6 @@
 use Rattle.std.proofs.Common.{◌≡◌, ◌∙◌, ap, refl, ℕ, List, [], Option, arith}
 use Rattle.std.specs.Prelude.{Result, Ok, Err, false}
 use Rattle.mon_outside.specs.Sink.{Appends, AppendsFront}
-use Rattle.mfotl_model.specs.Strategies.{Strategy}
-use Rattle.slice_strategy.specs.declared.change.Change.{Change}
 use Rattle.log_reader.specs.DemoTexts.{changes_text, log_text, policy_text, signature_text}
 use Rattle.log_reader.specs.Readings.{Ending, Fault, NoFault}
 use Rattle.log_reader.specs.declared.fault.LogFault.{LogFault}
@@ -14,8 +12,8 @@ use Rattle.monitor_main.specs.declared.{refusal.Refusal.TheVariants.Memory}
 use Rattle.monitor_main.specs.Answer.{demo_answer, demo_ended, demo_line, log_reading, refused}
 use Rattle.monitor_main.specs.{CheckedPolicies.Fails, CheckedPolicies.IsInside, Decisions.ComesTo, DemoRuns.EndsDemo}
 use Rattle.monitor_main.specs.{LogRuns.IsOutputFault, Refusals.log_refusal}
-use Rattle.monitor_main.specs.Tasks.{◌>>=◌, CheckedPolicy, Task, changes_in, demo_task, divided_texts, policy_of_texts}
-use Rattle.monitor_main.specs.Tasks.{strategy_in, task_on}
+use Rattle.monitor_main.specs.Tasks.{◌>>=◌, CheckedPolicy, Division, Task, demo_task, divided_texts, division_by}
+use Rattle.monitor_main.specs.Tasks.{policy_of_texts, task_on}
 use Rattle.monitor_main.proofs.CommandLemmas.{output_ends}
 use Rattle.monitor_main.proofs.DecideLemmas.{comes_memory, comes_refused, refuses_at}
 use Rattle.worker_pool.proofs.SinkLemmas.{whole_front}
@@ -29,21 +27,15 @@ module _ (sig policy changes : List ℕ) where
   policy_fails r h = grind arith
 
   module _ {checked : CheckedPolicy} (is : policy_of_texts sig policy ≡ Ok checked) where
-    pub strategy_fails : (r : Refusal) → Fails r (strategy_in checked.policy.vars [])
+    pub division_fails : (r : Refusal) → Fails r (division_by checked.policy.vars changes)
         → Fails r (divided_texts sig policy changes)
     unfolding divided_texts
-    strategy_fails r h = grind arith
+    division_fails r h = grind arith
 
-    module _ {first : Strategy} (taken : strategy_in checked.policy.vars [] ≡ Ok first) where
-      pub changes_fail : (r : Refusal) → Fails r (changes_in checked.policy.vars changes)
-          → Fails r (divided_texts sig policy changes)
-      unfolding divided_texts
-      changes_fail r h = grind arith
-
-      pub texts_divided : {read : List Change} → changes_in checked.policy.vars changes ≡ Ok read
-          → divided_texts sig policy changes ≡ Ok checked
-      unfolding divided_texts
-      texts_divided h = rw (is, taken, h) refl
+    pub texts_divided : {division : Division} → division_by checked.policy.vars changes ≡ Ok division
+        → divided_texts sig policy changes ≡ Ok checked
+    unfolding divided_texts
+    texts_divided h = rw (is, h) refl
 
   -- ---- they are the demo's
 

@@ -1,7 +1,7 @@
--- That strategies that are read are for the core of their policy.
+-- What a division is made of, and that strategies that are read are for the core of their policy.
 use Rattle.std.proofs.Common.{◌≡◌, ℕ, List, [], ◌∷◌, length, arith}
 use Rattle.std.proofs.Permutation.{every_append}
-use Rattle.std.specs.List.{AllByRecursion}
+use Rattle.std.specs.{List.AllByRecursion, Prelude.Result, Prelude.Ok}
 use Rattle.mfotl_model.specs.{Strategies.Strategy, Formulas.Form}
 use Rattle.mfotl_model.specs.declared.policy.Var.{Var}
 use Rattle.monitorable.specs.{CoreForms.CoreForm, Cores.core_form}
@@ -11,9 +11,25 @@ use Rattle.slice_strategy.specs.{ChangeRules.IsValue, ChangeRules.changes_of, En
 use Rattle.slice_strategy.specs.declared.change.Change.{Change as ChangeOf}
 use Rattle.slice_strategy.proofs.EntryLaws.{strategy_size}
 use Rattle.worker_pool.specs.{Policies.IsCoreOf, Changes.AllSuit}
-use Rattle.monitor_main.specs.CheckedPolicies.{Divides, HasVariables, checked_in}
+use Rattle.monitor_main.specs.CheckedPolicies.{Divides, Fails, HasVariables, checked_in}
 use Rattle.monitor_main.specs.ReadyTasks.{IsReady}
-use Rattle.monitor_main.specs.declared.task.Task.{Task}
+use Rattle.monitor_main.specs.Tasks.{◌>>=◌, Division, divided_by}
+use Rattle.monitor_main.specs.declared.{refusal.Refusal.Refusal, task.Task.Task}
+
+-- ---- the strategy, then the changes
+
+module _ (first : Result Strategy Refusal) (changes : Result (List ChangeOf) Refusal) where
+  pub strategy_fails : (r : Refusal) → Fails r first → Fails r (first >>= divided_by changes)
+  strategy_fails r h = grind arith
+
+  pub changes_fail : {strategy : Strategy} → first ≡ Ok strategy → (r : Refusal) → Fails r changes
+      → Fails r (first >>= divided_by changes)
+  changes_fail taken r h = grind arith
+
+  -- an accepted division is made of both
+  pub both_accepted : {division : Division} → (first >>= divided_by changes) ≡ Ok division
+      → (first ≡ Ok division.first) × (changes ≡ Ok division.changes)
+  both_accepted is = grind arith
 
 -- ---- each strategy has an entry for each variable
 

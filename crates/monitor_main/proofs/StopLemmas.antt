@@ -1,24 +1,27 @@
 -- Where a command is refused before its log: no line was written.
-use Rattle.std.proofs.Common.{◌≡◌, ap, arith, refl, ℕ, ◌≤◌, List, [], Some, is_some}
+use Rattle.std.proofs.Common.{◌≡◌, ap, arith, inl, inr, refl, sym, ℕ, ◌≤◌, List, [], Option, Some, None, is_some}
 use Rattle.std.specs.Prelude.{Ok, Err}
 use Rattle.mon_outside.specs.Files.{Files, ToldFiles, content}
 use Rattle.mon_outside.specs.{Inputs.Name, Inputs.asked_more, Views.InputsView, Views.SinkView}
-use Rattle.mfotl_model.specs.Strategies.{Strategy}
+use Rattle.mfotl_model.specs.{Strategies.Strategy, declared.policy.Var.Var}
 use Rattle.slice_strategy.specs.declared.change.Change.{Change}
+use Rattle.monitor_main.specs.declared.division.Division.{Division as DivisionValue}
 use Rattle.monitor_main.specs.declared.{refusal.InputFile.InputFile, refusal.Refusal.Refusal}
 use Rattle.monitor_main.specs.declared.refusal.InputFile.TheVariants as file
 use Rattle.monitor_main.specs.{Answer.command_answer, Answer.refused, CheckedPolicies.Fails, CheckedPolicies.IsInside}
 use Rattle.monitor_main.specs.Decisions.{CarriesOut, CommandFails, Ends, HasCauses}
+use Rattle.monitor_main.specs.Divisions.{AreChangesAt}
 use Rattle.monitor_main.specs.FilesAsked.{names_before_log, names_to, source_names}
 use Rattle.monitor_main.specs.Loading.{AreRefused, GoesNoFurther, IsBeforeLog, IsLoadFault, IsRefused, IsSource}
-use Rattle.monitor_main.specs.Loading.{IsStopped, LoadsSources, LoadsTask, StopsBeforeLog, StopsInSources}
+use Rattle.monitor_main.specs.Loading.{IsStopped, LoadsDivision, LoadsSources, LoadsTask, RefusesDivision}
+use Rattle.monitor_main.specs.Loading.{StopsBeforeLog, StopsInSources}
 use Rattle.monitor_main.specs.Tasks.{CheckedPolicy, changes_at, changes_in, divided_at, policy_at, strategy_in, task_at}
 use Rattle.monitor_main.specs.Tasks.{task_on}
 use Rattle.monitor_main.specs.Unread.{bytes_of, changes_bytes, source_bytes, strategy_at, text_at_failure}
 use Rattle.monitor_main.specs.Words.{Command, RunOptions, Sources, Run, Check, name_if_any}
 use Rattle.monitor_main.proofs.{DecideLemmas.refuses_at, DecideLemmas.unwritten, LoadLemmas.fault_of}
 use Rattle.worker_pool.proofs.SinkLemmas.{no_front}
-use Rattle.monitor_main.proofs.ToldLemmas.{asked_twice, told_both, told_map}
+use Rattle.monitor_main.proofs.ToldLemmas.{asked_twice, told_all, told_both, told_map}
 use Rattle.std.proofs.lemmas.Grind.{common_steps}
 
 -- ---- any command
@@ -102,6 +105,14 @@ pub policy_reached : (sources : Sources) (files : Files) (checked : CheckedPolic
 unfolding policy_at source_bytes
 policy_reached sources files checked e = grind arith
 
+-- the changes are those in a file that is told, and none where no file is named
+told_changes : (vars : List Var) (name : Option Name) (told : Option Files) (changes : List Change)
+    → AreChangesAt vars name told changes → ToldFiles told (λ files. changes_at vars name files ≡ Ok changes)
+unfolding changes_at
+told_changes vars None told changes are =
+    told_all told (λ files. changes_at vars None files ≡ Ok changes) (λ files. ap Ok (sym are))
+told_changes vars (Some name) told changes are = are
+
 module _ (options : RunOptions) {sources : Sources} {before mid : InputsView} {checked : CheckedPolicy}
     (loads : LoadsSources sources checked before mid) where
   no_strategy : (r : Refusal) → IsInside r → Fails r (strategy_in checked.policy.vars options.strategy)
@@ -111,7 +122,7 @@ module _ (options : RunOptions) {sources : Sources} {before mid : InputsView} {c
   no_strategy r inside fails = grind arith
 
   -- the strategy is refused, and no other file asked for
-  pub strategy_stops : {r : Refusal} → IsInside r → Fails r (strategy_in checked.policy.vars options.strategy)
+  strategy_stops : {r : Refusal} → IsInside r → Fails r (strategy_in checked.policy.vars options.strategy)
       → StopsBeforeLog (Run sources options) before mid r
   unfolding bytes_of
   strategy_stops {r = r} inside fails = grind (arith, no_strategy r inside fails, told_map, policy_reached)
@@ -131,7 +142,7 @@ module _ (options : RunOptions) {sources : Sources} {before mid : InputsView} {c
     task_is files changes e f = rw (e, taken, f) refl
 
     -- all before the log is accepted
-    pub task_loaded : (changes : List Change)
+    task_loaded : (changes : List Change)
         → ToldFiles mid.files (λ files. changes_at checked.policy.vars options.changes files ≡ Ok changes)
         → LoadsTask sources options checked before after
     task_loaded changes is = grind (arith, all_asked, told_both, task_is)
@@ -154,6 +165,23 @@ module _ (options : RunOptions) {sources : Sources} {before mid : InputsView} {c
       changes_told r h = grind (arith, told_both, no_changes, told_map, changes_refuse)
 
     -- the changes are refused
-    pub changes_stop : {r : Refusal} → AreRefused checked.policy.vars options.changes mid after r
+    changes_stop : {r : Refusal} → AreRefused checked.policy.vars options.changes mid after r
         → StopsBeforeLog (Run sources options) before after r
     changes_stop {r = r} h = grind (arith, all_asked, fault_of, changes_told)
+
+  -- ---- the division
+
+  module _ (same : mid.files ≡ before.files) (later : before.faults ≤ mid.faults) (after : InputsView) where
+    -- the division is accepted, and so is all before the log
+    pub division_loaded : {division : DivisionValue} → LoadsDivision checked.policy.vars options division mid after
+        → LoadsTask sources options checked before after
+    division_loaded {division = division} l =
+        let changes = division.changes.items in
+        task_loaded l.first same later after l.asked changes
+        (told_changes checked.policy.vars options.changes mid.files changes l.changes)
+
+    -- the division is refused
+    pub division_stops : {r : Refusal} → RefusesDivision checked.policy.vars options mid after r
+        → StopsBeforeLog (Run sources options) before after r
+    division_stops (inl s) = rw s.same (strategy_stops s.inside s.fails)
+    division_stops (inr s) = changes_stop s.taken same later after s.asked s.refused

@@ -1,5 +1,5 @@
 -- How the loading of the files before the log may end.
-use Rattle.std.specs.Prelude.{◌≡◌, ℕ, List, Option, Result, Ok, Err, Some, None}
+use Rattle.std.specs.Prelude.{◌≡◌, ◌⊎◌, ℕ, List, Option, Result, Ok, Err, Some, None}
 use Rattle.mon_outside.specs.Causes.{Rose}
 use Rattle.mon_outside.specs.Files.{Files, ToldFiles, content}
 use Rattle.mon_outside.specs.Inputs.{Name, StopsIn, asked_more}
@@ -8,12 +8,16 @@ use Rattle.monitor_main.specs.declared.refusal.InputFile.{InputFile}
 use Rattle.monitor_main.specs.declared.refusal.InputFile.TheVariants as file
 use Rattle.monitor_main.specs.declared.refusal.Refusal.{Refusal}
 use Rattle.monitor_main.specs.declared.refusal.Refusal.TheVariants.{Usage, Read, Write, Memory}
+use Rattle.mfotl_model.specs.Strategies.{Strategy}
 use Rattle.mfotl_model.specs.declared.policy.Var.{Var}
+use Rattle.monitor_main.specs.declared.division.Division.{Division as DivisionValue}
 use Rattle.monitor_main.specs.Answer.{command_answer, refused}
+use Rattle.monitor_main.specs.CheckedPolicies.{Fails, IsInside}
+use Rattle.monitor_main.specs.Divisions.{AreChangesAt}
 use Rattle.monitor_main.specs.FilesAsked.{names_before_log, names_to, source_names}
-use Rattle.monitor_main.specs.Tasks.{CheckedPolicy, changes_in, policy_at, task_at, task_on}
+use Rattle.monitor_main.specs.Tasks.{CheckedPolicy, changes_in, policy_at, strategy_in, task_at, task_on}
 use Rattle.monitor_main.specs.Unread.{bytes_of, source_bytes}
-use Rattle.monitor_main.specs.Words.{Command, RunOptions, Sources}
+use Rattle.monitor_main.specs.Words.{Command, RunOptions, Sources, name_if_any}
 
 -- The call for a file failed: this one is told, the count has risen, and what is left of the file is known.
 pub record ReadFails (file told : InputFile) (name : Name) (before after : InputsView) : Type 0 where
@@ -71,12 +75,39 @@ pub record StopsInSources (sources : Sources) (before after : InputsView) (r : R
   pub fault : IsLoadFault last before after r
   pub refuses : ToldFiles before.files (λ files. NoPolicy sources files last after r)
 
--- ---- a run's change script
+-- ---- a run's strategy and its change script
 
 -- why the changes in the file of this name are refused; where there is no such file, none are
 abbrev pub AreRefused : List Var → Option Name → InputsView → InputsView → Refusal → Type 0
 AreRefused vars None before after r = ⊥
 AreRefused vars (Some name) before after r = IsRefused file.Changes name (changes_in vars) before after r
+
+-- the division that the options ask for was read, and no file but that of its changes was asked for
+pub record LoadsDivision (vars : List Var) (options : RunOptions) (division : DivisionValue) (before after : InputsView)
+    : Type 0 where
+  pub asked : after.asked ≡ asked_more before.asked (name_if_any options.changes)
+  pub first : strategy_in vars options.strategy ≡ Ok division.first
+  pub changes : AreChangesAt vars options.changes before.files division.changes.items
+
+-- the strategy is refused, and no file was asked for
+pub record RefusesStrategy (vars : List Var) (options : RunOptions) (before after : InputsView) (r : Refusal)
+    : Type 0 where
+  pub same : after ≡ before
+  pub inside : IsInside r
+  pub fails : Fails r (strategy_in vars options.strategy)
+
+-- the strategy is accepted, and the changes are refused
+pub record RefusesChanges (vars : List Var) (options : RunOptions) (before after : InputsView) (r : Refusal)
+    : Type 0 where
+  pub first : Strategy
+  pub taken : strategy_in vars options.strategy ≡ Ok first
+  pub asked : after.asked ≡ asked_more before.asked (name_if_any options.changes)
+  pub refused : AreRefused vars options.changes before after r
+
+-- why the division that the options ask for is refused
+abbrev pub RefusesDivision : List Var → RunOptions → InputsView → InputsView → Refusal → Type 0
+RefusesDivision vars options before after r =
+    RefusesStrategy vars options before after r ⊎ RefusesChanges vars options before after r
 
 -- ---- all before a command's log
 

@@ -129,6 +129,10 @@ task_at sources options files =
 
 -- ---- what `demo` monitors
 
+-- no strategy at first, and then the changes of this script
+abbrev pub division_by : List Var → List ℕ → Result Division Refusal
+division_by vars script = strategy_in vars [] >>= divided_by (changes_in vars script)
+
 -- the policy of these texts, where its division is accepted: no strategy at first, then these changes
 unfoldable pub divided_texts : List ℕ → List ℕ → List ℕ → Result CheckedPolicy Refusal
 divided_texts sig policy changes =

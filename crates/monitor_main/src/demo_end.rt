@@ -1,5 +1,7 @@
 //! The monitoring of a demo, whose files are in memory and whose lines are only counted.
-ghost use Rattle.std.specs.Prelude.{◌≡◌, [], IfOk, IfErr, string_bytes};
+ghost use Rattle.std.specs.Prelude.{◌≡◌, [], codes, Ok, IfOk, IfErr, string_bytes};
+ghost use Rattle.mon_outside.specs.Files.{content};
+ghost use Rattle.mon_outside.specs.Memory.{as_files};
 ghost use Rattle.log_reader.specs.DemoTexts.{changes_text};
 ghost use Rattle.monitor_main.specs.CheckedPolicies.{Fails, Gives, IsInside, checked_in};
 ghost use Rattle.monitor_main.specs.DemoRuns.{EndsDemo, EndsOn};
@@ -8,12 +10,11 @@ ghost use Rattle.monitor_main.specs.Limits.{default_threads};
 ghost use Rattle.monitor_main.specs.ReadyTasks.{IsReady};
 ghost use Rattle.monitor_main.specs.Tasks.{demo_task, divided_texts, task_on};
 
-use crate::changes_file::changes_in;
 use crate::checked_policy::check_texts;
+use crate::division::read_division;
 use crate::limits::DEFAULT_THREADS;
 use crate::monitoring::follow;
 use crate::refusal::Refusal;
-use crate::strategy_text::read_strategy;
 use crate::task::Task;
 use log_reader::{Demo, generate};
 use mon_outside::{Gate, Inputs, NamedFile, SureInputs, SureSink};
@@ -39,39 +40,63 @@ fn task_of(alloc: Global, sig: &[u8], policy: &[u8], changes: &[u8]) -> Result<T
     ensures inside { IfErr result IsInside }
 {
     let checked = check_texts(alloc, sig, policy)?;
-    let first = read_strategy(alloc, "", &checked.policy)?;
-    let changes = changes_in(alloc, changes, &checked.policy)?;
-    Ok(Task {
-        checked,
-        first,
-        changes,
-        threads: DEFAULT_THREADS,
-    })
+    match read_division(alloc, changes, &checked.policy) {
+        Ok(division) => Ok(Task::new(checked, division, DEFAULT_THREADS)),
+        Err(refusal) => Task::refused(checked, refusal),
+    }
 }
 
-// Monitors a log of which no call fails, and keeps none of its lines.
-fn follow_log<R: Threads + Wait + Sync, G: Gate + Sync>(
-    rt: &R,
-    alloc: Global,
-    task: Task,
-    log: String,
-    gate: &G,
-) -> Result<End, AllocError>
-    requires ready { IsReady task }
-    requires first { BeginsBy [] task }
-    requires changes { ChangesBy changes_text task }
-    requires threads { task.threads ≡ default_threads }
-    ensures ends { IfOk result (EndsOn (task_on (checked_in task.checked) (string_bytes log))) }
+// The log's file alone, with these bytes.
+fn log_files(alloc: Global, log: String) -> Result<Vec<NamedFile>, AllocError>
+    ensures { IfOk result (λ files. content (as_files files.items) (codes "log") ≡ string_bytes log) }
 {
     let file = NamedFile {
         name: String::from_str(alloc, LOG)?,
         bytes: log.into_bytes(),
     };
-    let files = vec![in alloc; file]?;
-    let mut inputs = SureInputs::new(files.as_slice(), CHUNK);
+    Ok(vec![in alloc; file]?)
+}
+
+// The task of the demo of this seed, and its files: the log's alone.
+fn draw(alloc: Global, seed: u64) -> Result<(Task, Vec<NamedFile>), Refusal>
+    ensures ok { IfOk result (λ drawn. demo_task seed
+        ≡ Ok (task_on (checked_in drawn.0.checked) (content (as_files drawn.1.items) (codes "log")))) }
+    ensures ready { IfOk result (λ drawn. IsReady drawn.0) }
+    ensures first { IfOk result (λ drawn. BeginsBy [] drawn.0) }
+    ensures changes { IfOk result (λ drawn. ChangesBy changes_text drawn.0) }
+    ensures threads { IfOk result (λ drawn. drawn.0.threads ≡ default_threads) }
+    ensures refused { IfErr result (λ r. Fails r (demo_task seed)) }
+    ensures inside { IfErr result IsInside }
+{
+    let Demo {
+        sig,
+        policy,
+        log,
+        changes,
+    } = generate(alloc, seed)?;
+    let files = log_files(alloc, log)?;
+    let task = task_of(alloc, sig.as_bytes(), policy.as_bytes(), changes.as_bytes())?;
+    Ok((task, files))
+}
+
+// Monitors the log among these files, of which no call fails, and keeps none of its lines.
+fn follow_log<R: Threads + Wait + Sync, G: Gate + Sync>(
+    rt: &R,
+    alloc: Global,
+    task: Task,
+    files: &[NamedFile],
+    gate: &G,
+) -> End
+    requires ready { IsReady task }
+    requires first { BeginsBy [] task }
+    requires changes { ChangesBy changes_text task }
+    requires threads { task.threads ≡ default_threads }
+    ensures { EndsOn (task_on (checked_in task.checked) (content (as_files files.now) (codes "log"))) result }
+{
+    let mut inputs = SureInputs::new(files, CHUNK);
     let mut out = SureSink::new();
     inputs.open(LOG).unwrap();
-    Ok(follow(rt, alloc, task, &mut inputs, &mut out, gate))
+    follow(rt, alloc, task, &mut inputs, &mut out, gate)
 }
 
 /// Monitors the demo of this seed.
@@ -85,12 +110,6 @@ pub fn follow_demo<R: Threads + Wait + Sync, G: Gate + Sync>(
     ensures refused { IfErr result (λ r. Fails r (demo_task seed)) }
     ensures inside { IfErr result IsInside }
 {
-    let Demo {
-        sig,
-        policy,
-        log,
-        changes,
-    } = generate(alloc, seed)?;
-    let task = task_of(alloc, sig.as_bytes(), policy.as_bytes(), changes.as_bytes())?;
-    Ok(follow_log(rt, alloc, task, log, gate)?)
+    let (task, files) = draw(alloc, seed)?;
+    Ok(follow_log(rt, alloc, task, files.as_slice(), gate))
 }

@@ -10,6 +10,7 @@ mod commands;
 mod demo;
 mod demo_end;
 pub mod demo_laws;
+mod division;
 mod fault_lines;
 pub mod laws;
 mod limits;

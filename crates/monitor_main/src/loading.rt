@@ -8,12 +8,11 @@ ghost use Rattle.monitor_main.specs.Loading.{LoadsTask, StopsBeforeLog};
 ghost use Rattle.monitor_main.specs.ReadyTasks.{IsReady};
 ghost use Rattle.monitor_main.specs.Words.{Run};
 
-use crate::changes_file::load_changes;
 use crate::checked_policy::load_sources;
 use crate::command::Sources;
+use crate::division::load_division;
 use crate::refusal::Refusal;
 use crate::run_options::RunOptions;
-use crate::strategy_text::read_strategy;
 use crate::task::Task;
 use mon_outside::Inputs;
 use std::alloc::Global;
@@ -38,12 +37,8 @@ pub fn load_task<I: Inputs>(
         (inputs_view I.Inputs inputs.old) (inputs_view I.Inputs inputs.new)) }
 {
     let checked = load_sources(alloc, sources, inputs)?;
-    let first = read_strategy(alloc, options.strategy, &checked.policy)?;
-    let changes = load_changes(alloc, inputs, options.changes, &checked.policy)?;
-    Ok(Task {
-        checked,
-        first,
-        changes,
-        threads: options.threads,
-    })
+    match load_division(alloc, inputs, options, &checked.policy) {
+        Ok(division) => Ok(Task::new(checked, division, options.threads)),
+        Err(refusal) => Task::refused(checked, refusal),
+    }
 }

@@ -1,6 +1,6 @@
 //! The `clap` command: its subcommands and their options.
 ghost use Rattle.std.specs.Prelude.{◌≡◌, IfOk, false};
-ghost use Rattle.clap.specs.Words.{app_of, rule_of, with_rule};
+ghost use Rattle.clap.specs.Words.{app_of, rule_of, with_rule, with_subcommand};
 ghost use Rattle.clap.specs.Simple.{on_top};
 ghost use Rattle.clap.specs.declared.builder.Command.TheViews.{out-Command as fields_of};
 ghost use Rattle.monitor_main.specs.Words.{changes_rule, check_app, demo_app, file_rule, monitor_app, option_rule};
@@ -138,16 +138,37 @@ fn strict(command: Command<'_>) -> Command<'_>
         .subcommand_required(true)
 }
 
+// The command with the subcommand `run`.
+fn with_run<'a>(alloc: Global, command: Command<'a>) -> Result<Command<'a>, AllocError>
+    ensures { IfOk result (λ r. app_of r ≡ with_subcommand (app_of command.entry) run_app.top) }
+{
+    let run = run_command(alloc)?;
+    command.subcommand(run)
+}
+
+// The command with the subcommand `check`.
+fn with_check<'a>(alloc: Global, command: Command<'a>) -> Result<Command<'a>, AllocError>
+    ensures { IfOk result (λ r. app_of r ≡ with_subcommand (app_of command.entry) check_app.top) }
+{
+    let check = check_command(alloc)?;
+    command.subcommand(check)
+}
+
+// The command with the subcommand `demo`.
+fn with_demo<'a>(alloc: Global, command: Command<'a>) -> Result<Command<'a>, AllocError>
+    ensures { IfOk result (λ r. app_of r ≡ with_subcommand (app_of command.entry) demo_app.top) }
+{
+    let demo = demo_command(alloc)?;
+    command.subcommand(demo)
+}
+
 /// The whole command.
 #[tactic(auto, unfolding(crate::specs::Words::monitor_app))]
 pub fn monitor_command<'a>(alloc: Global) -> Result<Command<'a>, AllocError>
     ensures app { IfOk result (λ r. app_of r ≡ monitor_app) }
 {
-    let run = run_command(alloc)?;
-    let check = check_command(alloc)?;
-    let demo = demo_command(alloc)?;
-    let command = Command::new(alloc, "monitor").subcommand(run)?;
-    let command = command.subcommand(check)?;
-    let command = command.subcommand(demo)?;
+    let command = with_run(alloc, Command::new(alloc, "monitor"))?;
+    let command = with_check(alloc, command)?;
+    let command = with_demo(alloc, command)?;
     Ok(strict(command))
 }

@@ -1,8 +1,10 @@
 //! What is monitored: a policy, and how the work on it is divided among workers and threads.
-ghost use Rattle.std.specs.Prelude.{◌≡◌, ◌≤◌};
+ghost use Rattle.std.specs.Prelude.{◌≡◌, ◌≤◌, Err};
 ghost use Rattle.monitor_main.specs.Limits.{max_threads};
 
 use crate::checked_policy::CheckedPolicy;
+use crate::division::Division;
+use crate::refusal::Refusal;
 use mfotl_sig::Signature;
 use slice_strategy::{Change, Strategy};
 use worker_pool::Plan;
@@ -19,6 +21,31 @@ pub struct Task {
 }
 
 impl Task {
+    /// The task of a policy, the work on which is divided so, among so many threads.
+    pub fn new(checked: CheckedPolicy, division: Division, threads: u32) -> Task
+        requires few { threads ≤ max_threads }
+        ensures checked { result.checked ≡ checked }
+        ensures first { result.first ≡ division.first }
+        ensures changes { result.changes ≡ division.changes }
+        ensures threads { result.threads ≡ threads }
+    {
+        let Division { first, changes } = division;
+        Task {
+            checked,
+            first,
+            changes,
+            threads,
+        }
+    }
+
+    /// No task, since the division of the work on this policy is refused.
+    pub fn refused(checked: CheckedPolicy, refusal: Refusal) -> Result<Task, Refusal>
+        ensures { result ≡ Err refusal }
+    {
+        drop(checked);
+        Err(refusal)
+    }
+
     /// What a log is read with, and what is done with it.
     pub fn into_parts(self) -> (Signature, Plan)
         ensures sig { result.0 ≡ self.checked.sig }

@@ -1,6 +1,6 @@
 use Rattle.std.proofs.lemmas.Result.{err_from_is_err_and}
 use Rattle.monitor_main.proofs.DivisionLemmas.{ready_by}
-use Rattle.monitor_main.proofs.StopLemmas.{changes_stop, run_stops, strategy_stops, task_loaded}
+use Rattle.monitor_main.proofs.StopLemmas.{division_loaded, division_stops, run_stops}
 use Rattle.monitor_main.proofs.loading.load_task.Goals as goal
 
 pub returns-in_err-checked-clause-refused : goal.returns-in_err-checked-clause-refused
@@ -8,29 +8,29 @@ returns-in_err-checked-clause-refused g c =
     let p = err_from_is_err_and c.from_residual.result c.from_residual.ensures.1 in
     rw (p.1, p.2) (run_stops c.in_err-checked.ensures.refused)
 
-pub returns-in_err-first-clause-refused : goal.returns-in_err-first-clause-refused
-returns-in_err-first-clause-refused g c =
-    let p = err_from_is_err_and c.from_residual-in_err-first.result c.from_residual-in_err-first.ensures.1 in
-    rw (p.1, p.2)
-    (strategy_stops _ c.in_ok-checked.ensures.ok c.in_err-first.ensures.inside c.in_err-first.ensures.gives)
-
-pub returns-in_err-changes-clause-refused : goal.returns-in_err-changes-clause-refused
-returns-in_err-changes-clause-refused g c =
+pub returns-in-Err-clause-refused : goal.returns-in-Err-clause-refused
+returns-in-Err-clause-refused g c =
     let r = c.in_ok-checked.ensures in
-    let p = err_from_is_err_and c.from_residual-in_err-changes.result c.from_residual-in_err-changes.ensures.1 in
-    rw (p.1, p.2) (changes_stop _ r.ok c.in_ok-first.ensures.gives r.files r.later _ c.in_err-changes.ensures.asks
-    c.in_err-changes.ensures.refused)
+    rw c.refused.ensures (division_stops _ r.ok r.files r.later _ c.in-Err.ensures.refused)
 
-pub returns-clause-ok : goal.returns-clause-ok
-returns-clause-ok g c =
+pub returns-in-Ok-clause-ok : goal.returns-in-Ok-clause-ok
+returns-in-Ok-clause-ok g c =
     let r = c.in_ok-checked.ensures in
-    let changes = c.in_ok-changes.ensures in
-    task_loaded _ r.ok c.in_ok-first.ensures.gives r.files r.later _ changes.asks _ changes.ok
+    rw c.new.ensures.checked (division_loaded _ r.ok r.files r.later _ c.in-Ok.ensures.ok)
 
-pub returns-clause-ready : goal.returns-clause-ready
-returns-clause-ready g c =
-    ready_by c.in_ok-checked.ensures.core c.in_ok-checked.ensures.variables
-    (c.in_ok-first.ensures.sized, c.in_ok-first.ensures.workers) c.in_ok-changes.ensures.divides
+pub returns-in-Ok-clause-ready : goal.returns-in-Ok-clause-ready
+returns-in-Ok-clause-ready g c =
+    let r = c.in_ok-checked.ensures in
+    let d = c.in-Ok.ensures.divides in
+    let e = c.new.ensures in
+    ready_by (rw e.checked r.core) (rw e.checked r.variables) (rw (e.checked, e.first) d.first)
+    (rw (e.checked, e.changes) d.changes)
 
-pub returns-clause-changes : goal.returns-clause-changes
-returns-clause-changes g c = rw c.in_ok-checked.ensures.files at c.in_ok-changes.ensures.are
+pub returns-in-Ok-clause-first : goal.returns-in-Ok-clause-first
+returns-in-Ok-clause-first g c =
+    let e = c.new.ensures in rw (e.checked, e.first) c.in-Ok.ensures.ok.first
+
+pub returns-in-Ok-clause-changes : goal.returns-in-Ok-clause-changes
+returns-in-Ok-clause-changes g c =
+    let e = c.new.ensures in
+    rw (e.checked, e.changes) (rw c.in_ok-checked.ensures.files at c.in-Ok.ensures.ok.changes)

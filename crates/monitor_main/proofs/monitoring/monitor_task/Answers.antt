@@ -11,5 +11,5 @@ returns-in-Ok g c =
 pub returns-in-Err : goal.returns-in-Err
 returns-in-Err g c =
     let o = c.open.ensures in
-    log_unopened c.requires.ready.core o.files o.asks o.cause.later c.in-Err.ensures.opened
-    c.in-Err.ensures.cause.failed
+    rw c.unopened.ensures (log_unopened c.requires.ready.core o.files o.asks o.cause.later c.in-Err.ensures.opened
+    c.in-Err.ensures.cause.failed)
