@@ -34,7 +34,8 @@ given_done {Done} amid = subst (HasDone Done) (sym amid.reader_is) amid.so_far
 
 -- the lines stopped while the output failed later
 pub stops_later : (policy : Form) {r s : Reading} (start now : Option (List ℕ)) (before mid after : ℕ) (why : Stop)
-    → s ≡ r → before ≤ mid → StopsLines policy s start now mid after why → StopsLines policy r start now before after why
+    → s ≡ r → before ≤ mid → StopsLines policy s start now mid after why
+    → StopsLines policy r start now before after why
 stops_later policy start now before mid after (Log fault) is later h =
     subst (λ (shown : Reading). StopsLines policy shown start now before after (Log fault)) is h
 stops_later policy start now before mid after Read is later h = absurd h

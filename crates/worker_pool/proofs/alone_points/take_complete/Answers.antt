@@ -34,11 +34,13 @@ pub returns-in_err-take_next-clause-front : goal.returns-in_err-take_next-clause
 returns-in_err-take_next-clause-front g c core bytes start reads so_far =
     let inv = c.points.invariant in
     let here = inv.so_far core bytes start reads so_far in
-    rw (same_reading c.args.reader.now c.points.reader bytes inv.reader) at (c.in_err-take_next.ensures.front core bytes start here.0 here.1)
+    let front = c.in_err-take_next.ensures.front core bytes start here.0 here.1 in
+    rw (same_reading c.args.reader.now c.points.reader bytes inv.reader) at front
 
 pub returns-then-not-branch-clause-reader : goal.returns-then-not-branch-clause-reader
 returns-then-not-branch-clause-reader g c =
-    given_on c.args.reader.now c.points.reader c.take_next.new.reader c.points.invariant.reader c.in_ok-take_next.ensures.reader
+    given_on c.args.reader.now c.points.reader c.take_next.new.reader c.points.invariant.reader
+    c.in_ok-take_next.ensures.reader
 
 pub returns-then-not-branch-clause-ok : goal.returns-then-not-branch-clause-ok
 returns-then-not-branch-clause-ok g c core bytes start reads so_far =
@@ -48,10 +50,11 @@ returns-then-not-branch-clause-ok g c core bytes start reads so_far =
 pub returns-then-not-branch-clause-front : goal.returns-then-not-branch-clause-front
 returns-then-not-branch-clause-front g c core bytes start reads so_far =
     let here = c.points.invariant.so_far core bytes start reads so_far in
-    let is = given_on c.args.reader.now c.points.reader c.take_next.new.reader c.points.invariant.reader c.in_ok-take_next.ensures.reader in
+    let next = c.in_ok-take_next.ensures in
+    let is = given_on c.args.reader.now c.points.reader c.take_next.new.reader c.points.invariant.reader next.reader in
     let limit = ap (λ (r : Reader). r.limits.points) is in
     rw (same_reading c.args.reader.now c.take_next.new.reader bytes is) at (front_of_all (rw limit c.requires.few)
-    (c.in_ok-take_next.ensures.none (ap Ok c.if-not-branch.true) core bytes start here.0 here.1))
+    (next.none (ap Ok c.if-not-branch.true) core bytes start here.0 here.1))
 
 pub points-preserved : goal.points-preserved
 points-preserved g c =
