@@ -1,5 +1,5 @@
 -- From a demo's texts to the end of its monitoring, and from there to what is told of it.
-use Rattle.std.proofs.Common.{◌≡◌, ◌∙◌, ap, refl, ℕ, List, [], Option, arith}
+use Rattle.std.proofs.Common.{◌≡◌, ◌∙◌, ap, refl, ℕ, List, Option, arith}
 use Rattle.std.specs.Prelude.{Result, Ok, Err, false}
 use Rattle.mon_outside.specs.Sink.{Appends, AppendsFront}
 use Rattle.log_reader.specs.DemoTexts.{changes_text, log_text, policy_text, signature_text}
@@ -8,8 +8,7 @@ use Rattle.log_reader.specs.declared.fault.LogFault.{LogFault}
 use Rattle.log_reader.specs.declared.fault.LogFault.TheVariants as log
 use Rattle.worker_pool.specs.declared.end.End.TheVariants.{Finished, LogEnds}
 use Rattle.monitor_main.specs.declared.{refusal.Refusal.Refusal, refusal.Refusal.TheVariants.Log}
-use Rattle.monitor_main.specs.declared.{refusal.Refusal.TheVariants.Memory}
-use Rattle.monitor_main.specs.Answer.{demo_answer, demo_ended, demo_line, log_reading, refused}
+use Rattle.monitor_main.specs.Answer.{demo_answer, demo_ended, demo_line, log_reading}
 use Rattle.monitor_main.specs.{CheckedPolicies.Fails, CheckedPolicies.IsInside, Decisions.ComesTo, DemoRuns.EndsDemo}
 use Rattle.monitor_main.specs.{LogRuns.IsOutputFault, Refusals.log_refusal}
 use Rattle.monitor_main.specs.Tasks.{◌>>=◌, CheckedPolicy, Division, Task, demo_task, divided_texts, division_by}

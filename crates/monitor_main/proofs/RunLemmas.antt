@@ -24,7 +24,6 @@ use Rattle.worker_pool.specs.Texts.{tally_on, text_on, violated_on}
 use Rattle.worker_pool.specs.{Policies.IsCoreOf, Effects.Effect}
 use Rattle.worker_pool.specs.Endings.{EndsBy, FollowsLog, WritesAll}
 use Rattle.worker_pool.specs.declared.{end.End.End, end.End.TheVariants.Finished, end.End.TheVariants.LogEnds}
-use Rattle.worker_pool.specs.declared.end.End.TheVariants as end
 use Rattle.monitor_main.specs.Decisions.{ComesTo, Ends, FailsInLog, Finishes, HasCauses, MonitorsLog, Refuses}
 use Rattle.log_reader.proofs.GrowthLemmas.{front_stays}
 use Rattle.worker_pool.proofs.{LogTimes.read_never_falls, TallyLemmas.violations_counted, PointLemmas.first_text}

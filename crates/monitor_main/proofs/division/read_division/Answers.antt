@@ -1,4 +1,4 @@
-use Rattle.std.proofs.{Common.[], Common.refl, lemmas.Result.err_from_is_err_and}
+use Rattle.std.proofs.{Common.[], lemmas.Result.err_from_is_err_and}
 use Rattle.monitor_main.specs.Tasks.{changes_in, strategy_in}
 use Rattle.monitor_main.proofs.DivisionLemmas.{changes_fail, strategy_fails}
 use Rattle.monitor_main.proofs.division.read_division.Goals as goal
