@@ -1,4 +1,5 @@
 //! Cases of logs.
+ghost use Rattle.std.specs.Prelude.{◌<◌};
 
 use crate::readers::signature_of;
 use crate::stop::Stop;
@@ -100,16 +101,47 @@ fn told_in_pieces(
     }
     let bytes = bytes_of(alloc, log)?;
     let mut reader = LogReader::new(alloc, signature, Limits::standard());
+    told_by(alloc, &mut reader, bytes.as_slice(), size)
+}
+
+// What the reader tells of a log in pieces of so many bytes, and the most bytes that it held behind one.
+fn told_by(
+    alloc: Global,
+    reader: &mut LogReader<'_>,
+    log: &[u8],
+    size: usize,
+) -> Result<String, Stop>
+    requires { 0 < size }
+{
     let mut told = String::new(alloc);
+    let most = put_pieces(alloc, &mut told, reader, log, size)?;
+    reader.finish();
+    put_points(alloc, &mut told, reader)?;
+    put_held(alloc, &mut told, most)?;
+    Ok(told)
+}
+
+fn put_held(alloc: Global, told: &mut String, most: usize) -> Result<(), Stop> {
+    put_word(told, format!(in alloc; "held {most}")?.as_str())?;
+    Ok(())
+}
+
+// Puts the time-points of each piece, and gives the most bytes that the reader held behind one.
+fn put_pieces(
+    alloc: Global,
+    told: &mut String,
+    reader: &mut LogReader<'_>,
+    log: &[u8],
+    size: usize,
+) -> Result<usize, Stop>
+    requires { 0 < size }
+{
     let mut most = 0usize;
-    for piece in bytes.chunks(size) {
-        put_piece(alloc, &mut told, &mut reader, piece)?;
+    for piece in log.chunks(size) {
+        put_piece(alloc, told, reader, piece)?;
         most = most.max(reader.held());
     }
-    reader.finish();
-    put_points(alloc, &mut told, &mut reader)?;
-    put_word(&mut told, format!(in alloc; "held {most}")?.as_str())?;
-    Ok(told)
+    Ok(most)
 }
 
 // Puts the time-points up to where the reader asks for more, or a fault is shown.

@@ -83,6 +83,23 @@ fn read_file(alloc: Global, cursor: &mut Cursor<'_>, head: &str) -> Result<Named
     })
 }
 
+// Puts a word behind others.
+fn put_word(alloc: Global, words: &mut Vec<String>, word: &str) -> Result<(), CaseFault> {
+    let word = String::from_str(alloc, word)?;
+    Ok(words.push(word)?)
+}
+
+// Puts the file of this head behind others.
+fn put_file(
+    alloc: Global,
+    files: &mut Vec<NamedFile>,
+    cursor: &mut Cursor<'_>,
+    head: &str,
+) -> Result<(), CaseFault> {
+    let file = read_file(alloc, cursor, head)?;
+    Ok(files.push(file)?)
+}
+
 // Puts what a line says into the case.
 fn put_line(
     alloc: Global,
@@ -95,11 +112,8 @@ fn put_line(
         "fail" => put_numbers(&mut case.fail, value),
         "fail-out" => put_numbers(&mut case.fail_out, value),
         "fail-err" => put_numbers(&mut case.fail_err, value),
-        "word" => Ok(case.words.push(String::from_str(alloc, value)?)?),
-        "file" => {
-            let file = read_file(alloc, cursor, value)?;
-            Ok(case.files.push(file)?)
-        }
+        "word" => put_word(alloc, &mut case.words, value),
+        "file" => put_file(alloc, &mut case.files, cursor, value),
         _ => Err(CaseFault::Malformed),
     }
 }
@@ -125,11 +139,11 @@ fn piece_of(line: &str) -> Result<usize, CaseFault>
     }
 }
 
-/// Reads the next case.
-pub fn read_case(alloc: Global, cursor: &mut Cursor<'_>) -> Result<Case, CaseFault> {
-    let name = value_of(text_line(cursor)?, "case")?;
-    let piece = piece_of(text_line(cursor)?)?;
-    let mut case = Case {
+// A case of this name, without words and files.
+fn empty_case(alloc: Global, name: &str, piece: usize) -> Result<Case, CaseFault>
+    requires { 0 < piece }
+{
+    Ok(Case {
         name: String::from_str(alloc, name)?,
         piece,
         fail: Vec::new(alloc),
@@ -137,13 +151,33 @@ pub fn read_case(alloc: Global, cursor: &mut Cursor<'_>) -> Result<Case, CaseFau
         fail_err: Vec::new(alloc),
         words: Vec::new(alloc),
         files: Vec::new(alloc),
-    };
+    })
+}
+
+// Puts the lines up to `end` into the case.
+fn put_lines(alloc: Global, case: &mut Case, cursor: &mut Cursor<'_>) -> Result<(), CaseFault> {
     for _ in 0..usize::MAX {
         let line = text_line(cursor)?;
         if line == "end" {
-            return Ok(case);
+            return Ok(());
         }
-        put_line(alloc, &mut case, cursor, line)?;
+        put_line(alloc, case, cursor, line)?;
     }
     Err(CaseFault::Malformed)
+}
+
+// Reads the first two lines of a case.
+fn begun(alloc: Global, cursor: &mut Cursor<'_>) -> Result<Case, CaseFault> {
+    let name = value_of(text_line(cursor)?, "case")?;
+    let piece = piece_of(text_line(cursor)?)?;
+    empty_case(alloc, name, piece)
+}
+
+/// Reads the next case.
+pub fn read_case(alloc: Global, cursor: &mut Cursor<'_>) -> Result<Case, CaseFault> {
+    let mut case = begun(alloc, cursor)?;
+    match put_lines(alloc, &mut case, cursor) {
+        Ok(()) => Ok(case),
+        Err(fault) => Err(fault),
+    }
 }

@@ -7,7 +7,7 @@ mod cursor;
 use case::{Case, CaseFault, read_case};
 use cursor::Cursor;
 use mon_outside::{MemInputs, MemSink, OpenGate};
-use monitor_main::run;
+use monitor_main::{Status, run};
 use std::alloc::Global;
 use std::io;
 use std::io::{BufWriter, Read, Write};
@@ -25,6 +25,21 @@ fn print_bytes<W: Write>(out: &mut W, heading: &str, bytes: &[u8]) -> io::Result
     writeln!(out, "{heading} {length}")?;
     out.write_all(bytes)?;
     out.write_all(b"\n")
+}
+
+// Prints what a run answered.
+fn print_answer<W: Write>(
+    out: &mut W,
+    name: &str,
+    status: Status,
+    text: &[u8],
+    errors: &[u8],
+) -> io::Result<()> {
+    let code = status.code();
+    writeln!(out, "case {name}")?;
+    writeln!(out, "status {code}")?;
+    print_bytes(out, "out", text)?;
+    print_bytes(out, "err", errors)
 }
 
 // Runs a case and prints its answer.
@@ -47,12 +62,13 @@ fn answer<R: Threads + Wait + Sync, W: Write>(
         &mut errors,
         &OpenGate,
     );
-    let name = case.name.as_str();
-    let code = status.code();
-    writeln!(out, "case {name}")?;
-    writeln!(out, "status {code}")?;
-    print_bytes(out, "out", text.written())?;
-    print_bytes(out, "err", errors.written())
+    print_answer(
+        out,
+        case.name.as_str(),
+        status,
+        text.written(),
+        errors.written(),
+    )
 }
 
 // Answers case after case, up to one that is malformed.
@@ -76,20 +92,31 @@ fn answer_all<R: Threads + Wait + Sync, W: Write>(
     Ok(None)
 }
 
-// Answers standard input.
-fn answer_input<R: Threads + Wait + Sync>(threads: &R, rt: HostRuntime) -> io::Result<ExitCode> {
+// All of standard input.
+fn read_input(rt: HostRuntime) -> io::Result<Vec<u8>> {
     let mut cases = Vec::new(rt.alloc());
     rt.stdin().read_to_end(&mut cases)?;
-    let mut out = BufWriter::new(rt.alloc(), rt.stdout())?;
-    let malformed = answer_all(threads, rt.alloc(), cases.as_slice(), &mut out);
-    out.flush()?;
-    match malformed? {
+    Ok(cases)
+}
+
+// The status of all cases, with a line for one that is malformed.
+fn tell_malformed(rt: HostRuntime, malformed: Option<usize>) -> io::Result<ExitCode> {
+    match malformed {
         Some(line) => {
             eprintln!(rt; "line {line}: no case is written so")?;
             Ok(ExitCode::from(2))
         }
         None => Ok(ExitCode::SUCCESS),
     }
+}
+
+// Answers standard input.
+fn answer_input<R: Threads + Wait + Sync>(threads: &R, rt: HostRuntime) -> io::Result<ExitCode> {
+    let cases = read_input(rt)?;
+    let mut out = BufWriter::new(rt.alloc(), rt.stdout())?;
+    let malformed = answer_all(threads, rt.alloc(), cases.as_slice(), &mut out);
+    out.flush()?;
+    tell_malformed(rt, malformed?)
 }
 
 fn main(rt: HostRuntime) -> io::Result<ExitCode> {

@@ -1,8 +1,9 @@
 //! Indexes, and the operations by them.
-ghost use Rattle.std.specs.Prelude.{◌≡◌, ◌<◌};
+ghost use Rattle.std.specs.Prelude.{◌≡◌, ◌<◌, ◌∷◌, [], IfOk, IsTrue};
+ghost use Rattle.mfotl_model.specs.Tables.{all_among};
 
-use crate::tables::{X, Y, first, key, one, put, second, twos};
-use relations::{Columns, Steps, Table};
+use crate::tables::{X, Y, first, key, one, put, put_table, second, twos};
+use relations::{Columns, Index, Steps, Table};
 use std::alloc::{AllocError, Global};
 use std::marker::Brand;
 use std::sync::ledger::{Blank, Ledger};
@@ -25,14 +26,56 @@ fn put_counted<L: Ledger>(alloc: Global, told: &mut Vec<u8>, blank: Blank) -> Re
     matches(alloc, &[], 2, &mut steps, told)
 }
 
+// A table's rows by what they have in y.
+fn by_y(alloc: Global, table: &Table) -> Result<Index, AllocError>
+    requires inside { IsTrue (all_among (1 ∷ []) table.now.columns) }
+    ensures columns { IfOk result (λ index. index.columns ≡ table.now.columns) }
+    ensures key_columns { IfOk result (λ index. index.key_columns ≡ 1 ∷ []) }
+{
+    table.index(alloc, Columns::from_slice(alloc, &[Y])?)
+}
+
+// A table over x and y, joined with one over y and z.
+fn put_joined<L: Ledger>(
+    alloc: Global,
+    left: &Table,
+    right: &Table,
+    steps: &mut Steps<L>,
+    told: &mut Vec<u8>,
+) -> Result<(), AllocError>
+    requires left { left.now.columns ≡ 0 ∷ 1 ∷ [] }
+    requires right { right.now.columns ≡ 1 ∷ 2 ∷ [] }
+{
+    let index = by_y(alloc, right)?;
+    put_table(told, "join by an index", left.join_by(alloc, &index, steps))
+}
+
 fn joined<L: Ledger>(
     alloc: Global,
     steps: &mut Steps<L>,
     told: &mut Vec<u8>,
 ) -> Result<(), AllocError> {
-    let index = second(alloc)?.index(alloc, Columns::from_slice(alloc, &[Y])?)?;
-    let table = first(alloc)?.join_by(alloc, &index, steps)?;
-    put(told, "join by an index", table.rows())
+    let (left, right) = (first(alloc)?, second(alloc)?);
+    put_joined(alloc, &left, &right, steps, told)
+}
+
+// A table over x and y without what one over y has.
+fn put_antijoined<L: Ledger>(
+    alloc: Global,
+    left: &Table,
+    right: &Table,
+    steps: &mut Steps<L>,
+    told: &mut Vec<u8>,
+) -> Result<(), AllocError>
+    requires left { left.now.columns ≡ 0 ∷ 1 ∷ [] }
+    requires right { right.now.columns ≡ 1 ∷ [] }
+{
+    let index = by_y(alloc, right)?;
+    put_table(
+        told,
+        "antijoin by an index",
+        left.antijoin_by(alloc, &index, steps),
+    )
 }
 
 fn antijoined<L: Ledger>(
@@ -40,9 +83,14 @@ fn antijoined<L: Ledger>(
     steps: &mut Steps<L>,
     told: &mut Vec<u8>,
 ) -> Result<(), AllocError> {
-    let index = key(alloc)?.index(alloc, Columns::from_slice(alloc, &[Y])?)?;
-    let table = first(alloc)?.antijoin_by(alloc, &index, steps)?;
-    put(told, "antijoin by an index", table.rows())
+    let (left, right) = (first(alloc)?, key(alloc)?);
+    put_antijoined(alloc, &left, &right, steps, told)
+}
+
+// These rows over x and y, by what they have in y.
+fn pairs_by_y(alloc: Global, rows: &[(i64, i64)]) -> Result<Index, AllocError> {
+    let table = twos(alloc, &[X, Y], rows)?;
+    by_y(alloc, &table)
 }
 
 // The rows that have the value in y.
@@ -53,8 +101,7 @@ fn matches<L: Ledger>(
     steps: &mut Steps<L>,
     told: &mut Vec<u8>,
 ) -> Result<(), AllocError> {
-    let table = twos(alloc, &[X, Y], rows)?;
-    let index = table.index(alloc, Columns::from_slice(alloc, &[Y])?)?;
+    let index = pairs_by_y(alloc, rows)?;
     let key = one(alloc, value)?;
     put(told, "matches", index.matches(&key, steps))
 }

@@ -1,7 +1,7 @@
 //! The operations on tables.
-ghost use Rattle.std.specs.Prelude.{◌≡◌, ◌∷◌, [], OnOk};
+ghost use Rattle.std.specs.Prelude.{◌≡◌, ◌∷◌, [], IfOk, OnOk};
 
-use crate::tables::{X, Y, first, key, named, put, second, twos};
+use crate::tables::{X, Y, first, key, named, put, put_table, second, twos};
 use mfotl_model::{Comparison, Sign, Term, Value};
 use relations::{Columns, Table};
 use std::alloc::{AllocError, Global};
@@ -19,13 +19,13 @@ pub fn put_cases(alloc: Global, told: &mut Vec<u8>) -> Result<(), AllocError> {
 }
 
 fn join(alloc: Global, told: &mut Vec<u8>) -> Result<(), AllocError> {
-    let table = first(alloc)?.join(alloc, &second(alloc)?)?;
-    put(told, "join", table.rows())
+    let (left, right) = (first(alloc)?, second(alloc)?);
+    put_table(told, "join", left.join(alloc, &right))
 }
 
 fn antijoin(alloc: Global, told: &mut Vec<u8>) -> Result<(), AllocError> {
-    let table = first(alloc)?.antijoin(alloc, &key(alloc)?)?;
-    put(told, "antijoin", table.rows())
+    let (left, right) = (first(alloc)?, key(alloc)?);
+    put_table(told, "antijoin", left.antijoin(alloc, &right))
 }
 
 fn project(alloc: Global, told: &mut Vec<u8>) -> Result<(), AllocError> {
@@ -40,9 +40,8 @@ fn union_with_itself(alloc: Global, told: &mut Vec<u8>) -> Result<(), AllocError
 }
 
 fn union(alloc: Global, told: &mut Vec<u8>) -> Result<(), AllocError> {
-    let other = twos(alloc, &[X, Y], &[(3, 4), (2, 9)])?;
-    let both = first(alloc)?.union(alloc, &other)?;
-    put(told, "union", both.rows())
+    let (left, right) = (first(alloc)?, twos(alloc, &[X, Y], &[(3, 4), (2, 9)])?);
+    put_table(told, "union", left.union(alloc, &right))
 }
 
 // A comparison of x with a number.
@@ -57,12 +56,22 @@ fn x_is(sign: Sign, number: i64) -> Comparison
     }
 }
 
-// The rows whose x is above 3 and isn't 7.
-fn select(alloc: Global, told: &mut Vec<u8>) -> Result<(), AllocError> {
+// The rows whose x is above 3.
+fn above_3(alloc: Global) -> Result<Table, AllocError>
+    ensures { IfOk result (λ table. table.columns ≡ 0 ∷ 1 ∷ []) }
+{
     let table = twos(alloc, &[X, Y], &[(2, 0), (3, 0), (4, 0), (7, 0)])?;
-    let above = table.select(alloc, &x_is(Sign::Greater, 3), true)?;
-    let others = above.select(alloc, &x_is(Sign::Equal, 7), false)?;
-    put(told, "select", others.rows())
+    table.select(alloc, &x_is(Sign::Greater, 3), true)
+}
+
+// Those of them whose x isn't 7.
+fn select(alloc: Global, told: &mut Vec<u8>) -> Result<(), AllocError> {
+    let above = above_3(alloc)?;
+    put_table(
+        told,
+        "select",
+        above.select(alloc, &x_is(Sign::Equal, 7), false),
+    )
 }
 
 fn inserts(alloc: Global, told: &mut Vec<u8>) -> Result<(), AllocError> {

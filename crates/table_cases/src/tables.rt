@@ -74,3 +74,13 @@ pub fn put(told: &mut Vec<u8>, call: &str, rows: &[Row]) -> Result<(), AllocErro
     push_rows(told, rows)?;
     Ok(told.push(b'\n')?)
 }
+
+/// Puts the line of a table that a call gave.
+pub fn put_table(
+    told: &mut Vec<u8>,
+    call: &str,
+    table: Result<Table, AllocError>,
+) -> Result<(), AllocError> {
+    let table = table?;
+    put(told, call, table.rows())
+}
