@@ -256,15 +256,18 @@ impl Ord for Row {
 
     ghost matches_eq = { λ x y. refl };
 
-    // Rows are compared often, and most have two values: where the first ones are unequal integers, nothing is called.
+    // Rows are compared often, and most begin with unequal integers: then nothing is called.
     fn cmp(&self, other: &Row) -> Ordering {
-        if let (Held::Two([Value::Int(left), _]), Held::Two([Value::Int(right), _])) = (
-            &self.held,
-            &other.held,
-        ) {
-            if left != right {
+        match (&self.held, &other.held) {
+            (Held::One([Value::Int(left)]), Held::One([Value::Int(right)])) => {
                 return left.cmp(right);
             }
+            (Held::Two([Value::Int(left), _]), Held::Two([Value::Int(right), _])) => {
+                if left != right {
+                    return left.cmp(right);
+                }
+            }
+            _ => {}
         }
         by_size(self, other)
     }
