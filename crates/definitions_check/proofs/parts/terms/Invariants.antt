@@ -1,6 +1,6 @@
 use Rattle.std.proofs.Common.{◌≡◌, ◌++◌, length, map}
 use Rattle.definitions_check.specs.Values.{spelled_term}
-use Rattle.definitions_check.proofs.formula.terms.Given as goal
+use Rattle.definitions_check.proofs.parts.terms.Given as goal
 
 abbrev pub invariant-loop-turn : goal.invariant-loop-turn
 invariant-loop-turn l = record {
