@@ -6,12 +6,12 @@ use Rattle.std.proofs.{lemmas.List.Folds.list_all-append, lemmas.Grind.common_st
 use Rattle.std.specs.{BTreeMap.is_at, List.list_all, Option.IfSome}
 use Rattle.mfotl_model.specs.{Values.row_cmp, Tables.has_row, Tables.part}
 use Rattle.mfotl_model.specs.declared.value.Value.{Value}
-use Rattle.eval_since.specs.{PackedRows.packed_rows, Groups.times_at}
+use Rattle.row_times.specs.{PackedRows.packed_rows, Groups.times_at}
 use Rattle.eval_since.specs.declared.contents.Dated.{Dated}
-use Rattle.eval_since.specs.Times.{ArePast, added, recent}
+use Rattle.row_times.specs.Times.{ArePast, added, recent}
 use Rattle.eval_since.specs.Windows.{Placed, IsThinned, names, Rising, NotAfter, Fresh, FindsOldTimes, Bounded}
 use Rattle.relations.proofs.{MapLemmas.either, TestLemmas.all_push, TestLemmas.all_weaker}
-use Rattle.eval_since.proofs.{GroupLemmas.recent_none, WindowLemmas.recent_twice, WindowLemmas.past_added}
+use Rattle.row_times.proofs.{GroupLemmas.recent_none, TwiceLemmas.recent_twice, TwiceLemmas.past_added}
 
 pub thin_more : (hi x : ℕ) (old cur new : List ℕ) (b : Bool) → IsThinned hi x old cur
     → new ≡ cond b (recent hi x cur) cur → IsThinned hi x old new

@@ -1,13 +1,5 @@
 pub mod PreviousLemmas
 pub mod SinceLemmas
-pub mod TimesLemmas
-pub mod RowKeyLemmas
-pub mod GroupLemmas
-pub mod GroupRowLemmas
-pub mod OneRowLemmas
-pub mod FewLemmas
-pub mod FilledLemmas
-pub mod ForgetLemmas
 pub mod KeyLemmas
 pub mod WindowLemmas
 pub mod ExpireLemmas

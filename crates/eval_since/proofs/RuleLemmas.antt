@@ -2,9 +2,9 @@
 use Rattle.std.proofs.Common.{◌≡◌, ℕ, ◌-◌, ◌≤◌, Bool, false, List, [], ◌∷◌, length, sym, subst, arith, inl, inr}
 use Rattle.std.proofs.{lemmas.Bool.cases_lt, lemmas.Bool.Decides.nat_tests, lemmas.List.length_push}
 use Rattle.std.specs.List.Sorted.{IsStrictlyIncreasing}
-use Rattle.eval_since.specs.Times.{ArePast, added, recent}
+use Rattle.row_times.specs.Times.{ArePast, added, recent}
 use Rattle.eval_since.specs.Windows.{IsThinned}
-use Rattle.eval_since.proofs.TimesLemmas.{increasing_added, increasing_tail, recent_all, recent_front}
+use Rattle.row_times.proofs.TimesLemmas.{increasing_added, increasing_tail, recent_all, recent_front}
 
 pub increasing_none : IsStrictlyIncreasing []
 increasing_none = λ k l. absurd (omega arith)

@@ -4,10 +4,11 @@ use Rattle.std.proofs.Common.{length, sym, ◌∙◌, arith}
 use Rattle.std.specs.{BTreeMap.is_at, Option.is_some, List.Sorted.IsStrictlyIncreasing}
 use Rattle.mfotl_model.specs.{Intervals.in_interval, Values.row_cmp}
 use Rattle.mfotl_model.specs.declared.{interval.Interval.Interval, value.Value.Value}
-use Rattle.eval_since.specs.{PackedRows.packed_rows, Groups.NoneEmpty, Groups.times_at}
-use Rattle.eval_since.specs.declared.{contents.Dated.Dated, packed.PackedRows.PackedRows}
+use Rattle.row_times.specs.{PackedRows.packed_rows, Groups.NoneEmpty, Groups.times_at}
+use Rattle.eval_since.specs.declared.{contents.Dated.Dated}
+use Rattle.row_times.specs.declared.{packed_rows.PackedRows.PackedRows}
 use Rattle.mfotl_model.specs.Tables.{all_sized, has_row, part}
-use Rattle.eval_since.specs.Times.{ArePast, added, reaches}
+use Rattle.row_times.specs.Times.{ArePast, added, reaches}
 use Rattle.eval_since.specs.Windows.{Alone, Ascending, Sized, Placed, Past, IsThinned, Covered, Rising, NotAfter, Fresh}
 use Rattle.eval_since.specs.Windows.{Keeps}
 use Rattle.eval_since.proofs.ExpireLemmas.{past_held, past_joined, past_thinned, placed_thinned, covered_push}

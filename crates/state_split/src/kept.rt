@@ -1,7 +1,7 @@
 //! Rows, alone or with what is kept for them.
 ghost use Rattle.std.specs.Prelude.{◌≡◌, IfOk};
 
-use eval_since::KeptRow;
+use row_times::KeptRow;
 use eval_until::{KeptMarks, KeptStart};
 use mfotl_model::Row;
 use std::alloc::{AllocError, Global};
