@@ -1,5 +1,5 @@
 -- Changes of a group's rows, one after another.
-use Rattle.std.proofs.Common.{arith, ◌≡◌, ℕ, ◌+◌, ◌<◌, Bool, true, cond, ◌&&◌, nat_eq, List, [], ◌∷◌, length, get_or}
+use Rattle.std.proofs.Common.{arith, ◌≡◌, ℕ, ◌+◌, ◌<◌, Bool, true, cond, ◌&&◌, nat_eq, List, ◌∷◌, length, get_or}
 use Rattle.std.proofs.Common.{take}
 use Rattle.std.specs.{BTreeMap.is_at, Cmp.eq_by_cmp_equiv}
 use Rattle.mfotl_model.specs.{Tables.has_row, Values.row_cmp, Values.row_total}

@@ -1,7 +1,6 @@
 use Rattle.std.proofs.lemmas.Grind.{common_steps}
 use Rattle.std.proofs.Common.{◌≡◌, Some, None, arith, refl}
 use Rattle.std.specs.Map.{lookup}
-use Rattle.row_times.specs.Times.{reaches}
 use Rattle.row_times.proofs.RowKeyLemmas.{key_found}
 use Rattle.row_times.proofs.keyed.KeyedRows.reaches.Goals as goal
 
