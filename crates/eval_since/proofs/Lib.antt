@@ -4,7 +4,6 @@ pub mod KeyLemmas
 pub mod WindowLemmas
 pub mod ExpireLemmas
 pub mod WithinLemmas
-pub mod RuleLemmas
 pub mod StepLemmas
 pub mod FollowsLemmas
 pub mod RecalledLemmas

@@ -16,7 +16,8 @@ use Rattle.row_times.specs.declared.{kept_row.KeptRow.KeptRow}
 use Rattle.eval_since.specs.declared.{contents.Dated.Dated}
 use Rattle.relations.proofs.{MapLemmas.either, TestLemmas.all_weaker}
 use Rattle.eval_since.proofs.DatedLemmas.{all_each, names_own, past_all}
-use Rattle.eval_since.proofs.{ExpireLemmas.bounded_is, RuleLemmas.increasing_none}
+use Rattle.eval_since.proofs.{ExpireLemmas.bounded_is}
+use Rattle.row_times.proofs.RuleLemmas.{increasing_none}
 use Rattle.eval_since.proofs.RecalledLemmas.{each_row, put_is, times_each, times_sized}
 
 -- each row of a window's data keeps what the window keeps

@@ -12,9 +12,9 @@ use Rattle.row_times.specs.Times.{ArePast, added, reaches}
 use Rattle.eval_since.specs.Windows.{Alone, Ascending, Sized, Placed, Past, IsThinned, Covered, Rising, NotAfter, Fresh}
 use Rattle.eval_since.specs.Windows.{Keeps}
 use Rattle.eval_since.proofs.ExpireLemmas.{past_held, past_joined, past_thinned, placed_thinned, covered_push}
-use Rattle.eval_since.proofs.ExpireLemmas.{not_after_later, not_after_push}
+use Rattle.eval_since.proofs.ExpireLemmas.{increasing_thinned, not_after_later, not_after_push}
 use Rattle.relations.proofs.{QueueLemmas.rises_push, TableRows.all_rows, TableRows.lacks_other}
-use Rattle.eval_since.proofs.RuleLemmas.{increasing_more, increasing_none, increasing_thinned, one_more}
+use Rattle.row_times.proofs.RuleLemmas.{increasing_more, increasing_none, one_more}
 use Rattle.eval_since.proofs.WithinLemmas.{reaches_step, reaches_thinned}
 
 -- the left operand's table was applied, and the right operand's rows were added, at the time `now`

@@ -1,5 +1,6 @@
 pub mod TimesLemmas
 pub mod TwiceLemmas
+pub mod RuleLemmas
 pub mod RowKeyLemmas
 pub mod GroupLemmas
 pub mod GroupRowLemmas

@@ -3,24 +3,19 @@ use Rattle.std.proofs.Common.{◌≡◌, ℕ, ◌-◌, ◌≤◌, Bool, false, L
 use Rattle.std.proofs.{lemmas.Bool.cases_lt, lemmas.Bool.Decides.nat_tests, lemmas.List.length_push}
 use Rattle.std.specs.List.Sorted.{IsStrictlyIncreasing}
 use Rattle.row_times.specs.Times.{ArePast, added, recent}
-use Rattle.eval_since.specs.Windows.{IsThinned}
 use Rattle.row_times.proofs.TimesLemmas.{increasing_added, increasing_tail, recent_all, recent_front}
 
 pub increasing_none : IsStrictlyIncreasing []
 increasing_none = λ k l. absurd (omega arith)
 
 -- without the old ones
-increasing_recent : (hi x : ℕ) (ys : List ℕ) → IsStrictlyIncreasing ys → IsStrictlyIncreasing (recent hi x ys)
+pub increasing_recent : (hi x : ℕ) (ys : List ℕ) → IsStrictlyIncreasing ys → IsStrictlyIncreasing (recent hi x ys)
 unfolding recent
 increasing_recent hi x [] h = h
 increasing_recent hi x (y ∷ ys) h = elim (cases_lt hi (x - y)) [
   | inl far ↦ grind (arith, recent_front, increasing_tail, increasing_recent hi x ys (increasing_tail y ys h))
   | inr near ↦ subst IsStrictlyIncreasing (sym (recent_all hi x (y ∷ ys) h (λ _. near))) h
 ]
-
-pub increasing_thinned : (hi x : ℕ) (old new : List ℕ) → IsThinned hi x old new → IsStrictlyIncreasing old
-    → IsStrictlyIncreasing new
-increasing_thinned hi x old new h k = grind (arith, increasing_recent)
 
 -- with one more
 pub increasing_more : (bounded : Bool) (ys : List ℕ) (x : ℕ) → IsStrictlyIncreasing ys → ArePast x ys
