@@ -5,8 +5,10 @@ use Rattle.std.specs.Option.{unwrap_or}
 use Rattle.mfotl_model.specs.{Exact.AllExact, Exact.View, FreeVariables.fv, Log.times, Satisfaction.Valuation}
 use Rattle.mfotl_model.specs.{Satisfaction.time_at}
 use Rattle.mfotl_model.specs.declared.{interval.Interval.Interval, value.Value.Value}
-use Rattle.eval_since.specs.{Recalled.times_kept, SinceBefore.since_before, SinceView.Follows, SinceView.SinceOf}
-use Rattle.eval_since.specs.{Times.reaches, WindowView.kept_times}
+use Rattle.row_times.specs.{KeptTimes.times_kept}
+use Rattle.eval_since.specs.{SinceBefore.since_before, SinceView.Follows, SinceView.SinceOf}
+use Rattle.row_times.specs.{Times.reaches}
+use Rattle.eval_since.specs.{WindowView.kept_times}
 use Rattle.eval_until.specs.{Entries.met_by, Recalled.entries_kept, Recalled.starts_kept, Starts.start_of}
 use Rattle.eval_until.specs.{UntilBefore.until_before, UntilData.setting_of, UntilData.until_of}
 use Rattle.eval_until.specs.UntilView.{Follows as FollowsUntil, FollowsLeft, UntilOf}

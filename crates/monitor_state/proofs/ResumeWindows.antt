@@ -6,8 +6,10 @@ use Rattle.mfotl_model.specs.{Exact.Covers, Exact.View, FreeVariables.fv, Log.ti
 use Rattle.mfotl_model.specs.Satisfaction.{Valuation, time_at, truth_at}
 use Rattle.mfotl_model.specs.declared.{interval.Interval.Interval, value.Value.Value}
 use Rattle.eval_since.proofs.RecalledLemmas.{recalls_is}
-use Rattle.eval_since.specs.{Recalled.recalls, Recalled.times_for, SinceBefore.since_before, SinceData.FollowsData}
-use Rattle.eval_since.specs.{SinceData.setting_of, SinceView.SinceOf, Times.reaches}
+use Rattle.eval_since.specs.{Recalled.recalls, SinceBefore.since_before, SinceData.FollowsData}
+use Rattle.row_times.specs.{KeptTimes.times_for}
+use Rattle.eval_since.specs.{SinceData.setting_of, SinceView.SinceOf}
+use Rattle.row_times.specs.{Times.reaches}
 use Rattle.eval_until.specs.{Entries.met_by, Recalled.entries_kept, Recalled.starts_kept, Starts.start_of}
 use Rattle.eval_until.specs.{UntilBefore.until_before, UntilData.setting_of as until_setting_of, UntilData.until_of}
 use Rattle.eval_until.specs.UntilView.{Follows as FollowsUntil, FollowsLeft, UntilOf, took_all}

@@ -3,7 +3,7 @@ use Rattle.std.specs.Prelude.{◌≡◌, ℕ, cond, nat_lt, List, [], ◌∷◌,
 use Rattle.mfotl_model.specs.declared.value.Value.{Value}
 use Rattle.eval_bool.specs.BoolData.{JoinRule, OrRule, join_of, or_of}
 use Rattle.eval_since.specs.PreviousData.{PreviousRule, previous_of}
-use Rattle.eval_since.specs.Recalled.{times_kept}
+use Rattle.row_times.specs.KeptTimes.{times_kept}
 use Rattle.eval_since.specs.SinceData.{KeepsRule, setting_of}
 use Rattle.eval_since.specs.SinceView.{SinceOf}
 use Rattle.eval_since.specs.WindowView.{kept_times}

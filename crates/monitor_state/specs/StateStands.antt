@@ -14,9 +14,9 @@ use Rattle.mfotl_model.specs.declared.value.Value.{Value}
 use Rattle.eval_bool.specs.BoolData.{kept_tables}
 use Rattle.eval_bool.specs.declared.recalled.JoinData.{JoinData}
 use Rattle.eval_bool.specs.declared.recalled.OrData.{OrData}
-use Rattle.eval_since.specs.Recalled.{times_for}
+use Rattle.row_times.specs.KeptTimes.{times_for}
 use Rattle.eval_since.specs.SinceBefore.{since_before}
-use Rattle.eval_since.specs.Times.{reaches}
+use Rattle.row_times.specs.Times.{reaches}
 use Rattle.eval_since.specs.declared.recalled.PrevData.{PrevData}
 use Rattle.eval_since.specs.declared.recalled.SinceData.{SinceData}
 use Rattle.eval_until.specs.Recalled.{starts_kept}

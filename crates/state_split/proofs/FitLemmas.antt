@@ -5,8 +5,8 @@ use Rattle.std.specs.List.{AllByRecursion}
 use Rattle.mfotl_model.proofs.LogicLemmas.{same_number}
 use Rattle.mfotl_model.specs.{FreeVariables.fv, Tables.all_sized}
 use Rattle.mfotl_model.specs.declared.value.Value.{Value}
-use Rattle.eval_since.specs.Recalled.{times_kept}
-use Rattle.eval_since.specs.declared.recalled.KeptRow.{KeptRow}
+use Rattle.row_times.specs.KeptTimes.{times_kept}
+use Rattle.row_times.specs.declared.kept_row.KeptRow.{KeptRow}
 use Rattle.eval_until.specs.{Keeping.Sized, Recalled.entries_kept, Recalled.starts_kept}
 use Rattle.eval_until.specs.declared.{entries.Entry.Entry, recalled.KeptMarks.KeptMarks}
 use Rattle.monitorable.specs.CoreForms.{CoreForm, meaning, And, Since, Until}
