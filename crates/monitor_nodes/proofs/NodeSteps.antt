@@ -29,7 +29,7 @@ use Rattle.monitor_nodes.specs.{PreviousFeeding.PreviousTakes, NextFeeding.NextT
 use Rattle.monitor_nodes.specs.{FilterFeeding.FilterTakes, Quantified.IsWithout, Quantified.Quantifies, Stacks.Pops}
 use Rattle.monitor_nodes.specs.{Stacks.PopsMany, Views.reached}
 use Rattle.eval_until.specs.{NextView.NextOf, UntilView.UntilOf}
-use Rattle.monitor_nodes.specs.Operands.{adds_none, is_keyed, children, is_window, left_operand, operands}
+use Rattle.monitor_nodes.specs.Operands.{adds_none, is_keyed, is_window, left_operand, operands}
 use Rattle.monitor_nodes.specs.Operands.{window_operands}
 use Rattle.monitor_nodes.specs.declared.filter.FilterState.{FilterState}
 use Rattle.monitor_nodes.specs.Stands.{ChildrenStand, IsConstant, IsConjunction, JoinStands}
