@@ -2,7 +2,7 @@
 use Rattle.std.proofs.Common.{subst, ◌≡◌, Bool, true, false, ◌&&◌, cond, List, [], ◌∷◌, ◌++◌, length, map, refl, sym}
 use Rattle.std.proofs.Common.{ap, ◌∙◌, ◌⊎◌, arith, append_assoc, inl, inr}
 use Rattle.relations.proofs.InsideLemmas.{joined_within}
-use Rattle.mfotl_model.specs.{Exact.View, FreeVariables.fv, Log.times, Satisfaction.Valuation, Satisfaction.sat}
+use Rattle.mfotl_model.specs.{Exact.View, FreeVariables.fv, Satisfaction.Valuation, Satisfaction.sat}
 use Rattle.mfotl_model.specs.{Tables.TableOf, Tables.has}
 use Rattle.mfotl_model.specs.declared.interval.Interval.{Interval}
 use Rattle.eval_bool.specs.{OrView.OrOf, JoinView.JoinOf, JoinView.children_of}

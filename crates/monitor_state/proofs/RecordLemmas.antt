@@ -2,7 +2,7 @@
 use Rattle.std.proofs.Common.{◌≡◌, ℕ, ◌+◌, ◌-◌, ◌<◌, ◌≤◌, Bool, min, nat_le, List, [], length, map, sym, subst, ap, ap₂}
 use Rattle.std.proofs.Common.{◌∙◌, arith, slice_index}
 use Rattle.std.specs.Option.{unwrap_or}
-use Rattle.mfotl_model.specs.{Exact.AllExact, Exact.View, FreeVariables.fv, Log.times, Satisfaction.Valuation}
+use Rattle.mfotl_model.specs.{Exact.AllExact, Exact.View, FreeVariables.fv, Satisfaction.Valuation}
 use Rattle.mfotl_model.specs.{Satisfaction.time_at}
 use Rattle.mfotl_model.specs.declared.{interval.Interval.Interval, value.Value.Value}
 use Rattle.eval_since.specs.{Recalled.times_kept, SinceBefore.since_before, SinceView.Follows, SinceView.SinceOf}

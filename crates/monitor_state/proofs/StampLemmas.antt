@@ -1,5 +1,5 @@
 -- The timestamps that a state knows, as it tells them.
-use Rattle.std.proofs.Common.{◌≡◌, ℕ, zero, suc, ◌+◌, ◌-◌, cond, nat_eq, Some, None, List, ◌++◌}
+use Rattle.std.proofs.Common.{◌≡◌, ℕ, zero, suc, ◌-◌, cond, nat_eq, Some, None, List, ◌++◌}
 use Rattle.std.proofs.Common.{drop, arith}
 use Rattle.std.specs.Prelude.{option_to_list}
 use Rattle.std.proofs.lemmas.List.{drop-drop}
