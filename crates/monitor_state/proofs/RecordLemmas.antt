@@ -2,7 +2,7 @@
 use Rattle.std.proofs.Common.{◌≡◌, ℕ, ◌+◌, ◌-◌, ◌<◌, ◌≤◌, Bool, min, nat_le, List, [], length, map, sym, subst, ap, ap₂}
 use Rattle.std.proofs.Common.{◌∙◌, arith, slice_index}
 use Rattle.std.specs.Option.{unwrap_or}
-use Rattle.mfotl_model.specs.{Exact.AllExact, Exact.View, FreeVariables.fv, Log.times, Satisfaction.Valuation}
+use Rattle.mfotl_model.specs.{Exact.AllExact, Exact.View, FreeVariables.fv, Satisfaction.Valuation}
 use Rattle.mfotl_model.specs.{Satisfaction.time_at}
 use Rattle.mfotl_model.specs.declared.{interval.Interval.Interval, value.Value.Value}
 use Rattle.row_times.specs.{KeptTimes.times_kept}
@@ -15,11 +15,12 @@ use Rattle.eval_until.specs.UntilView.{Follows as FollowsUntil, FollowsLeft, Unt
 use Rattle.monitorable.specs.CoreForms.{CoreForm, meaning}
 use Rattle.relations.proofs.KeptLemmas.{filled_back}
 use Rattle.relations.specs.KeptRows.{kept_for, list_for}
-use Rattle.monitor_state.proofs.{ExactLemmas.reached_within, MarkLemmas.found_behind, MarkLemmas.met_is}
-use Rattle.monitor_state.proofs.{SinceSteps.free_operand}
-use Rattle.monitor_state.specs.{Recording.SinceRecorded, Recording.UntilRecorded, SinceNode.IsSinceState}
-use Rattle.monitor_state.specs.{SinceNode.SinceStandsAt, StateStands.SinceDataStands, StateStands.UntilDataStands}
-use Rattle.monitor_state.specs.{UntilNode.IsUntilState, UntilNode.UntilStandsAt, Views.Dates, Views.reached}
+use Rattle.monitor_nodes.proofs.{ExactLemmas.reached_within, SinceSteps.free_operand}
+use Rattle.monitor_state.proofs.{MarkLemmas.found_behind, MarkLemmas.met_is}
+use Rattle.monitor_nodes.specs.{SinceNode.IsSinceState, SinceNode.SinceStandsAt, UntilNode.IsUntilState}
+use Rattle.monitor_nodes.specs.{UntilNode.UntilStandsAt, Views.Dates, Views.reached}
+use Rattle.monitor_state.specs.{Recording.SinceRecorded, Recording.UntilRecorded, StateStands.SinceDataStands}
+use Rattle.monitor_state.specs.{StateStands.UntilDataStands}
 use Rattle.monitor_state.specs.declared.{state.SinceKept.SinceKept, state.UntilKept.UntilKept}
 
 pub since_recorded : (view : View) (p : ℕ) (i : Interval) (f g : CoreForm) (s : SinceOf) (k : SinceKept)

@@ -15,15 +15,17 @@ use Rattle.eval_until.specs.{UntilBefore.until_before, UntilData.setting_of as u
 use Rattle.eval_until.specs.UntilView.{Follows as FollowsUntil, FollowsLeft, UntilOf, took_all}
 use Rattle.monitorable.specs.CoreForms.{CoreForm, meaning, Since, Until}
 use Rattle.relations.specs.{KeptRows.list_for, Pushed.StandFrom, Pushed.left_holds}
-use Rattle.monitor_state.proofs.{ExactLemmas.exact_tell, ExactLemmas.reached_within, MarkLemmas.met_is}
-use Rattle.monitor_state.proofs.{RegionLemmas.near_part, SinceSteps.free_operand, SinceSteps.left_tell}
+use Rattle.monitor_nodes.proofs.{ExactLemmas.exact_tell, ExactLemmas.reached_within, RegionLemmas.near_part}
+use Rattle.monitor_nodes.proofs.{SinceSteps.free_operand, SinceSteps.left_tell}
+use Rattle.monitor_state.proofs.{MarkLemmas.met_is}
 use Rattle.monitor_state.proofs.ResumeTimes.{known_from, last_dates, rest_dates, rest_is, rest_size}
 use Rattle.monitor_state.specs.Resuming.{Reach, SinceResumed, SuitsEvaluation, UntilResumed}
-use Rattle.monitor_state.specs.{SinceNode.IsSinceState, SinceNode.SinceStandsAt, Stamps.stamps, StateRules.SinceKeeps}
-use Rattle.monitor_state.specs.{StateRules.UntilKeeps, StateStands.SinceDataStands, StateStands.UntilDataStands}
-use Rattle.monitor_state.specs.{UntilNode.IsUntilState, UntilNode.UntilStandsAt}
+use Rattle.monitor_nodes.specs.{SinceNode.IsSinceState, SinceNode.SinceStandsAt, Stamps.stamps, UntilNode.IsUntilState}
+use Rattle.monitor_nodes.specs.{UntilNode.UntilStandsAt}
+use Rattle.monitor_state.specs.{StateRules.SinceKeeps, StateRules.UntilKeeps, StateStands.SinceDataStands}
+use Rattle.monitor_state.specs.{StateStands.UntilDataStands}
 use Rattle.monitor_state.specs.StateTimes.{KeptTimes, time_before, times_from}
-use Rattle.monitor_state.specs.Views.{Dates, Tells, reached}
+use Rattle.monitor_nodes.specs.Views.{Dates, Tells, reached}
 use Rattle.monitor_state.specs.declared.{state.SinceKept.SinceKept, state.UntilKept.UntilKept}
 
 module _ (k : KeptTimes) (i : Interval) (f g : CoreForm) (old new : SinceOf) (d : SinceKept)

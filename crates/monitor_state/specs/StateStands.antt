@@ -28,9 +28,10 @@ use Rattle.eval_until.specs.declared.recalled.NextData.{NextData}
 use Rattle.eval_until.specs.declared.recalled.UntilData.{UntilData}
 use Rattle.monitorable.specs.CoreForms.{CoreForm, meaning, Not, And, Or, Previous, Next, Since, Until}
 use Rattle.relations.specs.KeptRows.{list_for}
-use Rattle.monitor_state.specs.Nodes.{is_negated, left_operand, nodes_of, operands}
+use Rattle.monitor_nodes.specs.Operands.{is_negated, left_operand, operands}
+use Rattle.monitor_state.specs.Nodes.{nodes_of}
 use Rattle.monitor_state.specs.StateTimes.{earliest}
-use Rattle.monitor_state.specs.Views.{Dates, Tells, reached}
+use Rattle.monitor_nodes.specs.Views.{Dates, Tells, reached}
 use Rattle.monitor_state.specs.declared.state.NodeData.{NodeData}
 use Rattle.monitor_state.specs.declared.state.NodeData.TheVariants as kept
 use Rattle.monitor_state.specs.declared.state.State.{State}

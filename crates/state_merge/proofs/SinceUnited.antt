@@ -12,10 +12,10 @@ use Rattle.row_times.specs.{Times.reaches}
 use Rattle.row_times.specs.declared.kept_row.KeptRow.{KeptRow}
 use Rattle.monitorable.specs.CoreForms.{CoreForm, meaning}
 use Rattle.relations.specs.KeptRows.{kept_for}
+use Rattle.monitor_nodes.specs.{Views.Dates, Views.Tells}
 use Rattle.monitor_state.specs.{JoinedRows.RowsUnion, JoinedRows.times_joined, StateInside.WindowInside}
 use Rattle.monitor_state.specs.{StateLaws.seen_in, StateRules.SinceKeeps, StateStands.SinceDataStands}
-use Rattle.monitor_state.specs.{StateTimes.KeptTimes, StateTimes.time_before, StateUnions.SinceUnion, Views.Dates}
-use Rattle.monitor_state.specs.{Views.Tells}
+use Rattle.monitor_state.specs.{StateTimes.KeptTimes, StateTimes.time_before, StateUnions.SinceUnion}
 use Rattle.monitor_state.specs.declared.state.SinceKept.{SinceKept}
 use Rattle.monitor_state.specs.declared.state.WindowData.TheVariants as window
 use Rattle.state_merge.proofs.JoinedLemmas.{pooled, times_right}

@@ -12,7 +12,8 @@ use Rattle.eval_until.specs.declared.{entries.Entry.Entry, recalled.KeptMarks.Ke
 use Rattle.monitorable.specs.CoreForms.{CoreForm, meaning, And, Since, Until}
 use Rattle.relations.proofs.KeptLemmas.{each_kept, found_kept}
 use Rattle.relations.specs.KeptRows.{RowsAscend}
-use Rattle.monitor_state.specs.{Nodes.left_operand, StateStands.marks_kept, StateTimes.KeptTimes, StateTimes.times_from}
+use Rattle.monitor_nodes.specs.{Operands.left_operand}
+use Rattle.monitor_state.specs.{StateStands.marks_kept, StateTimes.KeptTimes, StateTimes.times_from}
 use Rattle.monitor_state.specs.StateRules.{NodeKeeps, NodesKeep, WindowKeeps}
 use Rattle.monitor_state.specs.declared.{state.NodeData.NodeData, state.WindowData.WindowData}
 use Rattle.monitor_state.specs.declared.state.NodeData.TheVariants as kept

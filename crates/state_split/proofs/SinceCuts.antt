@@ -10,8 +10,9 @@ use Rattle.row_times.specs.{Times.reaches}
 use Rattle.row_times.specs.declared.kept_row.KeptRow.{KeptRow}
 use Rattle.monitorable.specs.CoreForms.{CoreForm, meaning}
 use Rattle.monitor_state.specs.StateCuts.{SinceCut, cut_rows, lies}
+use Rattle.monitor_nodes.specs.{Views.Dates, Views.Tells}
 use Rattle.monitor_state.specs.{StateInside.WindowInside, StateRules.SinceKeeps, StateStands.SinceDataStands}
-use Rattle.monitor_state.specs.{StateTimes.KeptTimes, StateTimes.time_before, Views.Dates, Views.Tells}
+use Rattle.monitor_state.specs.{StateTimes.KeptTimes, StateTimes.time_before}
 use Rattle.monitor_state.specs.declared.state.SinceKept.{SinceKept}
 use Rattle.monitor_state.specs.declared.state.WindowData.TheVariants as window
 use Rattle.state_split.proofs.RowCuts.{all_filtered, all_mapped, all_unmapped, ascend_filtered, keys_filtered}

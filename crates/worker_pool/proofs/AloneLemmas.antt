@@ -10,8 +10,9 @@ use Rattle.mfotl_model.specs.declared.{event.TimePoint.TimePoint, value.Value.Va
 use Rattle.monitorable.proofs.TableLaw.{tables_satisfy}
 use Rattle.monitorable.specs.{CoreForms.CoreForm, CoreForms.meaning, Fragment.IsMonitorable, Laws.whole_view}
 use Rattle.monitor_state.proofs.LawProofs.{lone_worker_steps}
+use Rattle.monitor_nodes.specs.{Steps.News}
 use Rattle.monitor_state.specs.{Beginnings.Begins, MonitorView.MonitorOf, MonitorView.monitor_of, Stands.StateOf}
-use Rattle.monitor_state.specs.{Stands.Stands, Steps.News, Steps.Steps}
+use Rattle.monitor_state.specs.{Stands.Stands, Steps.Steps}
 use Rattle.monitor_state.specs.declared.monitor.Monitor.{Monitor}
 use Rattle.relations.specs.Tables.{IsTable}
 use Rattle.rescale_core.proofs.LogLemmas.{settled_more, settled_within, times_more, viol_final}

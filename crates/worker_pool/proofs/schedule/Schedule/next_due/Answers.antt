@@ -1,5 +1,5 @@
 use Rattle.std.proofs.Common.{◌≡◌, ap, refl, rules, subst, true}
-use Rattle.monitor_state.proofs.OrderingLemmas.{taken_one}
+use Rattle.monitor_nodes.proofs.OrderingLemmas.{taken_one}
 use Rattle.slice_strategy.specs.declared.change.Change.{Change}
 use Rattle.worker_pool.specs.Changes.{DueTells, IsDue}
 use Rattle.worker_pool.proofs.ChangeLemmas.{first_is}
