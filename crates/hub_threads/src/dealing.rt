@@ -61,7 +61,9 @@ fn deal<W: Work>(
     Ok((groups, Vec::new(alloc)))
 }
 
-/// The hands in groups for at most so many threads, those that main serves, and a bell for each group's thread.
+/// The hands in groups for at most so many threads, those that main serves, and a bell for each group's thread. Hand k
+/// goes to thread k mod threads, and no group is without a hand; main's are all of them where there is no thread. An
+/// error is that of refused memory, and the hands are let go.
 pub fn deal_with_bells<W: Work>(
     alloc: Global,
     hands: Vec<Hand<W>>,
