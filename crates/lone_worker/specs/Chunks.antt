@@ -1,5 +1,5 @@
 -- A log that is read in chunks: why a run stops, and what one chunk more is.
-use Rattle.std.specs.Prelude.{◌≡◌, ℕ, true, List, [], ◌++◌, Option, Result, IfErr, IfSome, OnOk}
+use Rattle.std.specs.Prelude.{◌≡◌, ℕ, true, List, [], ◌++◌, Option, Result, IfErr, OnOk}
 use Rattle.std.specs.Prelude.{Ok, Err}
 use Rattle.std.specs.Io.KnownBytes.{IsAtEnd}
 use Rattle.mon_outside.specs.Causes.{Rose}

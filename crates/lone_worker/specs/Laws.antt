@@ -1,5 +1,5 @@
 -- Laws and examples of what is counted.
-use Rattle.std.specs.Prelude.{◌≡◌, List, [], ◌∷◌, nat_lt}
+use Rattle.std.specs.Prelude.{◌≡◌, [], ◌∷◌, nat_lt}
 use Rattle.mfotl_model.specs.Formulas.{Form}
 use Rattle.log_reader.specs.Limits.{standard}
 use Rattle.log_reader.specs.Readings.{Reading}

@@ -1,5 +1,5 @@
 -- The verdicts on the first positions of a log, and what stops their lines.
-use Rattle.std.specs.Prelude.{◌≡◌, ◌≤◌, ℕ, List, Option, map}
+use Rattle.std.specs.Prelude.{◌≤◌, ℕ, List, Option, map}
 use Rattle.std.specs.List.{range_with_len}
 use Rattle.mon_outside.specs.Causes.{Rose}
 use Rattle.mon_outside.specs.Sink.{AppendsFront}

@@ -1,5 +1,5 @@
-//! The monitoring of a log by main alone, where the plan has one worker and no changes: each time-point is monitored as
-//! soon as it is read, and its lines are written at once.
+//! The monitoring of a log by one worker alone: each time-point is monitored as soon as it is read, and its lines are
+//! written at once.
 ghost use Rattle.std.specs.Prelude.{◌≡◌, ◌<◌, ◌≤◌, IsTrue, [], length};
 ghost use Rattle.monitorable.specs.CoreForms.{CoreForm};
 ghost use Rattle.monitorable.specs.Cores.{core_form};

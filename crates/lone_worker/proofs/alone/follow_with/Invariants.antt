@@ -1,4 +1,4 @@
-use Rattle.std.proofs.Common.{◌≡◌, ◌≤◌, ◌<◌, [], length}
+use Rattle.std.proofs.Common.{◌≡◌, ◌≤◌, ◌<◌, length}
 use Rattle.mon_outside.specs.Views.{inputs_view, sink_view}
 use Rattle.monitorable.specs.CoreForms.{CoreForm}
 use Rattle.lone_worker.specs.{Alone.HasTakenNone, FollowingAlone.HasComeAlone, FollowingAlone.alone_state}
