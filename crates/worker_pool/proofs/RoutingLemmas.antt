@@ -5,7 +5,7 @@ use Rattle.mfotl_model.specs.Formulas.{Form}
 use Rattle.mfotl_model.specs.declared.event.TimePoint.{TimePoint}
 use Rattle.log_reader.specs.Given.{Fails}
 use Rattle.log_reader.specs.Progress.{Progress, next_answer, read}
-use Rattle.log_reader.specs.Readers.{ForEach, Reader, Reads, progress}
+use Rattle.log_reader.specs.Readers.{ForEach, Reader, progress}
 use Rattle.log_reader.specs.Readings.{Reading}
 use Rattle.log_reader.specs.declared.fault.LogFault.{LogFault}
 use Rattle.log_reader.specs.declared.fault.LogFault.TheVariants as log

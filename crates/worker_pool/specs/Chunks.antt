@@ -1,35 +1,20 @@
 -- How far the monitoring of a log has come that is read in chunks.
-use Rattle.std.specs.Prelude.{◌≡◌, ℕ, true, List, [], ◌++◌, Option, Result, IfErr, IfSome, OnOk}
-use Rattle.std.specs.Prelude.{Ok, Err}
-use Rattle.std.specs.Io.KnownBytes.{IsAtEnd}
-use Rattle.mon_outside.specs.Causes.{Rose}
+use Rattle.std.specs.Prelude.{◌≡◌, ℕ, List, Option, IfSome}
 use Rattle.mon_outside.specs.Inputs.{Consumes}
-use Rattle.mon_outside.specs.Sink.{Appends}
-use Rattle.mfotl_model.specs.Formulas.{Form}
 use Rattle.mfotl_model.specs.declared.event.TimePoint.{TimePoint}
 use Rattle.mfotl_sig.specs.Preds.{PredOf}
 use Rattle.monitorable.specs.CoreForms.{CoreForm}
 use Rattle.log_reader.specs.Limits.{standard}
-use Rattle.log_reader.specs.Readers.{ForEach, Reader, Reads, progress}
-use Rattle.log_reader.specs.Readings.{Fault, Reading, accepted}
-use Rattle.log_reader.specs.declared.fault.LogFault.{LogFault}
-use Rattle.log_reader.specs.declared.fault.LogFault.TheVariants as log
+use Rattle.log_reader.specs.Readers.{Reader, Reads, progress}
+use Rattle.log_reader.specs.Readings.{accepted}
 use Rattle.rescale_core.specs.Moving.{IsDriverOf}
 use Rattle.rescale_core.specs.Worlds.{World}
 use Rattle.rescale_core.specs.declared.driver.Driver.{Driver}
 use Rattle.slice_strategy.specs.declared.change.Change.{Change}
 use Rattle.lone_worker.specs.Courses.{HasDone}
-use Rattle.lone_worker.specs.Effects.{Effect}
-use Rattle.lone_worker.specs.Texts.{text_on}
-use Rattle.lone_worker.specs.Verdicts.{IsOutputStop}
-use Rattle.lone_worker.specs.declared.end.End.{End}
-use Rattle.lone_worker.specs.declared.end.End.TheVariants.{Finished, LogEnds, ReadFailed, SinkFailed}
-use Rattle.lone_worker.specs.declared.stop.Stop.{Stop}
-use Rattle.lone_worker.specs.declared.stop.Stop.TheVariants.{Log, Read, Sink, Memory}
 use Rattle.lone_worker.specs.declared.tally.Tally.{Tally}
 use Rattle.worker_pool.specs.Changes.{entries_by, left_by}
 use Rattle.worker_pool.specs.Writing.{Writes}
-use Rattle.lone_worker.specs.declared.end.End.TheVariants as end
 
 -- ---- the time-points of the bytes so far
 

@@ -1,25 +1,20 @@
 -- What main has read and written, by the world of its driver.
-use Rattle.std.specs.Prelude.{◌≡◌, ◌≤◌, ℕ, List, [], ◌∷◌, ◌++◌, Option, map}
-use Rattle.std.specs.List.{range_with_len}
-use Rattle.mon_outside.specs.Causes.{Rose}
-use Rattle.mon_outside.specs.Sink.{Appends, AppendsFront}
+use Rattle.std.specs.Prelude.{◌≡◌, ℕ, List, [], ◌∷◌, ◌++◌, Option, map}
+use Rattle.mon_outside.specs.Sink.{Appends}
 use Rattle.mfotl_model.specs.Strategies.{Strategy}
-use Rattle.mfotl_model.specs.VerdictText.{VerdictOf}
 use Rattle.mfotl_model.specs.declared.event.TimePoint.{TimePoint}
 use Rattle.monitorable.specs.CoreForms.{CoreForm}
 use Rattle.rescale_core.specs.Laws.{EmitsVerdicts}
 use Rattle.rescale_core.specs.Moving.{IsDriverOf, Reaches}
 use Rattle.rescale_core.specs.Moving.StepKind.{Reads}
 use Rattle.rescale_core.specs.Waiting.{HasRoom}
-use Rattle.rescale_core.specs.Workers.{IsFor, MayFollow, settled_in}
-use Rattle.rescale_core.specs.Worlds.{World, first_world, spot_in, verdict_on}
+use Rattle.rescale_core.specs.Workers.{IsFor, MayFollow}
+use Rattle.rescale_core.specs.Worlds.{World, first_world, spot_in}
 use Rattle.rescale_core.specs.declared.driver.Driver.{Driver}
 use Rattle.rescale_core.specs.declared.item.Entry.{Entry}
 use Rattle.rescale_core.specs.declared.item.Entry.TheVariants.{Point, Change as ToStrategy}
-use Rattle.verdict_merge.specs.declared.rows.Verdict.{Verdict}
+use Rattle.lone_worker.specs.Verdicts.{Falls, all_verdicts, seen}
 use Rattle.lone_worker.specs.Texts.{lines, tally_of}
-use Rattle.lone_worker.specs.declared.stop.Stop.{Stop}
-use Rattle.lone_worker.specs.declared.stop.Stop.TheVariants.{Log, Read, Sink, Memory}
 use Rattle.lone_worker.specs.declared.tally.Tally.{Tally}
 use Rattle.worker_pool.specs.Changes.{points_in}
 

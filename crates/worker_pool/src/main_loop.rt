@@ -26,7 +26,8 @@ use std::alloc::AllocError;
 use std::sync::Wait;
 use std::thread::Threads;
 
-impl<'o, 's, R: Wait, G: Gate, I: Inputs, O: Sink> MainTask<Worker> for MainLoop<'o, 's, R, G, I, O> {
+impl<'o, 's, R: Wait, G: Gate, I: Inputs, O: Sink> MainTask<Worker>
+    for MainLoop<'o, 's, R, G, I, O> {
     ghost use Rattle.std.specs.Prelude.{◌≡◌, ◌≤◌, ◌<◌, [], IsTrue, OnOk, length};
     ghost use Rattle.log_reader.specs.Progress.{nothing_fed};
     ghost use Rattle.log_reader.specs.Readers.{Reads, progress};
