@@ -1,8 +1,10 @@
 -- Hands that are dealt round by round.
-use Rattle.std.proofs.Common.{◌≡◌, ◌∙◌, ap, ap₂, sym, refl, ℕ, zero, suc, ◌+◌, ◌*◌, ◌-◌, ◌/◌, ◌%◌, ◌<◌, ◌≤◌, ◌++◌, List, []}
-use Rattle.std.proofs.Common.{◌∷◌, length, arith, Bool, true, false, map, get_or, take, drop, set, Vec, nat_eq, add-one}
+use Rattle.std.proofs.Common.{◌≡◌, ◌∙◌, ap, ap₂, sym, refl, ℕ, zero, suc, ◌+◌, ◌*◌, ◌-◌, ◌/◌, ◌%◌, ◌<◌, ◌≤◌, ◌++◌, List}
+use Rattle.std.proofs.Common.{[], ◌∷◌, length, arith, Bool, true, false, map, get_or, take, drop, set, Vec, nat_eq}
+use Rattle.std.proofs.Common.{add-one}
 use Rattle.std.proofs.{lemmas.Bool.eqb-true, lemmas.Bool.eqb-false, lemmas.Nat.mod-mul-add, lemmas.Nat.mod_below}
-use Rattle.std.proofs.lemmas.List.{ext_get_or, get_or-map, get_or-set_same, get_or-set_other, length-drop, map-append, map-set}
+use Rattle.std.proofs.lemmas.List.{ext_get_or, get_or-map, get_or-set_same, get_or-set_other, length-drop}
+use Rattle.std.proofs.lemmas.List.{map-append, map-set}
 use Rattle.std.proofs.lemmas.List.FromFn.{get_or-map-range_with_len, length-map-range_with_len, map-range_with_len_more}
 use Rattle.std.specs.{Global.Global, List.range_with_len}
 use mathlib.Core.Option.{some}

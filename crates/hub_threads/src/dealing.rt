@@ -51,7 +51,8 @@ fn deal<W: Work>(
     ensures dealt { IfOk result (λ r. AreDealt (cells_of hands.items) threads r.0.items r.1.items) }
     ensures groups { IfOk result (λ r.
         (hub : Hub W W.Item W.Out W.Seed) → AreHandsOf hub hands.items → AreGroupsOf hub r.0.items) }
-    ensures own { IfOk result (λ r. (hub : Hub W W.Item W.Out W.Seed) → AreHandsOf hub hands.items → AreHandsOf hub r.1.items) }
+    ensures own { IfOk result (λ r.
+        (hub : Hub W W.Item W.Out W.Seed) → AreHandsOf hub hands.items → AreHandsOf hub r.1.items) }
 {
     let count = hands.len().min(threads as usize);
     if count == 0 {
@@ -72,7 +73,8 @@ pub fn deal_with_bells<W: Work>(
     ensures dealt { IfOk result (λ r. AreDealt (cells_of hands.items) threads r.0.items r.1.items) }
     ensures groups { IfOk result (λ r.
         (hub : Hub W W.Item W.Out W.Seed) → AreHandsOf hub hands.items → AreGroupsOf hub r.0.items) }
-    ensures own { IfOk result (λ r. (hub : Hub W W.Item W.Out W.Seed) → AreHandsOf hub hands.items → AreHandsOf hub r.1.items) }
+    ensures own { IfOk result (λ r.
+        (hub : Hub W W.Item W.Out W.Seed) → AreHandsOf hub hands.items → AreHandsOf hub r.1.items) }
 {
     let (groups, own) = deal(alloc, hands, threads)?;
     let bells = Bells::new(alloc, groups.len())?;

@@ -109,9 +109,9 @@ where
     (answer, task)
 }
 
-/// Does main's task beside a thread for each group of hands, and ends each thread. There is to be a bell for each group,
-/// as `deal_with_bells` makes them: a group without one is let go. Main gets the hands of a thread that couldn't be
-/// started.
+/// Does main's task beside a thread for each group of hands, and ends each thread. There is to be a bell for each
+/// group, as `deal_with_bells` makes them: a group without one is let go. Main gets the hands of a thread that couldn't
+/// be started.
 pub fn beside<R: Threads + Wait + Sync, W: Work + Send, G: Gate + Sync, T: MainTask<W>>(
     context: &LoopContext<'_, R, W, G>,
     groups: Vec<Vec<Hand<W>>>,

@@ -106,7 +106,8 @@ module _ {Done : List TimePoint → Type 0} {start : Progress} {reader : Reader}
         let count : length front ≡ n + 1 =
         length-append (take n ps) (point ∷ []) ∙ ap (λ k. k + 1) amid.so_far.counted in
         let one : take next.given ps ≡ front = ap (λ k. take k ps) one_given ∙ ap (take (n + 1)) split
-        ∙ take-append-le (n + 1) front given.rest (omega (arith, count)) ∙ take_all (n + 1) front (omega (arith, count)) in
+        ∙ take-append-le (n + 1) front given.rest (omega (arith, count))
+        ∙ take_all (n + 1) front (omega (arith, count)) in
         record {
           reads = reads;
           reader_is = ap (λ (r : Reader). progress r start.bytes) after

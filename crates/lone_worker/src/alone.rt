@@ -95,8 +95,9 @@ fn follow_with<R: Wait, I: Inputs, O: Sink>(
     unreachable!()
 }
 
-/// Monitors the open file as a log by one worker of all rows, and answers what was counted of its lines. Each time-point
-/// is taken as soon as it is read, and its lines are written at once; what was written is handed on before each read.
+/// Monitors the open file as a log by one worker of all rows, and answers what was counted of its lines. Each
+/// time-point is taken as soon as it is read, and its lines are written at once; what was written is handed on before
+/// each read.
 pub fn follow_alone<R: Wait, I: Inputs, O: Sink>(
     rt: &R,
     alloc: Global,

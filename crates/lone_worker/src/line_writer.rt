@@ -64,8 +64,8 @@ impl LineWriter {
         }
     }
 
-    /// Writes the line of a verdict, and counts it. At an error a part of the line may be written, and the count is of no
-    /// use.
+    /// Writes the line of a verdict, and counts it. At an error a part of the line may be written, and the count is of
+    /// no use.
     pub fn write<O: Sink>(&mut self, verdict: &Verdict, out: &mut O) -> Result<(), Stop>
         ensures ok { OnOk result (Appends (O.written out.old) (O.written out.new) (line_of (seen verdict.now))) }
         ensures counts { OnOk result ((verdicts : List VerdictOf) → self.old.tally ≡ tally_of verdicts

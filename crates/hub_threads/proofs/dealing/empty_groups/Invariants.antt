@@ -8,5 +8,6 @@ abbrev pub invariant-loop : goal.invariant-loop
 invariant-loop g l = record {
   count : length l.groups.items ≡ l.counter;
   none : group_cells l.groups.items ≡ dealt l.counter [];
-  hands : (hub : Hub g.row.W.Denot g.row.W-Item.Denot g.row.W-Out.Denot g.row.W-Seed.Denot) → AreGroupsOf hub l.groups.items;
+  hands : (hub : Hub g.row.W.Denot g.row.W-Item.Denot g.row.W-Out.Denot g.row.W-Seed.Denot)
+      → AreGroupsOf hub l.groups.items;
 }
