@@ -5,6 +5,7 @@ ghost use Rattle.definitions_check.specs.Values.{spelled_value};
 
 use crate::fault::CaseFault;
 use crate::formula::formula;
+use crate::line::{Line, line_of};
 use crate::values::value;
 use crate::words::{Words, natural, small_natural, split_words};
 use mfotl_model::{Db, Event, Formula, Row, TimePoint, Value};
@@ -61,13 +62,21 @@ impl CaseReader {
     // Takes a line that is not passed over.
     fn take_line(&mut self, alloc: Global, line: &[u8]) -> Result<Option<Case>, CaseFault> {
         let words = split_words(alloc, line)?;
-        let mut words = Words::new(words.as_slice());
-        let head = words.next()?;
-        if head == b"end".as_slice() {
+        self.take_words(alloc, &mut Words::new(words.as_slice()))
+    }
+
+    // Takes the words of such a line.
+    fn take_words(
+        &mut self,
+        alloc: Global,
+        words: &mut Words<'_>,
+    ) -> Result<Option<Case>, CaseFault> {
+        let head = line_of(words.next()?)?;
+        if let Line::End = head {
             words.end()?;
-            return Ok(Some(self.ended()?));
+            return self.ended();
         }
-        self.take(alloc, head, &mut words)?;
+        self.take(alloc, head, words)?;
         words.end()?;
         Ok(None)
     }
@@ -80,8 +89,8 @@ impl CaseReader {
         }
     }
 
-    // Takes a line, of this first word, that ends no case.
-    fn take(&mut self, alloc: Global, head: &[u8], words: &mut Words<'_>) -> Result<(), CaseFault> {
+    // Takes a line that ends no case.
+    fn take(&mut self, alloc: Global, head: Line, words: &mut Words<'_>) -> Result<(), CaseFault> {
         match &mut self.draft {
             Some(draft) => draft.take(alloc, head, words),
             None => {
@@ -91,27 +100,23 @@ impl CaseReader {
         }
     }
 
-    fn ended(&mut self) -> Result<Case, CaseFault> {
+    fn ended(&mut self) -> Result<Option<Case>, CaseFault> {
         match self.draft.take() {
-            Some(draft) => draft.finished(),
+            Some(draft) => Ok(Some(draft.finished()?)),
             None => Err(CaseFault::Misplaced),
         }
     }
 }
 
-// The case that begins with a line of this first word.
-fn begun(alloc: Global, head: &[u8], words: &mut Words<'_>) -> Result<Draft, CaseFault> {
+// The case that begins with such a line.
+fn begun(alloc: Global, head: Line, words: &mut Words<'_>) -> Result<Draft, CaseFault> {
     match head {
-        b"case" => {
-            let number = natural(alloc, words.next()?)?;
-            Ok(Draft {
-                number,
-                log: Vec::new(alloc),
-                formula: None,
-            })
-        }
-        b"point" | b"event" | b"formula" => Err(CaseFault::Misplaced),
-        _ => Err(CaseFault::UnknownWord),
+        Line::Case => Ok(Draft {
+            number: natural(alloc, words.next()?)?,
+            log: Vec::new(alloc),
+            formula: None,
+        }),
+        _ => Err(CaseFault::Misplaced),
     }
 }
 
@@ -132,13 +137,12 @@ impl Draft {
         }
     }
 
-    fn take(&mut self, alloc: Global, head: &[u8], words: &mut Words<'_>) -> Result<(), CaseFault> {
+    fn take(&mut self, alloc: Global, head: Line, words: &mut Words<'_>) -> Result<(), CaseFault> {
         match head {
-            b"point" => self.add_point(alloc, words),
-            b"event" => self.add_event(alloc, words),
-            b"formula" => self.set_formula(alloc, words),
-            b"case" => Err(CaseFault::Misplaced),
-            _ => Err(CaseFault::UnknownWord),
+            Line::Point => self.add_point(alloc, words),
+            Line::Event => self.add_event(alloc, words),
+            Line::Formula => self.set_formula(alloc, words),
+            Line::Case | Line::End => Err(CaseFault::Misplaced),
         }
     }
 

@@ -12,12 +12,23 @@ pub fn head(alloc: Global, number: u64, settled: usize) -> Result<Vec<u8>, Alloc
         ≡ codes "case " ++ decimal number ++ codes "\nsettled " ++ decimal settled ++ codes "\n") }
 {
     let mut text = Vec::new(alloc);
-    text.extend_from_slice(b"case ")?;
-    text.extend_from_slice(number.to_string(alloc)?.as_bytes())?;
-    text.extend_from_slice(b"\nsettled ")?;
-    text.extend_from_slice(settled.to_string(alloc)?.as_bytes())?;
+    put_number(alloc, &mut text, b"case ", number)?;
+    put_number(alloc, &mut text, b"\nsettled ", settled as u64)?;
     text.extend_from_slice(b"\n")?;
     Ok(text)
+}
+
+// Puts words and a number behind a text.
+fn put_number(
+    alloc: Global,
+    text: &mut Vec<u8>,
+    words: &[u8],
+    number: u64,
+) -> Result<(), AllocError>
+    ensures { OnOk result (text.new.items ≡ text.old.items ++ (words.now ++ decimal number)) }
+{
+    text.extend_from_slice(words)?;
+    Ok(text.extend_from_slice(number.to_string(alloc)?.as_bytes())?)
 }
 
 /// Puts the line of a position with its rows behind a text.
@@ -39,8 +50,6 @@ fn put_position(alloc: Global, text: &mut Vec<u8>, at: usize) -> Result<(), Allo
     ensures { OnOk result (text.new.items
         ≡ text.old.items ++ (codes "violations " ++ decimal at ++ codes ":")) }
 {
-    text.extend_from_slice(b"violations ")?;
-    text.extend_from_slice(at.to_string(alloc)?.as_bytes())?;
-    text.extend_from_slice(b":")?;
-    Ok(())
+    put_number(alloc, text, b"violations ", at as u64)?;
+    Ok(text.extend_from_slice(b":")?)
 }

@@ -6,8 +6,10 @@ mod answers;
 mod cases;
 mod fault;
 mod formula;
+mod line;
 mod lines;
 mod operator;
+mod parts;
 mod values;
 mod words;
 

@@ -7,8 +7,9 @@ use Rattle.mfotl_model.specs.declared.{interval.Interval.Interval, value.Value.V
 use Rattle.relations.specs.KeptRows.{RowsAscend}
 use Rattle.relations.specs.Pushed.{AreOver, StandFrom, left_holds}
 use Rattle.eval_since.specs.{LeftOperand.left_has, SinceBefore.since_before, SinceView.Follows, SinceView.SinceOf}
-use Rattle.eval_since.specs.{Times.reaches}
-use Rattle.eval_since.specs.Recalled.{recalls, times_for, times_kept}
+use Rattle.row_times.specs.{Times.reaches}
+use Rattle.eval_since.specs.Recalled.{recalls}
+use Rattle.row_times.specs.KeptTimes.{times_for, times_kept}
 use Rattle.eval_since.specs.SinceData.{FollowsData, newest_of, setting_of}
 use Rattle.eval_since.specs.WindowView.{WindowOf, kept_times, within}
 use Rattle.eval_since.specs.declared.recalled.SinceData.{SinceData}

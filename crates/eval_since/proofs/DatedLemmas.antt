@@ -8,9 +8,10 @@ use Rattle.mfotl_model.specs.{Tables.has_row, Values.row_cmp}
 use Rattle.mfotl_model.specs.declared.value.Value.{Value}
 use Rattle.relations.specs.KeptRows.{kept_for}
 use Rattle.relations.proofs.{QueueLemmas.all_own, QueueLemmas.any_with, TestLemmas.all_weaker}
-use Rattle.eval_since.specs.Recalled.{is_recalled, times_for, times_kept}
-use Rattle.eval_since.specs.Times.{ArePast}
-use Rattle.eval_since.specs.declared.recalled.KeptRow.{KeptRow}
+use Rattle.eval_since.specs.Recalled.{is_recalled}
+use Rattle.row_times.specs.KeptTimes.{times_for, times_kept}
+use Rattle.row_times.specs.Times.{ArePast}
+use Rattle.row_times.specs.declared.kept_row.KeptRow.{KeptRow}
 
 -- the rows name each time that is kept for a row
 pub names_own : (rows : List KeptRow) (v : List Value) → list_all (is_recalled rows v) (times_for rows v) ≡ true

@@ -3,15 +3,16 @@ use Rattle.std.proofs.Common.{◌≡◌, ℕ, zero, suc, ◌-◌, ◌<◌, ◌�
 use Rattle.std.proofs.Common.{◌++◌, Option, get_or, refl, arith}
 use Rattle.std.proofs.{lemmas.Bool.and_from, lemmas.Bool.Decides.nat_tests, lemmas.List.Folds.list_any-append}
 use Rattle.std.proofs.{lemmas.List.Folds.list_all-append, lemmas.Grind.common_steps}
-use Rattle.std.specs.{BTreeMap.is_at, List.list_all, Option.IfSome}
+use Rattle.std.specs.{BTreeMap.is_at, List.list_all, List.Sorted.IsStrictlyIncreasing, Option.IfSome}
 use Rattle.mfotl_model.specs.{Values.row_cmp, Tables.has_row, Tables.part}
 use Rattle.mfotl_model.specs.declared.value.Value.{Value}
-use Rattle.eval_since.specs.{PackedRows.packed_rows, Groups.times_at}
+use Rattle.row_times.specs.{PackedRows.packed_rows, Groups.times_at}
 use Rattle.eval_since.specs.declared.contents.Dated.{Dated}
-use Rattle.eval_since.specs.Times.{ArePast, added, recent}
+use Rattle.row_times.specs.Times.{ArePast, added, recent}
 use Rattle.eval_since.specs.Windows.{Placed, IsThinned, names, Rising, NotAfter, Fresh, FindsOldTimes, Bounded}
 use Rattle.relations.proofs.{MapLemmas.either, TestLemmas.all_push, TestLemmas.all_weaker}
-use Rattle.eval_since.proofs.{GroupLemmas.recent_none, WindowLemmas.recent_twice, WindowLemmas.past_added}
+use Rattle.row_times.proofs.{GroupLemmas.recent_none, RuleLemmas.increasing_recent}
+use Rattle.row_times.proofs.TwiceLemmas.{past_added, recent_twice}
 
 pub thin_more : (hi x : ℕ) (old cur new : List ℕ) (b : Bool) → IsThinned hi x old cur
     → new ≡ cond b (recent hi x cur) cur → IsThinned hi x old new
@@ -90,6 +91,10 @@ past_recent hi now x (y ∷ ys) past =
 
 pub past_thinned : (hi now x : ℕ) (old new : List ℕ) → IsThinned hi now old new → ArePast x old → ArePast x new
 past_thinned hi now x old new h past = grind (arith, past_recent)
+
+pub increasing_thinned : (hi x : ℕ) (old new : List ℕ) → IsThinned hi x old new → IsStrictlyIncreasing old
+    → IsStrictlyIncreasing new
+increasing_thinned hi x old new h k = grind (arith, increasing_recent)
 
 pub placed_thinned : (hi now : ℕ) (old new : List ℕ) → IsThinned hi now old new → old ≡ [] → new ≡ []
 placed_thinned hi now old new thin none = grind (arith, recent_none hi now)

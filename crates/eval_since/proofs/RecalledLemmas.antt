@@ -10,10 +10,11 @@ use Rattle.relations.specs.KeptRows.{RowsAscend, RowsDiffer, filled, kept_for}
 use Rattle.relations.proofs.KeptLemmas.{any_is, ascending_differ, differ_tail, each_kept, filled_back, filled_is}
 use Rattle.relations.proofs.KeptLemmas.{none_behind}
 use Rattle.relations.proofs.MapLemmas.{same_row}
-use Rattle.eval_since.specs.{Groups.hit, Groups.times_at, Times.reaches}
-use Rattle.eval_since.specs.Recalled.{first_times, put_times, recalls, times_for, times_kept}
-use Rattle.eval_since.specs.declared.recalled.KeptRow.{KeptRow}
-use Rattle.eval_since.proofs.GroupLemmas.{StandsIn, stands_tail}
+use Rattle.row_times.specs.{Groups.hit, Groups.times_at, Times.reaches}
+use Rattle.row_times.specs.KeptTimes.{first_times, times_for, times_kept}
+use Rattle.eval_since.specs.Recalled.{put_times, recalls}
+use Rattle.row_times.specs.declared.kept_row.KeptRow.{KeptRow}
+use Rattle.row_times.proofs.GroupLemmas.{StandsIn, stands_tail}
 
 -- where a row stands in one group alone, the first times found are those there
 pub first_there : (k u : List Value) (es : List (List Value × List (List Value × List ℕ)))

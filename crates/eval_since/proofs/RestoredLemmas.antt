@@ -7,13 +7,17 @@ use Rattle.mfotl_model.specs.Tables.{all_apart, all_sized, part}
 use Rattle.mfotl_model.specs.Values.{row_cmp}
 use Rattle.mfotl_model.specs.declared.value.Value.{Value}
 use Rattle.relations.specs.KeptRows.{RowsAscend, filled, kept_for}
-use Rattle.eval_since.specs.{Groups.NoneEmpty, Groups.times_at, SinceData.KeepsTimes, Times.ArePast}
-use Rattle.eval_since.specs.Recalled.{is_recalled, put_times, times_for, times_kept}
+use Rattle.row_times.specs.{Groups.NoneEmpty, Groups.times_at, Times.ArePast}
+use Rattle.eval_since.specs.{SinceData.KeepsTimes}
+use Rattle.eval_since.specs.Recalled.{is_recalled, put_times}
+use Rattle.row_times.specs.KeptTimes.{times_for, times_kept}
 use Rattle.eval_since.specs.Windows.{FindsOldTimes, Keeps, Rising, names}
-use Rattle.eval_since.specs.declared.{recalled.KeptRow.KeptRow, contents.Dated.Dated}
+use Rattle.row_times.specs.declared.{kept_row.KeptRow.KeptRow}
+use Rattle.eval_since.specs.declared.{contents.Dated.Dated}
 use Rattle.relations.proofs.{MapLemmas.either, TestLemmas.all_weaker}
 use Rattle.eval_since.proofs.DatedLemmas.{all_each, names_own, past_all}
-use Rattle.eval_since.proofs.{ExpireLemmas.bounded_is, RuleLemmas.increasing_none}
+use Rattle.eval_since.proofs.{ExpireLemmas.bounded_is}
+use Rattle.row_times.proofs.RuleLemmas.{increasing_none}
 use Rattle.eval_since.proofs.RecalledLemmas.{each_row, put_is, times_each, times_sized}
 
 -- each row of a window's data keeps what the window keeps

@@ -4,16 +4,17 @@ use Rattle.std.proofs.Common.{length, sym, ◌∙◌, arith}
 use Rattle.std.specs.{BTreeMap.is_at, Option.is_some, List.Sorted.IsStrictlyIncreasing}
 use Rattle.mfotl_model.specs.{Intervals.in_interval, Values.row_cmp}
 use Rattle.mfotl_model.specs.declared.{interval.Interval.Interval, value.Value.Value}
-use Rattle.eval_since.specs.{PackedRows.packed_rows, Groups.NoneEmpty, Groups.times_at}
-use Rattle.eval_since.specs.declared.{contents.Dated.Dated, packed.PackedRows.PackedRows}
+use Rattle.row_times.specs.{PackedRows.packed_rows, Groups.NoneEmpty, Groups.times_at}
+use Rattle.eval_since.specs.declared.{contents.Dated.Dated}
+use Rattle.row_times.specs.declared.{packed_rows.PackedRows.PackedRows}
 use Rattle.mfotl_model.specs.Tables.{all_sized, has_row, part}
-use Rattle.eval_since.specs.Times.{ArePast, added, reaches}
+use Rattle.row_times.specs.Times.{ArePast, added, reaches}
 use Rattle.eval_since.specs.Windows.{Alone, Ascending, Sized, Placed, Past, IsThinned, Covered, Rising, NotAfter, Fresh}
 use Rattle.eval_since.specs.Windows.{Keeps}
 use Rattle.eval_since.proofs.ExpireLemmas.{past_held, past_joined, past_thinned, placed_thinned, covered_push}
-use Rattle.eval_since.proofs.ExpireLemmas.{not_after_later, not_after_push}
+use Rattle.eval_since.proofs.ExpireLemmas.{increasing_thinned, not_after_later, not_after_push}
 use Rattle.relations.proofs.{QueueLemmas.rises_push, TableRows.all_rows, TableRows.lacks_other}
-use Rattle.eval_since.proofs.RuleLemmas.{increasing_more, increasing_none, increasing_thinned, one_more}
+use Rattle.row_times.proofs.RuleLemmas.{increasing_more, increasing_none, one_more}
 use Rattle.eval_since.proofs.WithinLemmas.{reaches_step, reaches_thinned}
 
 -- the left operand's table was applied, and the right operand's rows were added, at the time `now`

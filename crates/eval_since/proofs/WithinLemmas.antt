@@ -5,9 +5,10 @@ use Rattle.std.proofs.{lemmas.Bool.Decides.nat_tests, lemmas.List.Folds.list_any
 use Rattle.std.specs.{BTreeMap.is_at, Cmp.eq_by_cmp_equiv, Option.is_some}
 use Rattle.mfotl_model.specs.{Intervals.in_interval, Values.row_cmp, Values.row_total, Tables.has_row, Tables.part}
 use Rattle.mfotl_model.specs.declared.{interval.Interval.Interval, value.Value.Value}
-use Rattle.eval_since.specs.{Groups.times_at, Windows.Past, Windows.IsThinned}
+use Rattle.row_times.specs.{Groups.times_at}
+use Rattle.eval_since.specs.{Windows.Past, Windows.IsThinned}
 use Rattle.mfotl_model.proofs.TimeLemmas.{too_far}
-use Rattle.eval_since.specs.Times.{reaches, ArePast, is_new, added, recent}
+use Rattle.row_times.specs.Times.{reaches, ArePast, is_new, added, recent}
 
 -- the old times reach nothing any more
 reaches_recent : (interval : Interval) (hi now x : ℕ) (ys : List ℕ) → interval.hi ≡ Some hi → now ≤ x

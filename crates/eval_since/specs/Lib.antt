@@ -2,12 +2,6 @@ pub mod PreviousView
 pub mod LeftOperand
 pub mod SinceBefore
 pub mod SinceLaws
-pub mod Times
-pub mod HeldTimes
-pub mod RowKeys
-pub mod HashedTimes
-pub mod Groups
-pub mod PackedRows
 pub mod Windows
 pub mod WindowView
 pub mod SinceView

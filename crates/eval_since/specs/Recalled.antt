@@ -1,33 +1,18 @@
 -- The plain data of SINCE: rows with their times, and what they say of a row.
-use Rattle.std.specs.Prelude.{ℕ, Bool, ◌&&◌, cond, nat_eq, Option, None, List, [], ◌∷◌, map}
+use Rattle.std.specs.Prelude.{ℕ, Bool, ◌&&◌, cond, nat_eq, List, [], ◌∷◌}
 use Rattle.std.specs.BTreeMap.{is_at}
 use Rattle.std.specs.List.{list_any}
-use Rattle.std.specs.Option.{option_or}
 use Rattle.std.specs.Ordering.{eq_by_cmp}
 use Rattle.mfotl_model.specs.Tables.{has_row, part}
 use Rattle.mfotl_model.specs.Values.{row_cmp}
 use Rattle.mfotl_model.specs.declared.interval.Interval.{Interval}
 use Rattle.mfotl_model.specs.declared.value.Value.{Value}
-use Rattle.relations.specs.KeptRows.{filled, list_for}
-use Rattle.eval_since.specs.Times.{reaches}
-use Rattle.eval_since.specs.declared.recalled.KeptRow.{KeptRow}
+use Rattle.row_times.specs.Times.{reaches}
+use Rattle.row_times.specs.declared.kept_row.KeptRow.{KeptRow}
 
 -- whether some time that is kept with the row lies in the interval, seen from x
 abbrev pub recalls : Interval → List KeptRow → ℕ → List Value → Bool
 recalls interval rows x u = list_any (λ k. eq_by_cmp row_cmp u k.row && reaches interval k.times.items x) rows
-
--- the rows with their times, as pairs
-abbrev pub times_kept : List KeptRow → List (List Value × List ℕ)
-times_kept rows = map (λ k. (k.row, k.times.items)) rows
-
--- the times that are kept for a row
-abbrev pub times_for : List KeptRow → List Value → List ℕ
-times_for rows u = list_for (times_kept rows) u
-
--- the times of a row in the first group that has some
-abbrev pub first_times : List (List Value × List (List Value × List ℕ)) → List Value → Option (List ℕ)
-first_times [] u = None
-first_times (e ∷ es) u = option_or (filled (list_for e.1 u)) (first_times es u)
 
 -- the times of the row v in the group q, once those of all these rows were put into the groups of their parts
 abbrev pub put_times : List ℕ → List ℕ → List (List Value × List ℕ) → List Value → List Value → List ℕ → List ℕ

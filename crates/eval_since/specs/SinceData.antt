@@ -10,10 +10,11 @@ use Rattle.mfotl_model.specs.Times.{Climbs}
 use Rattle.mfotl_model.specs.declared.interval.Interval.{Interval}
 use Rattle.relations.specs.KeptRows.{RowsAscend}
 use Rattle.relations.specs.Pushed.{AreOver, StandFrom, left_holds}
-use Rattle.eval_since.specs.Recalled.{recalls, times_kept}
+use Rattle.eval_since.specs.Recalled.{recalls}
+use Rattle.row_times.specs.KeptTimes.{times_kept}
 use Rattle.eval_since.specs.SinceBefore.{since_before}
 use Rattle.eval_since.specs.SinceView.{SinceOf}
-use Rattle.eval_since.specs.Times.{ArePast}
+use Rattle.row_times.specs.Times.{ArePast}
 use Rattle.eval_since.specs.declared.recalled.SinceData.{SinceData}
 
 -- what a state of SINCE is made with

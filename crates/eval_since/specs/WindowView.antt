@@ -2,9 +2,9 @@
 use Rattle.std.specs.Prelude.{ℕ, Bool, List}
 use Rattle.mfotl_model.specs.declared.interval.Interval.{Interval}
 use Rattle.mfotl_model.specs.declared.value.Value.{Value}
-use Rattle.eval_since.specs.Groups.{times_at}
+use Rattle.row_times.specs.Groups.{times_at}
 use Rattle.mfotl_model.specs.Tables.{part}
-use Rattle.eval_since.specs.Times.{reaches}
+use Rattle.row_times.specs.Times.{reaches}
 
 -- the columns of the operands and those by which rows are grouped, the last position's time, and for each row the
 -- times at which the right operand held of it and from which the left one has held on

@@ -6,12 +6,12 @@ use Rattle.std.specs.List.Sorted.{IsStrictlyIncreasing}
 use Rattle.mfotl_model.specs.Values.{row_cmp}
 use Rattle.mfotl_model.specs.declared.value.Value.{Value}
 use Rattle.relations.specs.Queues.{RisesBy}
-use Rattle.eval_since.specs.Groups.{NoneEmpty, times_at}
+use Rattle.row_times.specs.Groups.{NoneEmpty, times_at}
 use Rattle.std.specs.List.{list_any, list_all}
-use Rattle.eval_since.specs.PackedRows.{packed_rows}
+use Rattle.row_times.specs.PackedRows.{packed_rows}
 use Rattle.eval_since.specs.declared.contents.Dated.{Dated}
 use Rattle.mfotl_model.specs.Tables.{all_apart, has_row, part}
-use Rattle.eval_since.specs.Times.{ArePast, recent}
+use Rattle.row_times.specs.Times.{ArePast, recent}
 
 -- no times are kept
 abbrev pub IsBlank : List (List Value × List (List Value × List ℕ)) → Type 0

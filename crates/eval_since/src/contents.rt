@@ -6,22 +6,20 @@ ghost use Rattle.mfotl_model.specs.Intervals.{in_interval};
 ghost use Rattle.mfotl_model.specs.Tables.{all_apart, all_sized, has_row, part};
 ghost use Rattle.mfotl_model.specs.Values.{row_cmp};
 ghost use Rattle.mfotl_model.specs.declared.value.Value.{Value};
-ghost use Rattle.eval_since.specs.Groups.{NoneEmpty, times_at};
+ghost use Rattle.row_times.specs.Groups.{NoneEmpty, times_at};
 ghost use Rattle.eval_since.specs.LeftOperand.{lead, left_has};
 ghost use Rattle.relations.specs.KeptRows.{RowsAscend};
-ghost use Rattle.eval_since.specs.Recalled.{times_for, times_kept};
+ghost use Rattle.row_times.specs.KeptTimes.{times_for, times_kept};
 ghost use Rattle.eval_since.specs.SinceData.{KeepsTimes};
-ghost use Rattle.eval_since.specs.Times.{added, reaches};
+ghost use Rattle.row_times.specs.Times.{added, reaches};
 ghost use Rattle.eval_since.specs.Windows.{Keeps, Past};
 
 use crate::expiry::expire;
-use crate::groups::Groups;
 use crate::keys::holds_on;
-use crate::packed::{PackedRows, packed};
 use crate::rebuild::{dated_rows, grouped};
-use crate::recalled::KeptRow;
 use mfotl_model::{Interval, Row};
 use relations::{Table, part_of};
+use row_times::{Groups, KeptRow, PackedRows, packed};
 use std::alloc::{AllocError, Global};
 use std::collections::VecDeque;
 

@@ -4,16 +4,15 @@ ghost use Rattle.std.specs.BTreeMap.{is_at};
 ghost use Rattle.mfotl_model.specs.Tables.{has_row, part};
 ghost use Rattle.mfotl_model.specs.Values.{row_cmp};
 ghost use Rattle.mfotl_model.specs.declared.value.Value.{Value};
-ghost use Rattle.eval_since.specs.Groups.{NoneEmpty, times_at};
-ghost use Rattle.eval_since.specs.PackedRows.{alone, packed_rows};
-ghost use Rattle.eval_since.specs.Times.{recent};
+ghost use Rattle.row_times.specs.Groups.{NoneEmpty, times_at};
+ghost use Rattle.row_times.specs.PackedRows.{alone, packed_rows};
+ghost use Rattle.row_times.specs.Times.{recent};
 ghost use Rattle.eval_since.specs.Windows.{Covered, Fresh, IsThinned, NotAfter, Placed, Rising};
 
 use crate::contents::Dated;
-use crate::groups::Groups;
-use crate::packed::PackedRows;
 use mfotl_model::{Row, Value as OneValue};
 use relations::part_of;
+use row_times::{Groups, PackedRows};
 use std::alloc::{AllocError, Global};
 use std::collections::VecDeque;
 

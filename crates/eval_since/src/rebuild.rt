@@ -4,18 +4,16 @@ ghost use Rattle.std.specs.List.{AllByRecursion, list_all, list_any};
 ghost use Rattle.std.specs.List.Sorted.{IsStrictlyIncreasing};
 ghost use Rattle.mfotl_model.specs.Tables.{has_row};
 ghost use Rattle.mfotl_model.specs.declared.value.Value.{Value};
-ghost use Rattle.eval_since.specs.Groups.{NoneEmpty, times_at};
-ghost use Rattle.eval_since.specs.PackedRows.{packed_rows};
-ghost use Rattle.eval_since.specs.Recalled.{is_recalled, put_times, times_kept};
+ghost use Rattle.row_times.specs.Groups.{NoneEmpty, times_at};
+ghost use Rattle.row_times.specs.PackedRows.{packed_rows};
+ghost use Rattle.eval_since.specs.Recalled.{is_recalled, put_times};
+ghost use Rattle.row_times.specs.KeptTimes.{times_kept};
 ghost use Rattle.eval_since.specs.Windows.{Rising, names};
 
 use crate::contents::Dated;
-use crate::groups::Groups;
-use crate::packed::packed;
-use crate::recalled::KeptRow;
-use crate::times::Times;
 use mfotl_model::Row;
 use relations::part_of;
+use row_times::{Groups, KeptRow, packed};
 use std::alloc::{AllocError, Global};
 use std::collections::VecDeque;
 
@@ -33,8 +31,7 @@ fn put_kept(
     ensures some { OnOk result (0 < length kept.times.items → NoneEmpty groups.old → NoneEmpty groups.new) }
 {
     let key = part_of(alloc, right, left, kept.row.values())?;
-    let times = Times::from_vec(alloc, kept.times)?;
-    groups.put(alloc, key, kept.row, times)
+    groups.put(alloc, key, kept.row, kept.times)
 }
 
 /// The rows with their times, in the groups of their parts.

@@ -1,18 +1,11 @@
 //! The states of PREVIOUS and SINCE as plain data.
 
-use mfotl_model::Row;
 use relations::Table;
-
-/// A row over the right operand's columns, with times at which the right operand held of it and from
-/// which the left one has held on.
-#[derive(Drop)]
-pub struct KeptRow {
-    pub row: Row,
-    pub times: Vec<u64>,
-}
+use row_times::KeptRow;
 
 /// What a state of SINCE keeps, apart from its configuration, its positions' times and the time of the
-/// position pulled last.
+/// position pulled last. Its rows are over the right operand's columns, each with times at which the right
+/// operand held of it and from which the left one has held on.
 #[derive(Drop)]
 pub struct SinceData {
     pub pulled: u64,

@@ -6,20 +6,19 @@ ghost use Rattle.std.specs.List.{AllByRecursion};
 ghost use Rattle.mfotl_model.specs.Intervals.{in_interval};
 ghost use Rattle.mfotl_model.specs.Tables.{all_apart, all_sized, has_row, part};
 ghost use Rattle.mfotl_model.specs.declared.value.Value.{Value};
-ghost use Rattle.eval_since.specs.Groups.{NoneEmpty};
+ghost use Rattle.row_times.specs.Groups.{NoneEmpty};
 ghost use Rattle.eval_since.specs.LeftOperand.{grouping, left_has};
 ghost use Rattle.relations.specs.KeptRows.{RowsAscend, filled, kept_for};
-ghost use Rattle.eval_since.specs.Recalled.{times_for, times_kept};
+ghost use Rattle.row_times.specs.KeptTimes.{times_for, times_kept};
 ghost use Rattle.eval_since.specs.SinceData.{KeepsTimes};
 ghost use Rattle.eval_since.specs.WindowView.{kept_times, within};
 ghost use Rattle.eval_since.specs.Windows.{Alone, Ascending, Bounded, IsBlank, Past, Placed};
 
 use crate::contents::{Contents, restored, step};
 use crate::keys::{grouping, holds_on};
-use crate::ordered::OrderedGroup;
-use crate::recalled::KeptRow;
 use mfotl_model::{Interval, Row};
 use relations::{Columns, Table, part_of};
+use row_times::{KeptRow, OrderedGroup};
 use std::alloc::{AllocError, Global};
 use std::marker::Model;
 

@@ -7,8 +7,9 @@ use Rattle.mon_outside.specs.{Views.SinkView}
 use Rattle.monitor_main.specs.declared.{refusal.InputFile.InputFile, refusal.Refusal.Refusal}
 use Rattle.monitor_main.specs.declared.refusal.InputFile.TheVariants as file
 use Rattle.monitor_main.specs.Answer.{Answer, check_answer, command_answer, demo_answer, run_answer}
-use Rattle.worker_pool.specs.{Texts.text_on, Effects.Effect}
-use Rattle.worker_pool.proofs.PointLemmas.{rose_later}
+use Rattle.lone_worker.specs.Texts.{text_on}
+use Rattle.lone_worker.specs.Effects.{Effect}
+use Rattle.lone_worker.proofs.PointLemmas.{rose_later}
 use Rattle.monitor_main.specs.Decisions.{CarriesOut, ComesTo, CommandFails, Ends, FailsInLog, Finishes, HasCauses}
 use Rattle.monitor_main.specs.Decisions.{MonitorsLog}
 use Rattle.monitor_main.specs.{DemoRuns.IsDemoFault, FilesAsked.names_before_log, FilesAsked.names_to}

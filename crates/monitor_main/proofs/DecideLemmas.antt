@@ -9,10 +9,10 @@ use Rattle.monitor_main.specs.declared.{words.WordsFault.WordsFault}
 use Rattle.monitor_main.specs.declared.refusal.Refusal.TheVariants.{Usage, Write, Memory}
 use Rattle.monitor_main.specs.Answer.{Answer, answer, refused}
 use Rattle.monitor_main.specs.Decisions.{CarriesOut, ComesTo, Ends, FailsAt, HandsOn, HasCauses, Obeys, Refuses}
-use Rattle.worker_pool.specs.Effects.{Effect}
+use Rattle.lone_worker.specs.Effects.{Effect}
 use Rattle.monitor_main.specs.{FilesAsked.AsksInOrder, Refusals.words_refusal, Words.Command, Words.command_of}
 use Rattle.monitor_main.specs.declared.words.WordsFault.TheVariants as fault
-use Rattle.worker_pool.proofs.SinkLemmas.{no_front}
+use Rattle.lone_worker.proofs.SinkLemmas.{no_front}
 use Rattle.monitor_main.proofs.ToldLemmas.{asked_none, told_all, told_map}
 
 -- the same answer with more to say of files that failed

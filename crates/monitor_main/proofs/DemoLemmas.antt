@@ -6,7 +6,7 @@ use Rattle.log_reader.specs.DemoTexts.{changes_text, log_text, policy_text, sign
 use Rattle.log_reader.specs.Readings.{Ending, Fault, NoFault}
 use Rattle.log_reader.specs.declared.fault.LogFault.{LogFault}
 use Rattle.log_reader.specs.declared.fault.LogFault.TheVariants as log
-use Rattle.worker_pool.specs.declared.end.End.TheVariants.{Finished, LogEnds}
+use Rattle.lone_worker.specs.declared.end.End.TheVariants.{Finished, LogEnds}
 use Rattle.monitor_main.specs.declared.{refusal.Refusal.Refusal, refusal.Refusal.TheVariants.Log}
 use Rattle.monitor_main.specs.Answer.{demo_answer, demo_ended, demo_line, log_reading}
 use Rattle.monitor_main.specs.{CheckedPolicies.Fails, CheckedPolicies.IsInside, Decisions.ComesTo, DemoRuns.EndsDemo}
@@ -15,7 +15,7 @@ use Rattle.monitor_main.specs.Tasks.{◌>>=◌, CheckedPolicy, Division, Task, d
 use Rattle.monitor_main.specs.Tasks.{policy_of_texts, task_on}
 use Rattle.monitor_main.proofs.CommandLemmas.{output_ends}
 use Rattle.monitor_main.proofs.DecideLemmas.{comes_memory, comes_refused, refuses_at}
-use Rattle.worker_pool.proofs.SinkLemmas.{whole_front}
+use Rattle.lone_worker.proofs.SinkLemmas.{whole_front}
 use Rattle.std.proofs.lemmas.Grind.{common_steps}
 
 -- ---- the texts

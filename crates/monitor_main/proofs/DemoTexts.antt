@@ -15,7 +15,7 @@ use Rattle.mon_outside.specs.Files.{Files, content}
 use Rattle.log_reader.proofs.DemoIsRead.{demo_log_is_read}
 use Rattle.log_reader.specs.DemoTexts.{changes_text, log_text, policy_text, signature_text}
 use Rattle.log_reader.specs.Readings.{NoFault, Reading}
-use Rattle.worker_pool.specs.Texts.{tally_on, text_on}
+use Rattle.lone_worker.specs.Texts.{tally_on, text_on}
 use Rattle.monitor_main.specs.declared.refusal.Refusal.TheVariants as refusal
 use Rattle.monitor_main.specs.Answer.{Answer, demo_answer, demo_ended, answer_by_ending, command_answer, log_answer}
 use Rattle.monitor_main.specs.Answer.{log_reading, run_answer}

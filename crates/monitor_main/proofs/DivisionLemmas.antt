@@ -10,7 +10,8 @@ use Rattle.slice_strategy.specs.ChangeGrammar.{Script, NoChange, Change}
 use Rattle.slice_strategy.specs.{ChangeRules.IsValue, ChangeRules.changes_of, Entries.HasWorkers}
 use Rattle.slice_strategy.specs.declared.change.Change.{Change as ChangeOf}
 use Rattle.slice_strategy.proofs.EntryLaws.{strategy_size}
-use Rattle.worker_pool.specs.{Policies.IsCoreOf, Changes.AllSuit}
+use Rattle.lone_worker.specs.Policies.{IsCoreOf}
+use Rattle.worker_pool.specs.Changes.{AllSuit}
 use Rattle.monitor_main.specs.CheckedPolicies.{Divides, Fails, HasVariables, checked_in}
 use Rattle.monitor_main.specs.ReadyTasks.{IsReady}
 use Rattle.monitor_main.specs.Tasks.{◌>>=◌, Division, divided_by}

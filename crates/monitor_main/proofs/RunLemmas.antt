@@ -20,14 +20,18 @@ use Rattle.monitorable.specs.CoreForms.{CoreForm}
 use Rattle.monitor_main.specs.Answer.{answer_by_ending, log_answer, log_reading}
 use Rattle.monitor_main.specs.Tasks.{CheckedPolicy, Task, task_on}
 use Rattle.monitor_main.specs.{Unread.seen_of, DemoRuns.EndsOn, LogRuns.outcome_of}
-use Rattle.worker_pool.specs.Texts.{tally_on, text_on, violated_on}
-use Rattle.worker_pool.specs.{Policies.IsCoreOf, Effects.Effect}
-use Rattle.worker_pool.specs.Endings.{EndsBy, FollowsLog, WritesAll}
-use Rattle.worker_pool.specs.declared.{end.End.End, end.End.TheVariants.Finished, end.End.TheVariants.LogEnds}
+use Rattle.lone_worker.specs.Texts.{tally_on, text_on, violated_on}
+use Rattle.lone_worker.specs.Policies.{IsCoreOf}
+use Rattle.lone_worker.specs.Effects.{Effect}
+use Rattle.lone_worker.specs.Endings.{EndsBy, FollowsLog, WritesAll}
+use Rattle.lone_worker.specs.declared.end.End.{End}
+use Rattle.lone_worker.specs.declared.end.End.TheVariants.{Finished, LogEnds}
 use Rattle.monitor_main.specs.Decisions.{ComesTo, Ends, FailsInLog, Finishes, HasCauses, MonitorsLog, Refuses}
 use Rattle.log_reader.proofs.GrowthLemmas.{front_stays}
-use Rattle.worker_pool.proofs.{LogTimes.read_never_falls, TallyLemmas.violations_counted, PointLemmas.first_text}
-use Rattle.worker_pool.proofs.{SinkLemmas.longer_front, SinkLemmas.no_front}
+use Rattle.lone_worker.proofs.LogTimes.{read_never_falls}
+use Rattle.lone_worker.proofs.TallyLemmas.{violations_counted}
+use Rattle.lone_worker.proofs.PointLemmas.{first_text}
+use Rattle.lone_worker.proofs.SinkLemmas.{longer_front, no_front}
 use Rattle.monitor_main.proofs.ToldLemmas.{told_all, told_map}
 
 -- The bytes that were read of a log, and whether they are known to be all. What is left of the log is the rest of

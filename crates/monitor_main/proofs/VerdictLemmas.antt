@@ -7,7 +7,7 @@ use Rattle.mfotl_model.proofs.{CountLemmas.counted_settled, CountLemmas.passing_
 use Rattle.mfotl_model.specs.{Counts.settled_count, Formulas.Form, Log.times, Times.NeverFalls}
 use Rattle.mfotl_model.specs.VerdictText.{VerdictOf, verdict_at, verdicts}
 use Rattle.mfotl_model.specs.declared.event.TimePoint.{TimePoint}
-use Rattle.monitor_state.proofs.CountLemmas.{count_grows}
+use Rattle.monitor_nodes.proofs.CountLemmas.{count_grows}
 use Rattle.monitorable.proofs.{CoreLaws.accepted, FinalityLaw.time_same, FinalityLaw.within_log}
 use Rattle.monitorable.proofs.{ViolationsFinal.violations_final}
 use Rattle.monitorable.specs.{Fragment.Names, Fragment.frag, Laws.log_of, NormalForm.negative}

@@ -8,7 +8,7 @@ use Rattle.mon_outside.specs.Files.{Files}
 use Rattle.mfotl_model.specs.Formulas.{Form}
 use Rattle.log_reader.specs.Limits.{standard}
 use Rattle.log_reader.specs.Readings.{Ending, NoFault, Reading, Fault, accepted}
-use Rattle.worker_pool.specs.Texts.{tally_on, text_on, violated_on}
+use Rattle.lone_worker.specs.Texts.{tally_on, text_on, violated_on}
 use Rattle.monitor_main.specs.declared.refusal.Refusal.{Refusal}
 use Rattle.monitor_main.specs.declared.refusal.Refusal.TheVariants as refusal
 use Rattle.monitor_main.specs.declared.status.Status.{Status}

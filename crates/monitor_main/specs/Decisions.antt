@@ -8,8 +8,8 @@ use Rattle.mon_outside.specs.Inputs.{Name, StopsIn, asked_more}
 use Rattle.mon_outside.specs.Sink.{Appends, AppendsFront}
 use Rattle.mon_outside.specs.Views.{InputsView, SinkView}
 use Rattle.log_reader.specs.Readings.{NoFault}
-use Rattle.worker_pool.specs.Effects.{Effect}
-use Rattle.worker_pool.specs.Texts.{text_on}
+use Rattle.lone_worker.specs.Effects.{Effect}
+use Rattle.lone_worker.specs.Texts.{text_on}
 use Rattle.monitor_main.specs.declared.refusal.InputFile.{InputFile}
 use Rattle.monitor_main.specs.declared.refusal.InputFile.TheVariants as file
 use Rattle.monitor_main.specs.declared.refusal.Refusal.{Refusal}

@@ -16,7 +16,7 @@ use Rattle.mfotl_parse.specs.Intervals.{distances}
 use Rattle.mfotl_parse.specs.Reading.{PolicyOf}
 use Rattle.monitorable.specs.Fragment.{frag_fault, free_names}
 use Rattle.monitorable.specs.Laws.{log_of}
-use Rattle.worker_pool.specs.Texts.{tally_of}
+use Rattle.lone_worker.specs.Texts.{tally_of}
 use Rattle.monitor_main.specs.declared.status.Status.TheVariants.{Clean}
 use Rattle.monitor_main.specs.Answer.{command_answer, demo_answer, demo_line}
 use Rattle.monitor_main.specs.AnswerLaws.{IsDividedBy}

@@ -3,9 +3,9 @@ use Rattle.std.specs.Prelude.{◌≡◌, ℕ, Ok}
 use Rattle.mon_outside.specs.Causes.{Rose}
 use Rattle.log_reader.specs.Readings.{Fault, NoFault}
 use Rattle.log_reader.specs.declared.fault.LogFault.TheVariants as log
-use Rattle.worker_pool.specs.Texts.{tally_on}
-use Rattle.worker_pool.specs.declared.end.End.{End}
-use Rattle.worker_pool.specs.declared.end.End.TheVariants as end
+use Rattle.lone_worker.specs.Texts.{tally_on}
+use Rattle.lone_worker.specs.declared.end.End.{End}
+use Rattle.lone_worker.specs.declared.end.End.TheVariants as end
 use Rattle.monitor_main.specs.declared.refusal.Refusal.{Refusal}
 use Rattle.monitor_main.specs.declared.refusal.Refusal.TheVariants.{Usage, Read, Write}
 use Rattle.monitor_main.specs.Answer.{log_reading}

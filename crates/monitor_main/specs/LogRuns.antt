@@ -1,8 +1,8 @@
 -- What the end of a monitored log comes to.
 use Rattle.std.specs.Prelude.{ℕ, Bool, Result, Ok, Err, nat_lt}
 use Rattle.mon_outside.specs.Causes.{Rose}
-use Rattle.worker_pool.specs.declared.end.End.{End}
-use Rattle.worker_pool.specs.declared.end.End.TheVariants as end
+use Rattle.lone_worker.specs.declared.end.End.{End}
+use Rattle.lone_worker.specs.declared.end.End.TheVariants as end
 use Rattle.monitor_main.specs.declared.refusal.InputFile.TheVariants as file
 use Rattle.monitor_main.specs.declared.refusal.Refusal.{Refusal}
 use Rattle.monitor_main.specs.declared.refusal.Refusal.TheVariants.{Read, Write, Memory}

@@ -11,7 +11,7 @@ use Rattle.monitor_main.specs.declared.status.Status.{Status}
 use Rattle.monitor_main.specs.declared.status.Status.TheVariants.{Memory}
 use Rattle.monitor_main.specs.Answer.{Answer}
 use Rattle.monitor_main.specs.Decisions.{FailsAt}
-use Rattle.worker_pool.specs.Effects.{Effect}
+use Rattle.lone_worker.specs.Effects.{Effect}
 use Rattle.monitor_main.specs.Refusals.{line_of, status_of}
 
 -- a line was told: a front of it, and the whole where no call failed

@@ -2,7 +2,7 @@
 use Rattle.monitorable.specs.Cores.{core_form}
 use Rattle.rescale_core.specs.Workers.{IsFor}
 use Rattle.worker_pool.specs.Changes.{AllSuit}
-use Rattle.worker_pool.specs.Policies.{IsCoreOf}
+use Rattle.lone_worker.specs.Policies.{IsCoreOf}
 use Rattle.monitor_main.specs.declared.task.Task.{Task}
 use Rattle.monitor_main.specs.CheckedPolicies.{checked_in}
 

@@ -5,7 +5,7 @@ use Rattle.mfotl_model.specs.Formulas.{Form}
 use Rattle.mfotl_model.specs.Strategies.{Strategy}
 use Rattle.log_reader.specs.Limits.{standard}
 use Rattle.log_reader.specs.Readings.{Ending, NoFault, Reading, Fault, shown}
-use Rattle.worker_pool.specs.Texts.{text_on}
+use Rattle.lone_worker.specs.Texts.{text_on}
 use Rattle.monitor_main.specs.declared.refusal.InputFile.{InputFile}
 use Rattle.monitor_main.specs.declared.refusal.InputFile.TheVariants as file
 use Rattle.monitor_main.specs.declared.refusal.Refusal.{Refusal}

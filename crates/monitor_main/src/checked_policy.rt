@@ -6,7 +6,7 @@ ghost use Rattle.mon_outside.specs.Views.{inputs_view};
 ghost use Rattle.monitorable.specs.Cores.{core_form};
 ghost use Rattle.monitor_main.specs.Tasks.{checked_over, policy_of_texts, signature_of};
 ghost use Rattle.monitor_main.specs.CheckedPolicies.{Gives, HasVariables, IsInside, checked_in};
-ghost use Rattle.worker_pool.specs.Policies.{IsCoreOf};
+ghost use Rattle.lone_worker.specs.Policies.{IsCoreOf};
 ghost use Rattle.monitor_main.specs.CommandViews.{sources_in};
 ghost use Rattle.monitor_main.specs.Limits.{max_file};
 ghost use Rattle.monitor_main.specs.Loading.{IsRefused, LoadsSources, StopsInSources};

@@ -1,5 +1,5 @@
 //! What is done at each command.
-ghost use Rattle.worker_pool.specs.Effects.{effect};
+ghost use Rattle.lone_worker.specs.Effects.{effect};
 ghost use Rattle.monitor_main.specs.CommandViews.{command_in, options_in, sources_in};
 ghost use Rattle.monitor_main.specs.Decisions.{CarriesOut};
 ghost use Rattle.monitor_main.specs.Words.{Check, Demo, Run};

@@ -7,7 +7,7 @@ use crate::refusal::Refusal;
 use mon_outside::{Sink, write_whole};
 
 /// Writes the line.
-#[tactic(auto, using(worker_pool::proofs::SinkLemmas::whole_front))]
+#[tactic(auto, using(lone_worker::proofs::SinkLemmas::whole_front))]
 pub fn write_line<O: Sink>(line: &[u8], out: &mut O) -> Result<(), Refusal>
     ensures ok { IfOk result (λ _. Appends (O.written out.old) (O.written out.new) line.now) }
     ensures fault { IfErr result (λ r.

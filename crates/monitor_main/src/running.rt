@@ -6,7 +6,7 @@ ghost use Rattle.mon_outside.specs.Sink.{AppendsFront};
 ghost use Rattle.mon_outside.specs.Views.{inputs_view, sink_view};
 ghost use Rattle.monitor_main.specs.Answer.{answer};
 ghost use Rattle.monitor_main.specs.Decisions.{AsksByWords, HandsOn, Obeys};
-ghost use Rattle.worker_pool.specs.Effects.{effect};
+ghost use Rattle.lone_worker.specs.Effects.{effect};
 ghost use Rattle.monitor_main.specs.Outcomes.{FailsToRead, IsDecidedBy, IsGiven, Reports, TellsLine};
 ghost use Rattle.monitor_main.specs.Refusals.{line_of};
 ghost use Rattle.monitor_main.specs.Words.{command_of, texts_of};
@@ -66,7 +66,7 @@ fn conclude<R: Threads + Wait + Sync, I: Inputs, O: Sink, G: Gate + Sync>(
 }
 
 // Writes a line and hands it on, as far as that can be done.
-#[tactic(auto, using(worker_pool::proofs::SinkLemmas::whole_front))]
+#[tactic(auto, using(lone_worker::proofs::SinkLemmas::whole_front))]
 fn tell<E: Sink>(line: &[u8], err: &mut E)
     ensures told { TellsLine (E.written err.old) (E.written err.new)
         (E.faults err.old) (E.faults err.new) line.now }

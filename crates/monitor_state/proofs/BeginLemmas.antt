@@ -2,7 +2,7 @@
 use Rattle.std.proofs.Common.{subst, ◌≡◌, Bool, true, false, ◌&&◌, cond, List, [], ◌∷◌, ◌++◌, length, map, refl, sym}
 use Rattle.std.proofs.Common.{ap, ◌∙◌, ◌⊎◌, arith, append_assoc, inl, inr}
 use Rattle.relations.proofs.InsideLemmas.{joined_within}
-use Rattle.mfotl_model.specs.{Exact.View, FreeVariables.fv, Log.times, Satisfaction.Valuation, Satisfaction.sat}
+use Rattle.mfotl_model.specs.{Exact.View, FreeVariables.fv, Satisfaction.Valuation, Satisfaction.sat}
 use Rattle.mfotl_model.specs.{Tables.TableOf, Tables.has}
 use Rattle.mfotl_model.specs.declared.interval.Interval.{Interval}
 use Rattle.eval_bool.specs.{OrView.OrOf, JoinView.JoinOf, JoinView.children_of}
@@ -14,16 +14,19 @@ use Rattle.monitorable.specs.{Conjuncts.PartForm.Test as TestPart}
 use Rattle.monitorable.specs.Fragment.{is_conjunction, judges_not, under_not}
 use Rattle.monitorable.specs.declared.role.Role.{Role}
 use Rattle.monitorable.specs.declared.role.Role.TheVariants as role
-use Rattle.monitor_state.proofs.{ExactLemmas.reached_within, MonitorSteps.nodes_append, SinceSteps.free_operand}
+use Rattle.monitor_nodes.proofs.{ExactLemmas.reached_within, SinceSteps.free_operand}
+use Rattle.monitor_state.proofs.{MonitorSteps.nodes_append}
 use Rattle.monitor_state.specs.Beginnings.{Adds, AddsIf, Begins, BeginsJoin, BeginsNode, IsJoined, NextBegun, OrBegun}
 use Rattle.monitor_state.specs.Beginnings.{PreviousBegun, SinceBegun}
-use Rattle.monitor_state.specs.Nodes.{children, filters, nodes_in, nodes_of, operands, true_in, without_last}
-use Rattle.monitor_state.specs.Stands.{ChildrenStand, IsConstant, IsNodeFor, IsConjunction, IsOr, JoinStands}
-use Rattle.monitor_state.specs.Stands.{NextStands, OrStands, PreviousStands, bare, conjunct_as, NodeStands, StateOf}
-use Rattle.monitor_state.specs.SinceNode.{IsSince, IsSinceState, SinceStands, SinceStandsAt}
-use Rattle.monitor_state.specs.Views.{reached}
-use Rattle.monitor_state.specs.declared.node.Node.{Node}
-use Rattle.monitor_state.specs.declared.node.Node.TheVariants as node
+use Rattle.monitor_nodes.specs.Operands.{children, filters, operands}
+use Rattle.monitor_state.specs.Nodes.{nodes_in, nodes_of, true_in, without_last}
+use Rattle.monitor_nodes.specs.Stands.{ChildrenStand, IsConstant, IsNodeFor, IsConjunction, IsOr, JoinStands}
+use Rattle.monitor_nodes.specs.Stands.{NextStands, OrStands, PreviousStands, bare, conjunct_as, NodeStands}
+use Rattle.monitor_state.specs.Stands.{StateOf}
+use Rattle.monitor_nodes.specs.SinceNode.{IsSince, IsSinceState, SinceStands, SinceStandsAt}
+use Rattle.monitor_nodes.specs.Views.{reached}
+use Rattle.monitor_nodes.specs.declared.node.Node.{Node}
+use Rattle.monitor_nodes.specs.declared.node.Node.TheVariants as node
 
 pub adds_then : (fs gs : List CoreForm) (old mid new : List Node) → Adds fs old mid → Adds gs mid new
     → Adds (fs ++ gs) old new

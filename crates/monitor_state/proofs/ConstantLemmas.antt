@@ -21,9 +21,10 @@ use Rattle.monitorable.specs.Conjuncts.PartForm.{Child as ChildPart, Test as Tes
 use Rattle.monitorable.specs.Fragment.{Names, binds, bound_by, fault_in, guards}
 use Rattle.monitorable.specs.declared.role.Role.{Role}
 use Rattle.relations.specs.Operations.{chosen, covers_term}
-use Rattle.monitor_state.proofs.{GuardLemmas.bound_is, JoinSteps.chosen_is, JoinSteps.columns_are}
-use Rattle.monitor_state.specs.{Beginnings.Accepted, Beginnings.is_child, Nodes.children, Nodes.operands}
-use Rattle.monitor_state.specs.{Stands.IsConstant, Stands.conjunct_as}
+use Rattle.monitor_nodes.proofs.{JoinSteps.chosen_is, JoinSteps.columns_are}
+use Rattle.monitor_state.proofs.{GuardLemmas.bound_is}
+use Rattle.monitor_nodes.specs.{Operands.children, Operands.operands, Stands.IsConstant, Stands.conjunct_as}
+use Rattle.monitor_state.specs.{Beginnings.Accepted, Beginnings.is_child}
 use Rattle.monitor_state.specs.Constants.{is_ground, is_ground_test, is_constant, is_fixed, stands_alone}
 
 reversed_equal : (o : Ordering) → is_eq (ordering_reverse o) ≡ is_eq o

@@ -12,12 +12,13 @@ use Rattle.monitor_state.proofs.{GuardLemmas.and_left, GuardLemmas.and_own, Whol
 use Rattle.monitor_state.proofs.{WholeLemmas.part_whole, NarrowedBegins.among_both, UntilBegins.until_begins_at}
 use Rattle.monitor_state.proofs.{UntilBegins.until_state_is}
 use Rattle.monitor_state.specs.Beginnings.{Accepted, Adds, WindowBegun}
-use Rattle.monitor_state.specs.{FilterNode.GivenAs, Views.reached}
-use Rattle.monitor_state.specs.Nodes.{adds_none, filters, is_negated, is_window, left_operand, nodes_in, without_last}
-use Rattle.monitor_state.specs.WindowNode.{IsWindow, WindowStands, window_took_all}
-use Rattle.monitor_state.specs.declared.{filter.FilterState.FilterState, node.Node.Node, window.Window.Window}
-use Rattle.monitor_state.specs.declared.node.Node.TheVariants as node
-use Rattle.monitor_state.specs.declared.window.Window.TheVariants as window
+use Rattle.monitor_nodes.specs.{FilterNode.GivenAs, Views.reached}
+use Rattle.monitor_nodes.specs.Operands.{adds_none, filters, is_negated, is_window, left_operand}
+use Rattle.monitor_state.specs.Nodes.{nodes_in, without_last}
+use Rattle.monitor_nodes.specs.WindowNode.{IsWindow, WindowStands, window_took_all}
+use Rattle.monitor_nodes.specs.declared.{filter.FilterState.FilterState, node.Node.Node, window.Window.Window}
+use Rattle.monitor_nodes.specs.declared.node.Node.TheVariants as node
+use Rattle.monitor_nodes.specs.declared.window.Window.TheVariants as window
 
 pub is_filter_window : (own : Bool) (f g : CoreForm) → (own && filters f g) ≡ true → is_window (left_operand g) ≡ true
 is_filter_window own f g only = (and_parts _ _ (and_parts _ _ only).1).0

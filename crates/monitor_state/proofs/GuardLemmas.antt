@@ -17,9 +17,9 @@ use Rattle.monitorable.specs.{Conjuncts.PartForm.Test as TestPart}
 use Rattle.monitorable.specs.Fragment.{Names, bound_by, fault_in, guards, is_conjunction, judges_not, under_not}
 use Rattle.monitorable.specs.declared.role.Role.{Role}
 use Rattle.monitorable.specs.declared.role.Role.TheVariants as role
-use Rattle.monitor_state.proofs.{JoinSteps.columns_are, RegionLemmas.all_from_each}
+use Rattle.monitor_nodes.proofs.{JoinSteps.columns_are, RegionLemmas.all_from_each}
 use Rattle.monitor_state.specs.Beginnings.{Accepted, GuardedIf, is_child}
-use Rattle.monitor_state.specs.{Nodes.children, Stands.conjunct_as}
+use Rattle.monitor_nodes.specs.{Operands.children, Stands.conjunct_as}
 
 -- the columns that conjuncts bind, in a row
 bound_append : (ps qs : List PartForm) → bound_columns (children_of (map conjunct_as (ps ++ qs)))

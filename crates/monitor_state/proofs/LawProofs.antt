@@ -9,7 +9,7 @@ use Rattle.monitorable.proofs.{SoundLaw.parts_are_sound, TableLaw.tables_satisfy
 use Rattle.monitorable.specs.{Atoms.atoms_of, Laws.whole_view}
 use Rattle.monitorable.specs.CoreForms.{CoreForm, meaning, Atom, Not, And, Or, Exists, Previous, Next, Since, Until}
 use Rattle.monitor_state.specs.Laws.{LoneWorkerSteps, SliceIsEnough, TablesAreViolations}
-use Rattle.monitor_state.specs.Steps.{SameNear}
+use Rattle.monitor_nodes.specs.Steps.{SameNear}
 
 module _ (view : View) (given db : List Event) (passes : Passes (fv view.whole) view.near) (below : HasEach db given)
   where

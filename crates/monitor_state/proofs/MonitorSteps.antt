@@ -17,10 +17,11 @@ use Rattle.monitorable.specs.declared.role.Role.TheVariants as role
 use Rattle.monitor_state.proofs.PosedSteps.{news_posed, premises_posed}
 use Rattle.monitor_state.specs.{Constants.stands_alone, Stands.NodesStand}
 use Rattle.monitor_state.specs.Going.{AllPremises, Going, Works}
-use Rattle.monitor_state.specs.Nodes.{children, filters, left_operand, nodes_in, nodes_of, operands, window_operands}
+use Rattle.monitor_nodes.specs.Operands.{children, filters, left_operand, operands, window_operands}
+use Rattle.monitor_state.specs.Nodes.{nodes_in, nodes_of}
 use Rattle.monitor_state.specs.Nodes.{posed, without_last}
-use Rattle.monitor_state.specs.Steps.{TakesPoint, News, Premises, SameNear, StackNews, longer}
-use Rattle.monitor_state.specs.declared.node.Node.{Node}
+use Rattle.monitor_nodes.specs.Steps.{TakesPoint, News, Premises, SameNear, StackNews, longer}
+use Rattle.monitor_nodes.specs.declared.node.Node.{Node}
 
 -- what a core in its role puts on the stack
 abbrev roots : Role → CoreForm → List CoreForm

@@ -8,7 +8,8 @@ use Rattle.monitor_state.proofs.ArrangedBegins.{fault_arranged, same_arranged, s
 use Rattle.monitor_state.proofs.ArrangedLemmas.{fv_arranged, sat_arranged, settled_arranged}
 use Rattle.monitor_state.proofs.NarrowedBegins.{narrowed_accepted, same_narrowed, sound_narrowed}
 use Rattle.monitor_state.proofs.NarrowedLemmas.{fv_narrowed, sat_narrowed, settled_narrowed}
-use Rattle.monitor_state.specs.{Beginnings.Accepted, Nodes.narrowed, Nodes.posed, Steps.SameNear}
+use Rattle.monitor_nodes.specs.{Steps.SameNear}
+use Rattle.monitor_state.specs.{Beginnings.Accepted, Nodes.narrowed, Nodes.posed}
 
 pub sat_posed : (log : List TimePoint) (dom : List Value) (v : Valuation) (i : ℕ) (f : CoreForm)
     → sat log dom v i (meaning (posed f)) ≡ sat log dom v i (meaning f)

@@ -9,12 +9,14 @@ use Rattle.monitorable.specs.CoreForms.{CoreForm}
 use Rattle.relations.specs.Pushed.{AreOver}
 use Rattle.monitor_state.proofs.{MarkLemmas.dropped_behind, RecordRules.since_keeps, StampLemmas.stamps_rest}
 use Rattle.monitor_state.specs.Recording.{NodeRecorded, NodesRecorded, WindowRecorded}
-use Rattle.monitor_state.specs.{Resuming.Reach, WindowNode.IsWindow, WindowNode.WindowStands}
-use Rattle.monitor_state.specs.Stands.{IsNodeFor, IsConjunction, NodeStands, NodesStand, bare}
+use Rattle.monitor_nodes.specs.{WindowNode.IsWindow, WindowNode.WindowStands}
+use Rattle.monitor_state.specs.{Resuming.Reach}
+use Rattle.monitor_nodes.specs.Stands.{IsNodeFor, IsConjunction, NodeStands, bare}
+use Rattle.monitor_state.specs.Stands.{NodesStand}
 use Rattle.monitor_state.specs.StateRules.{JoinKeeps, NodeKeeps, NodesKeep, WindowKeeps}
 use Rattle.monitor_state.specs.StateTimes.{KeptTimes, earliest, node_asks, window_asks}
-use Rattle.monitor_state.specs.declared.{node.Node.Node, state.NodeData.NodeData, state.WindowData.WindowData}
-use Rattle.monitor_state.specs.declared.{window.Window.Window}
+use Rattle.monitor_nodes.specs.declared.{node.Node.Node, window.Window.Window}
+use Rattle.monitor_state.specs.declared.{state.NodeData.NodeData, state.WindowData.WindowData}
 use Rattle.std.proofs.lemmas.Grind.{common_steps}
 
 -- exact tables are over the formula's variables

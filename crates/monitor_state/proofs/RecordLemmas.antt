@@ -2,22 +2,25 @@
 use Rattle.std.proofs.Common.{◌≡◌, ℕ, ◌+◌, ◌-◌, ◌<◌, ◌≤◌, Bool, min, nat_le, List, [], length, map, sym, subst, ap, ap₂}
 use Rattle.std.proofs.Common.{◌∙◌, arith, slice_index}
 use Rattle.std.specs.Option.{unwrap_or}
-use Rattle.mfotl_model.specs.{Exact.AllExact, Exact.View, FreeVariables.fv, Log.times, Satisfaction.Valuation}
+use Rattle.mfotl_model.specs.{Exact.AllExact, Exact.View, FreeVariables.fv, Satisfaction.Valuation}
 use Rattle.mfotl_model.specs.{Satisfaction.time_at}
 use Rattle.mfotl_model.specs.declared.{interval.Interval.Interval, value.Value.Value}
-use Rattle.eval_since.specs.{Recalled.times_kept, SinceBefore.since_before, SinceView.Follows, SinceView.SinceOf}
-use Rattle.eval_since.specs.{Times.reaches, WindowView.kept_times}
+use Rattle.row_times.specs.{KeptTimes.times_kept}
+use Rattle.eval_since.specs.{SinceBefore.since_before, SinceView.Follows, SinceView.SinceOf}
+use Rattle.row_times.specs.{Times.reaches}
+use Rattle.eval_since.specs.{WindowView.kept_times}
 use Rattle.eval_until.specs.{Entries.met_by, Recalled.entries_kept, Recalled.starts_kept, Starts.start_of}
 use Rattle.eval_until.specs.{UntilBefore.until_before, UntilData.setting_of, UntilData.until_of}
 use Rattle.eval_until.specs.UntilView.{Follows as FollowsUntil, FollowsLeft, UntilOf}
 use Rattle.monitorable.specs.CoreForms.{CoreForm, meaning}
 use Rattle.relations.proofs.KeptLemmas.{filled_back}
 use Rattle.relations.specs.KeptRows.{kept_for, list_for}
-use Rattle.monitor_state.proofs.{ExactLemmas.reached_within, MarkLemmas.found_behind, MarkLemmas.met_is}
-use Rattle.monitor_state.proofs.{SinceSteps.free_operand}
-use Rattle.monitor_state.specs.{Recording.SinceRecorded, Recording.UntilRecorded, SinceNode.IsSinceState}
-use Rattle.monitor_state.specs.{SinceNode.SinceStandsAt, StateStands.SinceDataStands, StateStands.UntilDataStands}
-use Rattle.monitor_state.specs.{UntilNode.IsUntilState, UntilNode.UntilStandsAt, Views.Dates, Views.reached}
+use Rattle.monitor_nodes.proofs.{ExactLemmas.reached_within, SinceSteps.free_operand}
+use Rattle.monitor_state.proofs.{MarkLemmas.found_behind, MarkLemmas.met_is}
+use Rattle.monitor_nodes.specs.{SinceNode.IsSinceState, SinceNode.SinceStandsAt, UntilNode.IsUntilState}
+use Rattle.monitor_nodes.specs.{UntilNode.UntilStandsAt, Views.Dates, Views.reached}
+use Rattle.monitor_state.specs.{Recording.SinceRecorded, Recording.UntilRecorded, StateStands.SinceDataStands}
+use Rattle.monitor_state.specs.{StateStands.UntilDataStands}
 use Rattle.monitor_state.specs.declared.{state.SinceKept.SinceKept, state.UntilKept.UntilKept}
 
 pub since_recorded : (view : View) (p : ℕ) (i : Interval) (f g : CoreForm) (s : SinceOf) (k : SinceKept)

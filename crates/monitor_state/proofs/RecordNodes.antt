@@ -5,20 +5,21 @@ use Rattle.eval_bool.specs.BoolData.{JoinRule, TablesOver, join_of, with_tables}
 use Rattle.eval_bool.specs.JoinView.{ChildOf, JoinOf}
 use Rattle.eval_bool.specs.declared.recalled.JoinData.{JoinData}
 use Rattle.monitorable.specs.CoreForms.{CoreForm, Not, And, Or, Previous, Next, Since, Until}
-use Rattle.monitor_state.proofs.{ExactLemmas.reached_within, RecordLemmas.since_recorded, RecordLemmas.until_recorded}
-use Rattle.monitor_state.proofs.{UntilSteps.until_all_taken}
+use Rattle.monitor_nodes.proofs.{ExactLemmas.reached_within, UntilSteps.until_all_taken}
+use Rattle.monitor_state.proofs.{RecordLemmas.since_recorded, RecordLemmas.until_recorded}
 use Rattle.monitor_state.specs.Recording.{NodeRecorded, NodesRecorded, WindowRecorded}
-use Rattle.monitor_state.specs.Stands.{ChildrenStand, IsNodeFor, JoinStands, NodeStands, NodesStand}
+use Rattle.monitor_nodes.specs.Stands.{ChildrenStand, IsNodeFor, JoinStands, NodeStands}
+use Rattle.monitor_state.specs.Stands.{NodesStand}
 use Rattle.monitor_state.specs.StateStands.{JoinDataStands, NodeDataStands, NodesDataStand, TablesStand}
 use Rattle.monitor_state.specs.StateStands.{WindowDataStands}
-use Rattle.monitor_state.specs.Views.{reached}
-use Rattle.monitor_state.specs.WindowNode.{IsWindow, WindowStands, window_took_all}
-use Rattle.monitor_state.specs.declared.{node.Node.Node, state.NodeData.NodeData, state.WindowData.WindowData}
-use Rattle.monitor_state.specs.declared.{window.Window.Window}
-use Rattle.monitor_state.specs.declared.node.Node.TheVariants as node
+use Rattle.monitor_nodes.specs.Views.{reached}
+use Rattle.monitor_nodes.specs.WindowNode.{IsWindow, WindowStands, window_took_all}
+use Rattle.monitor_nodes.specs.declared.{node.Node.Node, window.Window.Window}
+use Rattle.monitor_state.specs.declared.{state.NodeData.NodeData, state.WindowData.WindowData}
+use Rattle.monitor_nodes.specs.declared.node.Node.TheVariants as node
 use Rattle.monitor_state.specs.declared.state.NodeData.TheVariants as kept
 use Rattle.monitor_state.specs.declared.state.WindowData.TheVariants as data_of
-use Rattle.monitor_state.specs.declared.window.Window.TheVariants as window
+use Rattle.monitor_nodes.specs.declared.window.Window.TheVariants as window
 
 pub window_recorded : (view : View) (p : ℕ) (w : CoreForm) (s : Window) (k : WindowData) → p ≤ length view.log
     → window_took_all s ≡ true → IsWindow w s → WindowStands view p w s → WindowRecorded s k

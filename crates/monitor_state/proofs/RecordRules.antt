@@ -8,8 +8,8 @@ use Rattle.eval_since.specs.SinceView.{SinceOf}
 use Rattle.eval_since.specs.declared.recalled.SinceData.{SinceData}
 use Rattle.monitorable.specs.CoreForms.{CoreForm}
 use Rattle.monitor_state.proofs.{MarkLemmas.dropped_behind, MarkLemmas.found_behind, StampLemmas.stamps_rest}
-use Rattle.monitor_state.specs.{Recording.SinceRecorded, SinceNode.IsSinceState, SinceNode.SinceStandsAt, Stamps.stamps}
-use Rattle.monitor_state.specs.{StateRules.SinceKeeps, StateRules.since_setting}
+use Rattle.monitor_nodes.specs.{SinceNode.IsSinceState, SinceNode.SinceStandsAt, Stamps.stamps}
+use Rattle.monitor_state.specs.{Recording.SinceRecorded, StateRules.SinceKeeps, StateRules.since_setting}
 use Rattle.monitor_state.specs.StateTimes.{KeptTimes, time_before, times_from}
 use Rattle.monitor_state.specs.declared.state.SinceKept.{SinceKept}
 

@@ -3,8 +3,8 @@ use Rattle.std.proofs.Common.{◌≡◌, ℕ, ◌-◌, ◌≤◌, List, length, 
 use Rattle.std.proofs.lemmas.List.{length-drop, length-map}
 use Rattle.mfotl_model.specs.{Exact.View, Log.times}
 use Rattle.monitorable.specs.CoreForms.{CoreForm}
-use Rattle.monitor_state.proofs.{ExactLemmas.reached_within, MarkLemmas.dropped_behind, RecordNodes.nodes_recorded}
-use Rattle.monitor_state.proofs.{RecordTimes.longest_is}
+use Rattle.monitor_nodes.proofs.{ExactLemmas.reached_within}
+use Rattle.monitor_state.proofs.{MarkLemmas.dropped_behind, RecordNodes.nodes_recorded, RecordTimes.longest_is}
 use Rattle.monitor_state.proofs.RecordKeeps.{earliest_least, earliest_reaches, nodes_keep}
 use Rattle.monitor_state.specs.{Nodes.nodes_of, Recording.NodesRecorded, Recording.longest, Stands.StateOf}
 use Rattle.monitor_state.specs.{Stands.Stands, StateRules.StateRule, StateStands.StateStands, StateTimes.earliest}

@@ -3,11 +3,14 @@ use Rattle.std.proofs.Common.{◌≡◌, ℕ, ◌≤◌, min, List, [], ◌∷�
 use Rattle.std.proofs.{lemmas.Bool.ltb-true, lemmas.Bool.ltb-false, lemmas.List.length-drop}
 use Rattle.mfotl_model.specs.{Exact.View, Log.times}
 use Rattle.monitorable.specs.CoreForms.{CoreForm}
-use Rattle.monitor_state.proofs.{ExactLemmas.reached_within, ResumeTimes.log_size}
+use Rattle.monitor_nodes.proofs.{ExactLemmas.reached_within}
+use Rattle.monitor_state.proofs.{ResumeTimes.log_size}
 use Rattle.monitor_state.specs.Recording.{NodeRecorded, NodesRecorded, longer_of, longest, node_stamps}
-use Rattle.monitor_state.specs.Stands.{IsNodeFor, NodeStands, NodesStand}
+use Rattle.monitor_nodes.specs.Stands.{IsNodeFor, NodeStands}
+use Rattle.monitor_state.specs.Stands.{NodesStand}
 use Rattle.monitor_state.specs.StateTimes.{earliest, node_asks}
-use Rattle.monitor_state.specs.declared.{node.Node.Node, state.NodeData.NodeData}
+use Rattle.monitor_nodes.specs.declared.{node.Node.Node}
+use Rattle.monitor_state.specs.declared.{state.NodeData.NodeData}
 
 -- of two rests of a list the longer one begins at the lesser place
 longer_is : (all xs ys : List ℕ) (a b : ℕ) → a ≤ length all → b ≤ length all → xs ≡ drop a all → ys ≡ drop b all

@@ -17,24 +17,25 @@ use Rattle.eval_until.specs.UntilData.{UntilRule, setting_of as until_setting_of
 use Rattle.eval_until.specs.declared.recalled.NextData.{NextData}
 use Rattle.monitorable.specs.CoreForms.{CoreForm, meaning, Not, And, Previous, Next, Since, Until}
 use Rattle.relations.specs.Pushed.{StandFrom}
-use Rattle.monitor_state.proofs.{ExactLemmas.exact_tell, ExactLemmas.reached_within, RecordKeeps.alike_parts}
+use Rattle.monitor_nodes.proofs.{ExactLemmas.exact_tell, ExactLemmas.reached_within}
+use Rattle.monitor_state.proofs.{RecordKeeps.alike_parts}
 use Rattle.monitor_state.proofs.ResumeTimes.{known_from, last_dates, rest_dates, rest_is, rest_size}
 use Rattle.monitor_state.proofs.ResumeWindows.{since_resumed_is, since_resumed_stands, until_resumed_all}
 use Rattle.monitor_state.proofs.ResumeWindows.{until_resumed_is, until_resumed_stands, until_resumed_taken}
-use Rattle.monitor_state.specs.{Nodes.left_operand, Views.Tells, Views.reached, WindowNode.IsWindow}
+use Rattle.monitor_nodes.specs.{Operands.left_operand, Views.Tells, Views.reached, WindowNode.IsWindow}
 use Rattle.monitor_state.specs.{StateRules.NodeKeeps, StateRules.WindowKeeps}
 use Rattle.monitor_state.specs.Resuming.{NodeResumed, Reach, SinceResumed, UntilResumed, WindowResumed}
-use Rattle.monitor_state.specs.Stands.{ChildrenStand, IsNodeFor, IsConjunction, IsPrevious, JoinStands, NextStands}
-use Rattle.monitor_state.specs.Stands.{PreviousStands, bare}
+use Rattle.monitor_nodes.specs.Stands.{ChildrenStand, IsNodeFor, IsConjunction, IsPrevious, JoinStands, NextStands}
+use Rattle.monitor_nodes.specs.Stands.{PreviousStands, bare}
 use Rattle.monitor_state.specs.StateStands.{JoinDataStands, NextDataStands, PreviousDataStands, TablesStand}
 use Rattle.monitor_state.specs.StateTimes.{KeptTimes, time_before, times_from}
-use Rattle.monitor_state.specs.declared.{filter.FilterState.FilterState, state.NodeData.NodeData}
-use Rattle.monitor_state.specs.declared.{state.SinceKept.SinceKept, state.UntilKept.UntilKept}
+use Rattle.monitor_nodes.specs.declared.{filter.FilterState.FilterState}
+use Rattle.monitor_state.specs.declared.{state.NodeData.NodeData, state.SinceKept.SinceKept, state.UntilKept.UntilKept}
 use Rattle.monitor_state.specs.declared.{state.WindowData.WindowData}
-use Rattle.monitor_state.specs.declared.node.Node.TheVariants as node
+use Rattle.monitor_nodes.specs.declared.node.Node.TheVariants as node
 use Rattle.monitor_state.specs.declared.state.NodeData.TheVariants as kept
 use Rattle.monitor_state.specs.declared.state.WindowData.TheVariants as data_of
-use Rattle.monitor_state.specs.declared.window.Window.TheVariants as window
+use Rattle.monitor_nodes.specs.declared.window.Window.TheVariants as window
 use Rattle.std.proofs.lemmas.Grind.{common_steps}
 
 -- ---- conjunctions

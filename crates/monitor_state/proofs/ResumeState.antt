@@ -7,16 +7,18 @@ use Rattle.mfotl_model.specs.{Exact.View, Log.times, Regions.everywhere, Times.N
 use Rattle.mfotl_model.specs.declared.event.TimePoint.{TimePoint}
 use Rattle.monitorable.specs.CoreForms.{CoreForm, meaning}
 use Rattle.monitorable.specs.declared.role.Role.TheVariants as role
-use Rattle.monitor_state.proofs.{BeginLemmas.begins, ExactLemmas.reached_within, LawProofs.itself}
-use Rattle.monitor_state.proofs.{MonitorSteps.premises_all, PosedSteps.premises_posed, RecordKeeps.earliest_least}
-use Rattle.monitor_state.proofs.{RecordKeeps.earliest_reaches, ResumeTimes.log_size}
+use Rattle.monitor_nodes.proofs.{ExactLemmas.reached_within}
+use Rattle.monitor_state.proofs.{BeginLemmas.begins, LawProofs.itself, MonitorSteps.premises_all}
+use Rattle.monitor_state.proofs.{PosedSteps.premises_posed, RecordKeeps.earliest_least, RecordKeeps.earliest_reaches}
+use Rattle.monitor_state.proofs.{ResumeTimes.log_size}
+use Rattle.monitor_nodes.specs.{Views.reached, Steps.longer}
 use Rattle.monitor_state.specs.{Beginnings.Adds, Going.AllPremises, Nodes.nodes_of, Nodes.posed, StateRules.NodesKeep}
 use Rattle.monitor_state.specs.{StateRules.StateRule, StateStands.NodesDataStand, StateStands.StateStands}
-use Rattle.monitor_state.specs.{Views.reached, Steps.longer}
 use Rattle.monitor_state.specs.Resuming.{AllMatch, NodeResumed, NodesResumed, SuitsEvaluation, SuitsWhole}
 use Rattle.monitor_state.specs.Stands.{NodesStand, StateOf, Stands}
 use Rattle.monitor_state.specs.StateTimes.{KeptTimes, earliest, node_asks, times_of}
-use Rattle.monitor_state.specs.declared.{node.Node.Node, state.NodeData.NodeData, state.State.State}
+use Rattle.monitor_nodes.specs.declared.{node.Node.Node}
+use Rattle.monitor_state.specs.declared.{state.NodeData.NodeData, state.State.State}
 
 -- nodes of the core and data of the core match
 pub all_match : (view : View) (k : KeptTimes) (fs : List CoreForm) (ns : List Node) (ds : List NodeData)

@@ -5,7 +5,7 @@ use Rattle.std.proofs.lemmas.List.{drop_more, get_or-drop, length-drop, length-m
 use Rattle.mfotl_model.specs.{Exact.View, Log.times, Satisfaction.time_at}
 use Rattle.relations.specs.Pushed.{StandFrom}
 use Rattle.monitor_state.proofs.MarkLemmas.{dropped_behind, found_behind}
-use Rattle.monitor_state.specs.{Stamps.stamps, Views.Dates}
+use Rattle.monitor_nodes.specs.{Stamps.stamps, Views.Dates}
 use Rattle.monitor_state.specs.StateTimes.{KeptTimes, time_before, times_from}
 use Rattle.std.proofs.lemmas.Grind.{common_steps}
 

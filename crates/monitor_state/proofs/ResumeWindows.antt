@@ -6,22 +6,26 @@ use Rattle.mfotl_model.specs.{Exact.Covers, Exact.View, FreeVariables.fv, Log.ti
 use Rattle.mfotl_model.specs.Satisfaction.{Valuation, time_at, truth_at}
 use Rattle.mfotl_model.specs.declared.{interval.Interval.Interval, value.Value.Value}
 use Rattle.eval_since.proofs.RecalledLemmas.{recalls_is}
-use Rattle.eval_since.specs.{Recalled.recalls, Recalled.times_for, SinceBefore.since_before, SinceData.FollowsData}
-use Rattle.eval_since.specs.{SinceData.setting_of, SinceView.SinceOf, Times.reaches}
+use Rattle.eval_since.specs.{Recalled.recalls, SinceBefore.since_before, SinceData.FollowsData}
+use Rattle.row_times.specs.{KeptTimes.times_for}
+use Rattle.eval_since.specs.{SinceData.setting_of, SinceView.SinceOf}
+use Rattle.row_times.specs.{Times.reaches}
 use Rattle.eval_until.specs.{Entries.met_by, Recalled.entries_kept, Recalled.starts_kept, Starts.start_of}
 use Rattle.eval_until.specs.{UntilBefore.until_before, UntilData.setting_of as until_setting_of, UntilData.until_of}
 use Rattle.eval_until.specs.UntilView.{Follows as FollowsUntil, FollowsLeft, UntilOf, took_all}
 use Rattle.monitorable.specs.CoreForms.{CoreForm, meaning, Since, Until}
 use Rattle.relations.specs.{KeptRows.list_for, Pushed.StandFrom, Pushed.left_holds}
-use Rattle.monitor_state.proofs.{ExactLemmas.exact_tell, ExactLemmas.reached_within, MarkLemmas.met_is}
-use Rattle.monitor_state.proofs.{RegionLemmas.near_part, SinceSteps.free_operand, SinceSteps.left_tell}
+use Rattle.monitor_nodes.proofs.{ExactLemmas.exact_tell, ExactLemmas.reached_within, RegionLemmas.near_part}
+use Rattle.monitor_nodes.proofs.{SinceSteps.free_operand, SinceSteps.left_tell}
+use Rattle.monitor_state.proofs.{MarkLemmas.met_is}
 use Rattle.monitor_state.proofs.ResumeTimes.{known_from, last_dates, rest_dates, rest_is, rest_size}
 use Rattle.monitor_state.specs.Resuming.{Reach, SinceResumed, SuitsEvaluation, UntilResumed}
-use Rattle.monitor_state.specs.{SinceNode.IsSinceState, SinceNode.SinceStandsAt, Stamps.stamps, StateRules.SinceKeeps}
-use Rattle.monitor_state.specs.{StateRules.UntilKeeps, StateStands.SinceDataStands, StateStands.UntilDataStands}
-use Rattle.monitor_state.specs.{UntilNode.IsUntilState, UntilNode.UntilStandsAt}
+use Rattle.monitor_nodes.specs.{SinceNode.IsSinceState, SinceNode.SinceStandsAt, Stamps.stamps, UntilNode.IsUntilState}
+use Rattle.monitor_nodes.specs.{UntilNode.UntilStandsAt}
+use Rattle.monitor_state.specs.{StateRules.SinceKeeps, StateRules.UntilKeeps, StateStands.SinceDataStands}
+use Rattle.monitor_state.specs.{StateStands.UntilDataStands}
 use Rattle.monitor_state.specs.StateTimes.{KeptTimes, time_before, times_from}
-use Rattle.monitor_state.specs.Views.{Dates, Tells, reached}
+use Rattle.monitor_nodes.specs.Views.{Dates, Tells, reached}
 use Rattle.monitor_state.specs.declared.{state.SinceKept.SinceKept, state.UntilKept.UntilKept}
 
 module _ (k : KeptTimes) (i : Interval) (f g : CoreForm) (old new : SinceOf) (d : SinceKept)

@@ -4,8 +4,9 @@ use Rattle.std.proofs.lemmas.List.{drop-append-le, drop-drop, length-map}
 use Rattle.mfotl_model.specs.{Log.times, Tables.TableOf}
 use Rattle.mfotl_model.specs.declared.event.TimePoint.{TimePoint}
 use Rattle.monitorable.specs.CoreForms.{CoreForm}
-use Rattle.monitor_state.proofs.ExactLemmas.{log_more, reached_within, times_more}
-use Rattle.monitor_state.specs.{Going.AllAdvance, Stands.StateOf, Steps.Steps, Steps.longer, Views.reached}
+use Rattle.monitor_nodes.proofs.ExactLemmas.{log_more, reached_within, times_more}
+use Rattle.monitor_nodes.specs.{Steps.longer, Views.reached}
+use Rattle.monitor_state.specs.{Going.AllAdvance, Stands.StateOf, Steps.Steps}
 
 pub steps : (core : CoreForm) (old new : StateOf) (given : TimePoint) (tables : List TableOf)
     → AllAdvance old.nodes given new.nodes tables → old.taken < 2 ^ 63 → new.taken ≡ old.taken + 1

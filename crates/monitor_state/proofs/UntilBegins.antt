@@ -4,11 +4,13 @@ use Rattle.mfotl_model.specs.{Exact.View, FreeVariables.fv, Tables.TableOf}
 use Rattle.mfotl_model.specs.declared.interval.Interval.{Interval}
 use Rattle.eval_until.specs.UntilView.{UntilOf}
 use Rattle.monitorable.specs.CoreForms.{CoreForm, meaning, Until}
-use Rattle.monitor_state.proofs.{BeginLemmas.adds_one, BeginLemmas.none_reached, SinceSteps.free_operand}
-use Rattle.monitor_state.specs.{Beginnings.Adds, Beginnings.UntilBegun, Views.reached}
-use Rattle.monitor_state.specs.UntilNode.{IsUntil, IsUntilState, UntilStands, UntilStandsAt}
-use Rattle.monitor_state.specs.declared.node.Node.{Node}
-use Rattle.monitor_state.specs.declared.node.Node.TheVariants as node
+use Rattle.monitor_nodes.proofs.{SinceSteps.free_operand}
+use Rattle.monitor_state.proofs.{BeginLemmas.adds_one, BeginLemmas.none_reached}
+use Rattle.monitor_nodes.specs.{Views.reached}
+use Rattle.monitor_state.specs.{Beginnings.Adds, Beginnings.UntilBegun}
+use Rattle.monitor_nodes.specs.UntilNode.{IsUntil, IsUntilState, UntilStands, UntilStandsAt}
+use Rattle.monitor_nodes.specs.declared.node.Node.{Node}
+use Rattle.monitor_nodes.specs.declared.node.Node.TheVariants as node
 
 pub until_state_is : (i : Interval) (f g : CoreForm) (s : UntilOf) → UntilBegun i f g s → IsUntilState i f g s
 until_state_is i f g s begun = grind (arith, free_operand)

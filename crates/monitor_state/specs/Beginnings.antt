@@ -16,11 +16,12 @@ use Rattle.monitorable.specs.Conjuncts.{PartForm, conjuncts_of}
 use Rattle.monitorable.specs.Conjuncts.PartForm.{Child, Test}
 use Rattle.monitorable.specs.Fragment.{Names, fault_in, guards}
 use Rattle.monitorable.specs.declared.role.Role.{Role}
-use Rattle.monitor_state.specs.Nodes.{children, is_negated, operands}
-use Rattle.monitor_state.specs.Stands.{IsNodeFor, NodeStands, NodesStand, Stands, StateOf, conjunct_as}
-use Rattle.monitor_state.specs.declared.node.Node.{Node}
-use Rattle.monitor_state.specs.declared.window.Window.{Window}
-use Rattle.monitor_state.specs.declared.window.Window.TheVariants as window
+use Rattle.monitor_nodes.specs.Operands.{children, is_negated, operands}
+use Rattle.monitor_nodes.specs.Stands.{IsNodeFor, NodeStands, conjunct_as}
+use Rattle.monitor_state.specs.Stands.{NodesStand, Stands, StateOf}
+use Rattle.monitor_nodes.specs.declared.node.Node.{Node}
+use Rattle.monitor_nodes.specs.declared.window.Window.{Window}
+use Rattle.monitor_nodes.specs.declared.window.Window.TheVariants as window
 
 -- the fragment accepts the core in its role, with some names of its variables
 abbrev pub Accepted : Role → CoreForm → Type 0

@@ -4,10 +4,11 @@ use Rattle.mfotl_model.specs.Exact.{View}
 use Rattle.mfotl_model.specs.Tables.{TableOf}
 use Rattle.mfotl_model.specs.declared.event.TimePoint.{TimePoint}
 use Rattle.monitorable.specs.CoreForms.{CoreForm}
-use Rattle.monitor_state.specs.Nodes.{nodes_of, operands, posed}
+use Rattle.monitor_nodes.specs.Operands.{operands}
+use Rattle.monitor_state.specs.Nodes.{nodes_of, posed}
 use Rattle.monitor_state.specs.Stands.{NodesStand}
-use Rattle.monitor_state.specs.Steps.{News, Premises, StackNews, longer}
-use Rattle.monitor_state.specs.declared.node.Node.{Node}
+use Rattle.monitor_nodes.specs.Steps.{News, Premises, StackNews, longer}
+use Rattle.monitor_nodes.specs.declared.node.Node.{Node}
 
 -- the cores still to come work on the stack: each takes its operands off and is put there; at the end
 -- the goal alone is there

@@ -18,7 +18,7 @@ use Rattle.monitorable.specs.Laws.{whole_view}
 use Rattle.monitorable.specs.Renaming.{binders}
 use Rattle.monitorable.specs.SatisfyingRows.{HasViolationsOf}
 use Rattle.relations.specs.Tables.{IsTable}
-use Rattle.monitor_state.specs.Steps.{Premises, SameNear}
+use Rattle.monitor_nodes.specs.Steps.{Premises, SameNear}
 
 -- whatever lies between a region's slice and the database has the same near events
 abbrev pub SliceIsEnough : Type 0

@@ -3,7 +3,7 @@ use Rattle.std.specs.Prelude.{◌≡◌, ℕ, cond, nat_lt, List, [], ◌∷◌,
 use Rattle.mfotl_model.specs.declared.value.Value.{Value}
 use Rattle.eval_bool.specs.BoolData.{JoinRule, OrRule, join_of, or_of}
 use Rattle.eval_since.specs.PreviousData.{PreviousRule, previous_of}
-use Rattle.eval_since.specs.Recalled.{times_kept}
+use Rattle.row_times.specs.KeptTimes.{times_kept}
 use Rattle.eval_since.specs.SinceData.{KeepsRule, setting_of}
 use Rattle.eval_since.specs.SinceView.{SinceOf}
 use Rattle.eval_since.specs.WindowView.{kept_times}
@@ -11,17 +11,17 @@ use Rattle.eval_until.specs.NextData.{NextRule, next_of}
 use Rattle.eval_until.specs.UntilData.{UntilRule, setting_of as until_setting_of, until_of}
 use Rattle.eval_until.specs.UntilView.{UntilOf}
 use Rattle.relations.specs.KeptRows.{filled, kept_for}
-use Rattle.monitor_state.specs.Stamps.{stamps}
-use Rattle.monitor_state.specs.declared.node.Node.{Node}
-use Rattle.monitor_state.specs.declared.node.Node.TheVariants as node
+use Rattle.monitor_nodes.specs.Stamps.{stamps}
+use Rattle.monitor_nodes.specs.declared.node.Node.{Node}
+use Rattle.monitor_nodes.specs.declared.node.Node.TheVariants as node
 use Rattle.monitor_state.specs.declared.state.NodeData.{NodeData}
 use Rattle.monitor_state.specs.declared.state.NodeData.TheVariants as kept
 use Rattle.monitor_state.specs.declared.state.SinceKept.{SinceKept}
 use Rattle.monitor_state.specs.declared.state.UntilKept.{UntilKept}
 use Rattle.monitor_state.specs.declared.state.WindowData.{WindowData}
 use Rattle.monitor_state.specs.declared.state.WindowData.TheVariants as data_of
-use Rattle.monitor_state.specs.declared.window.Window.{Window}
-use Rattle.monitor_state.specs.declared.window.Window.TheVariants as window
+use Rattle.monitor_nodes.specs.declared.window.Window.{Window}
+use Rattle.monitor_nodes.specs.declared.window.Window.TheVariants as window
 
 -- of a SINCE
 pub record SinceRecorded (s : SinceOf) (k : SinceKept) : Type 0 where

@@ -13,16 +13,17 @@ use Rattle.eval_until.specs.UntilView.{Follows as FollowsUntil, FollowsLeft, Unt
 use Rattle.eval_until.specs.declared.recalled.UntilData.{UntilData}
 use Rattle.monitorable.specs.CoreForms.{CoreForm, meaning}
 use Rattle.monitorable.specs.Soundness.{IsWellFormedIn}
-use Rattle.monitor_state.specs.Stands.{IsNodeFor, NodeStands, Stands, StateOf}
+use Rattle.monitor_nodes.specs.Stands.{IsNodeFor, NodeStands}
+use Rattle.monitor_state.specs.Stands.{Stands, StateOf}
 use Rattle.monitor_state.specs.StateRules.{NodeKeeps, WindowKeeps}
 use Rattle.monitor_state.specs.StateStands.{NodeDataStands, StateStands, WindowDataStands}
 use Rattle.monitor_state.specs.StateTimes.{KeptTimes, node_asks, time_before, times_from, window_asks}
-use Rattle.monitor_state.specs.WindowNode.{IsWindow, WindowStands, window_took_all}
-use Rattle.monitor_state.specs.declared.node.Node.{Node}
+use Rattle.monitor_nodes.specs.WindowNode.{IsWindow, WindowStands, window_took_all}
+use Rattle.monitor_nodes.specs.declared.node.Node.{Node}
 use Rattle.monitor_state.specs.declared.state.NodeData.{NodeData}
 use Rattle.monitor_state.specs.declared.state.State.{State}
 use Rattle.monitor_state.specs.declared.state.WindowData.{WindowData}
-use Rattle.monitor_state.specs.declared.window.Window.{Window}
+use Rattle.monitor_nodes.specs.declared.window.Window.{Window}
 
 -- what is taken for granted of a region and a part of the core: near passes to parts of a row, and the part has all
 -- that evaluating it relies on

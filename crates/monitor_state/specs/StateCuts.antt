@@ -7,7 +7,7 @@ use Rattle.mfotl_model.specs.declared.value.Value.{Value}
 use Rattle.eval_bool.specs.BoolData.{kept_tables}
 use Rattle.eval_bool.specs.declared.recalled.JoinData.{JoinData}
 use Rattle.eval_bool.specs.declared.recalled.OrData.{OrData}
-use Rattle.eval_since.specs.Recalled.{times_kept}
+use Rattle.row_times.specs.KeptTimes.{times_kept}
 use Rattle.eval_since.specs.declared.recalled.PrevData.{PrevData}
 use Rattle.eval_until.specs.Recalled.{starts_kept}
 use Rattle.eval_until.specs.declared.recalled.NextData.{NextData}

@@ -7,7 +7,7 @@ use Rattle.mfotl_model.specs.Satisfaction.{Valuation}
 use Rattle.mfotl_model.specs.Tables.{TableOf, has}
 use Rattle.mfotl_model.specs.declared.value.Value.{Value}
 use Rattle.eval_bool.specs.BoolData.{kept_tables}
-use Rattle.eval_since.specs.Recalled.{times_kept}
+use Rattle.row_times.specs.KeptTimes.{times_kept}
 use Rattle.eval_until.specs.Recalled.{starts_kept}
 use Rattle.monitorable.specs.CoreForms.{CoreForm}
 use Rattle.relations.specs.KeptRows.{kept_for}

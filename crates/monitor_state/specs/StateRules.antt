@@ -15,8 +15,9 @@ use Rattle.monitorable.specs.CoreForms.{CoreForm, meaning, True, False, Atom, Co
 use Rattle.monitorable.specs.CoreForms.{Next, Since}
 use Rattle.monitorable.specs.CoreForms.{Until}
 use Rattle.relations.specs.Pushed.{AreOver}
-use Rattle.monitor_state.specs.Nodes.{children, filters, is_negated, left_operand, nodes_of, operands}
-use Rattle.monitor_state.specs.Stands.{conjunct_as}
+use Rattle.monitor_nodes.specs.Operands.{children, filters, is_negated, left_operand, operands}
+use Rattle.monitor_state.specs.Nodes.{nodes_of}
+use Rattle.monitor_nodes.specs.Stands.{conjunct_as}
 use Rattle.monitor_state.specs.StateTimes.{KeptTimes, time_before, times_from, times_of}
 use Rattle.monitor_state.specs.declared.state.NodeData.{NodeData}
 use Rattle.monitor_state.specs.declared.state.NodeData.TheVariants as kept

@@ -14,9 +14,9 @@ use Rattle.mfotl_model.specs.declared.value.Value.{Value}
 use Rattle.eval_bool.specs.BoolData.{kept_tables}
 use Rattle.eval_bool.specs.declared.recalled.JoinData.{JoinData}
 use Rattle.eval_bool.specs.declared.recalled.OrData.{OrData}
-use Rattle.eval_since.specs.Recalled.{times_for}
+use Rattle.row_times.specs.KeptTimes.{times_for}
 use Rattle.eval_since.specs.SinceBefore.{since_before}
-use Rattle.eval_since.specs.Times.{reaches}
+use Rattle.row_times.specs.Times.{reaches}
 use Rattle.eval_since.specs.declared.recalled.PrevData.{PrevData}
 use Rattle.eval_since.specs.declared.recalled.SinceData.{SinceData}
 use Rattle.eval_until.specs.Recalled.{starts_kept}
@@ -28,9 +28,10 @@ use Rattle.eval_until.specs.declared.recalled.NextData.{NextData}
 use Rattle.eval_until.specs.declared.recalled.UntilData.{UntilData}
 use Rattle.monitorable.specs.CoreForms.{CoreForm, meaning, Not, And, Or, Previous, Next, Since, Until}
 use Rattle.relations.specs.KeptRows.{list_for}
-use Rattle.monitor_state.specs.Nodes.{is_negated, left_operand, nodes_of, operands}
+use Rattle.monitor_nodes.specs.Operands.{is_negated, left_operand, operands}
+use Rattle.monitor_state.specs.Nodes.{nodes_of}
 use Rattle.monitor_state.specs.StateTimes.{earliest}
-use Rattle.monitor_state.specs.Views.{Dates, Tells, reached}
+use Rattle.monitor_nodes.specs.Views.{Dates, Tells, reached}
 use Rattle.monitor_state.specs.declared.state.NodeData.{NodeData}
 use Rattle.monitor_state.specs.declared.state.NodeData.TheVariants as kept
 use Rattle.monitor_state.specs.declared.state.State.{State}

@@ -5,10 +5,11 @@ ghost use Rattle.mfotl_model.specs.Tables.{all_among};
 ghost use Rattle.monitorable.specs.CoreForms.{Until, meaning, node_form};
 ghost use Rattle.monitor_state.specs.Beginnings.{Adds, UntilBegun};
 
-use crate::node::{Node, add};
+use crate::adding::add;
 use crate::operators::{is_negated, without_rows};
 use eval_until::UntilState;
 use mfotl_model::Interval;
+use monitor_nodes::Node;
 use monitorable::Node as Core;
 use std::alloc::{AllocError, Global};
 

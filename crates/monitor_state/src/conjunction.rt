@@ -6,11 +6,12 @@ ghost use Rattle.monitorable.specs.Conjuncts.{conjuncts_of};
 ghost use Rattle.monitorable.specs.CoreForms.{node_form};
 ghost use Rattle.monitorable.specs.PartView.{part_form};
 ghost use Rattle.monitor_state.specs.Beginnings.{AddsIf, BeginsNode, GuardedIf, IsJoined, WholeIf, is_child};
-ghost use Rattle.monitor_state.specs.Stands.{conjunct_as};
+ghost use Rattle.monitor_nodes.specs.Stands.{conjunct_as};
 
+use crate::adding::add;
 use crate::constant::tested;
-use crate::node::{Node, add};
 use eval_bool::{Conjunct, JoinState};
+use monitor_nodes::Node;
 use monitorable::{Node as Core, Part, conjuncts};
 use std::alloc::{AllocError, Global};
 

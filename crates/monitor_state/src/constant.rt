@@ -12,10 +12,11 @@ ghost use Rattle.monitorable.specs.PartView.{part_form};
 ghost use Rattle.monitor_state.specs.Beginnings.{Accepted, Adds, AddsIf};
 ghost use Rattle.monitor_state.specs.Constants.{is_ground, is_ground_test, is_fixed, stands_alone};
 ghost use Rattle.monitor_state.specs.Nodes.{true_in};
-ghost use Rattle.monitor_state.specs.Stands.{IsConstant, conjunct_as};
+ghost use Rattle.monitor_nodes.specs.Stands.{IsConstant, conjunct_as};
 
-use crate::node::{Node, add};
+use crate::adding::add;
 use mfotl_model::{Comparison, Row, Term, Value};
+use monitor_nodes::Node;
 use monitorable::{Part, Role, binds};
 use relations::{Columns, Table};
 use std::alloc::{AllocError, Global};

@@ -13,13 +13,12 @@ ghost use Rattle.monitor_state.specs.Steps.{Steps};
 
 use crate::compile::begun_nodes;
 use crate::kept_times::KeptTimes;
-use crate::node::Node;
 use crate::recording::nodes_data;
 use crate::resume_nodes::nodes_resumed;
 use crate::stamps::{longest, times_behind};
 use crate::state::State;
-use crate::tables::Tables;
 use mfotl_model::{Row, TimePoint};
+use monitor_nodes::{Node, Tables};
 use monitorable::Core;
 use std::alloc::{AllocError, Global};
 use std::collections::VecDeque;

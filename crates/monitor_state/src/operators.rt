@@ -5,13 +5,14 @@ ghost use Rattle.mfotl_model.specs.Tables.{all_among};
 ghost use Rattle.eval_bool.specs.OrView.{same_columns};
 ghost use Rattle.monitorable.specs.CoreForms.{meaning, node_form, Next, Or, Previous, Since};
 ghost use Rattle.monitor_state.specs.Beginnings.{Adds, NextBegun, OrBegun, PreviousBegun, SinceBegun};
-ghost use Rattle.monitor_state.specs.Nodes.{is_negated};
+ghost use Rattle.monitor_nodes.specs.Operands.{is_negated};
 
-use crate::node::{Node, add};
+use crate::adding::add;
 use eval_bool::OrState;
 use eval_since::{PrevState, SinceState};
 use eval_until::NextState;
 use mfotl_model::Interval;
+use monitor_nodes::Node;
 use monitorable::Node as Core;
 use relations::{Columns, Table};
 use std::alloc::{AllocError, Global};

@@ -3,7 +3,8 @@ ghost use Rattle.std.specs.Prelude.{◌≡◌, ◌&&◌, cond, IfOk, not};
 ghost use Rattle.std.specs.List.{list_any};
 ghost use Rattle.mfotl_model.specs.FreeVariables.{among, fv};
 ghost use Rattle.monitorable.specs.CoreForms.{meaning, node_form, And, Not};
-ghost use Rattle.monitor_state.specs.Nodes.{first_conjunct, is_atom, is_window, leads, led, narrowed, posed};
+ghost use Rattle.monitor_nodes.specs.Operands.{is_window};
+ghost use Rattle.monitor_state.specs.Nodes.{first_conjunct, is_atom, leads, led, narrowed, posed};
 
 use crate::arranging::arranged;
 use crate::begin_filter::{is_window, some_among};

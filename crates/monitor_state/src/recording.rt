@@ -4,13 +4,11 @@ ghost use Rattle.mfotl_model.specs.Tables.{TableOf};
 ghost use Rattle.monitor_state.specs.Recording.{NodeRecorded, NodesRecorded, SinceRecorded, UntilRecorded};
 ghost use Rattle.monitor_state.specs.Recording.{WindowRecorded};
 
-use crate::filter::FilterState;
-use crate::node::Node;
 use crate::state::{NodeData, SinceKept, UntilKept, WindowData};
-use crate::window::Window;
 use eval_bool::{JoinState, OrState};
 use eval_since::{PrevState, SinceState};
 use eval_until::{NextState, UntilState};
+use monitor_nodes::{FilterState, Node, Window};
 use std::alloc::{AllocError, Global};
 
 /// What each of the nodes keeps.

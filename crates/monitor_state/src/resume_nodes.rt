@@ -3,15 +3,14 @@
 ghost use Rattle.std.specs.Prelude.{◌≡◌, ◌++◌, ◌∷◌, [], IfOk, OnOk};
 ghost use Rattle.monitor_state.specs.Resuming.{AllMatch, Matches, NodeResumed, NodesResumed};
 
-use crate::filter::FilterState;
+use crate::adding::add;
 use crate::kept_times::KeptTimes;
-use crate::node::{Node, add};
 use crate::resume_windows::{since_resumed, until_resumed, window_resumed};
 use crate::state::{NodeData, WindowData};
-use crate::tables::Tables;
 use eval_bool::{JoinState, OrState};
 use eval_since::{PrevState, SinceState};
 use eval_until::{NextState, UntilState};
+use monitor_nodes::{FilterState, Node, Tables};
 use relations::Table;
 use std::alloc::{AllocError, Global};
 

@@ -6,13 +6,13 @@ ghost use Rattle.monitorable.specs.CoreForms.{CoreForm};
 ghost use Rattle.monitor_state.specs.Resuming.{SinceResumed, UntilResumed, WindowResumed};
 ghost use Rattle.monitor_state.specs.StateRules.{WindowKeeps};
 ghost use Rattle.monitor_state.specs.StateTimes.{time_before, times_from};
-ghost use Rattle.monitor_state.specs.WindowNode.{IsWindow};
+ghost use Rattle.monitor_nodes.specs.WindowNode.{IsWindow};
 
 use crate::kept_times::KeptTimes;
 use crate::state::{SinceKept, UntilKept, WindowData};
-use crate::window::Window;
 use eval_since::SinceState;
 use eval_until::UntilState;
+use monitor_nodes::Window;
 use std::alloc::{AllocError, Global};
 
 pub fn since_resumed(

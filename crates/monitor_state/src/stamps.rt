@@ -2,8 +2,7 @@
 ghost use Rattle.std.specs.Prelude.{◌≡◌, ◌++◌, IfOk, drop, option_to_list};
 ghost use Rattle.monitor_state.specs.Recording.{longer_of, longest, node_stamps, window_stamps};
 
-use crate::node::Node;
-use crate::window::Window;
+use monitor_nodes::{Node, Window};
 use std::alloc::{AllocError, Global};
 use std::collections::VecDeque;
 

@@ -20,12 +20,19 @@ use texts::parted;
 fn answer(alloc: Global, case: &str) -> Result<String, Stop> {
     let (kind, case) = parted(case);
     match kind {
-        "tokens" | "contents" | "twice" | "front" | "integer" => tokens::answer(alloc, kind, case),
         "predicate" | "policy" => readers::answer(alloc, kind, case),
         "core" => fragment::core(alloc, case),
-        "points" | "limited" | "unfinished" | "pieces" => points::answer(alloc, kind, case),
         "load" | "read" | "write" | "gather" => outside::answer(alloc, kind, case),
         "interval" | "lines" => model::answer(alloc, kind, case),
+        _ => answer_of_tokens(alloc, kind, case),
+    }
+}
+
+// The same of a case of tokens or of the time-points that they make.
+fn answer_of_tokens(alloc: Global, kind: &str, case: &str) -> Result<String, Stop> {
+    match kind {
+        "tokens" | "contents" | "twice" | "front" | "integer" => tokens::answer(alloc, kind, case),
+        "points" | "limited" | "unfinished" | "pieces" => points::answer(alloc, kind, case),
         _ => Err(Stop::Malformed),
     }
 }

@@ -43,10 +43,21 @@ fn loaded(alloc: Global, case: &str) -> Result<String, Stop> {
     let (piece, case) = parted(case);
     let (limit, case) = parted(case);
     let (fail, text) = parted(case);
-    let files = [file(alloc, text)?];
     let fail = numbers(alloc, fail)?;
-    let mut inputs = MemInputs::new(&files, piece_of(piece)?, fail.as_slice());
-    load_from(alloc, &mut inputs, name, number(limit)?)
+    let piece = piece_of(piece)?;
+    let files = [file(alloc, text)?];
+    let mut inputs = MemInputs::new(&files, piece, fail.as_slice());
+    load_within(alloc, &mut inputs, name, limit)
+}
+
+fn load_within(
+    alloc: Global,
+    inputs: &mut MemInputs<'_>,
+    name: &str,
+    limit: &str,
+) -> Result<String, Stop> {
+    let limit = number(limit)?;
+    load_from(alloc, inputs, name, limit)
 }
 
 fn load_from(
@@ -96,12 +107,21 @@ fn told_read(
     bytes: &[u8],
 ) -> Result<String, Stop> {
     let mut told = count.to_string(alloc)?;
-    match end {
-        Ok(()) => put_word(&mut told, "Ok")?,
-        Err(fault) => put_word(&mut told, fault.to_string(alloc)?.as_str())?,
-    }
-    put_word(&mut told, shown(alloc, bytes)?.as_str())?;
+    put_read(alloc, &mut told, end, bytes)?;
     Ok(told)
+}
+
+fn put_read(
+    alloc: Global,
+    told: &mut String,
+    end: Result<(), LoadFault>,
+    bytes: &[u8],
+) -> Result<(), Stop> {
+    match end {
+        Ok(()) => put_word(told, "Ok")?,
+        Err(fault) => put_word(told, fault.to_string(alloc)?.as_str())?,
+    }
+    put_word(told, shown(alloc, bytes)?.as_str())
 }
 
 // How each piece is written to a sink whose calls of these numbers fail, and what it then has.

@@ -67,7 +67,7 @@ fn unfinished(alloc: Global, case: &str) -> Result<String, Stop> {
 fn told_unfinished(alloc: Global, signature: &Signature, log: &str) -> Result<String, Stop> {
     let bytes = bytes_of(alloc, log)?;
     let mut reader = LogReader::new(alloc, signature, Limits::standard());
-    reader.feed(alloc, bytes.as_slice())?;
+    reader.feed_owned(alloc, bytes);
     told_thrice(alloc, &mut reader)
 }
 
@@ -186,12 +186,17 @@ fn put_given(
     match given {
         Ok(Next::Point(point)) => {
             put_point(alloc, told, &point)?;
-            return Ok(true);
+            Ok(true)
         }
-        Ok(Next::More) => put_word(told, "More")?,
-        Ok(Next::End) => put_word(told, "End")?,
-        Err(fault) => put_word(told, fault.to_string(alloc)?.as_str())?,
+        Ok(Next::More) => put_last(told, "More"),
+        Ok(Next::End) => put_last(told, "End"),
+        Err(fault) => put_last(told, fault.to_string(alloc)?.as_str()),
     }
+}
+
+// Puts the word of an answer that is no time-point.
+fn put_last(told: &mut String, word: &str) -> Result<bool, Stop> {
+    put_word(told, word)?;
     Ok(false)
 }
 

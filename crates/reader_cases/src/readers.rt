@@ -86,9 +86,13 @@ fn told_columns(alloc: Global, policy: &Policy) -> Result<String, Stop> {
     for var in policy.vars.as_slice() {
         put_column(alloc, &mut told, var)?;
     }
-    let numbers = policy.formula.free_vars(alloc)?;
-    put_word(&mut told, format!(in alloc; "{numbers:?}")?.as_str())?;
+    put_numbers(alloc, &mut told, policy)?;
     Ok(told)
+}
+
+fn put_numbers(alloc: Global, told: &mut String, policy: &Policy) -> Result<(), Stop> {
+    let numbers = policy.formula.free_vars(alloc)?;
+    put_word(told, format!(in alloc; "{numbers:?}")?.as_str())
 }
 
 fn put_column(alloc: Global, told: &mut String, var: &Var) -> Result<(), Stop> {

@@ -83,9 +83,14 @@ fn front_of(alloc: Global, mode: Mode, at: u32, text: &[u8]) -> Result<String, S
 fn contents(alloc: Global, case: &str) -> Result<String, Stop> {
     let text = bytes_of(alloc, case)?;
     let mut lexer = Lexer::new(text.as_slice(), Mode::Plain);
+    said_of(alloc, &mut lexer, text.len())
+}
+
+// What each token says, of at most so many, and the offset behind them.
+fn said_of(alloc: Global, lexer: &mut Lexer<'_>, most: usize) -> Result<String, Stop> {
     let mut told = String::new(alloc);
-    for _ in 0..text.len() {
-        if !put_said(alloc, &mut told, &mut lexer)? {
+    for _ in 0..most {
+        if !put_said(alloc, &mut told, lexer)? {
             break;
         }
     }

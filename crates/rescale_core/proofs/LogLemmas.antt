@@ -7,7 +7,7 @@ use Rattle.mfotl_model.specs.{Domains.in_domain, FreeVariables.fv, FreeVariables
 use Rattle.mfotl_model.specs.{Satisfaction.Valuation, Settled.settled, Tables.valuation, Times.NeverFalls}
 use Rattle.mfotl_model.specs.{Values.row_total, Violations.all_rows}
 use Rattle.mfotl_model.specs.declared.{event.TimePoint.TimePoint, value.Value.Value}
-use Rattle.monitor_state.proofs.CountLemmas.{count_grows, count_within}
+use Rattle.monitor_nodes.proofs.CountLemmas.{count_grows, count_within}
 use Rattle.monitorable.proofs.{DomainLaw.domain, FinalityLaw.finality, FreeVariableLemmas.fv_apart}
 use Rattle.monitorable.proofs.{ViolationsFinal.itself, ViolationsFinal.agreeing}
 use Rattle.monitorable.proofs.DomainRows.{found, grows, has_constants, has_log, row_within}

@@ -13,7 +13,8 @@ use Rattle.monitorable.specs.{CoreForms.CoreForm, CoreForms.meaning, Cores.core_
 use Rattle.monitor_state.proofs.LawProofs.{slice_is_enough}
 use Rattle.monitor_state.specs.{Beginnings.Begins, MonitorView.monitor_of, Stands.StateOf, Stands.Stands}
 use Rattle.monitor_state.specs.{Pieces.view_of}
-use Rattle.monitor_state.specs.Steps.{Premises, Steps as StepsOn, longer}
+use Rattle.monitor_nodes.specs.Steps.{Premises, longer}
+use Rattle.monitor_state.specs.Steps.{Steps as StepsOn}
 use Rattle.monitor_state.specs.declared.monitor.Monitor.{Monitor}
 use Rattle.rescale_core.proofs.{LogLemmas.settled_within, OwnedLemmas.owned_same}
 use Rattle.rescale_core.specs.{Lines.Due, Lines.Due.Slicing, Monitors.IsMonitor, Phases.PhaseOf.Active}
@@ -118,7 +119,7 @@ module _ {c : CoreForm} {k : ℕ} {m : Monitor} {s : Strategy} {g n : ℕ} {p : 
     abbrev near : View
     near = view_of c (near_of s k) due.log
 
-    stepped : Stands (longer near due.point) c new × Rattle.monitor_state.specs.Steps.News near due.point c tables
+    stepped : Stands (longer near due.point) c new × Rattle.monitor_nodes.specs.Steps.News near due.point c tables
     stepped = grind (arith, slice_premises c s k due.log due.point due.fits due.follows)
 
     exact : AllExact (longer near due.point) (meaning c) old.given tables

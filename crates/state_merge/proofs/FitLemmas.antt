@@ -14,7 +14,8 @@ use Rattle.monitorable.specs.CoreForms.{CoreForm, meaning, Not, And, Or, Previou
 use Rattle.relations.proofs.KeptLemmas.{each_kept}
 use Rattle.monitor_state.proofs.{SizeLemmas.since_both_smaller, SizeLemmas.until_both_smaller, MarkLemmas.entries_are}
 use Rattle.monitor_state.proofs.{MonitorSteps.children_append}
-use Rattle.monitor_state.specs.Nodes.{children, filters, left_operand, nodes_of, operands, window_operands}
+use Rattle.monitor_nodes.specs.Operands.{children, filters, left_operand, operands, window_operands}
+use Rattle.monitor_state.specs.Nodes.{nodes_of}
 use Rattle.monitor_state.specs.Pieces.{PieceStands, near_some, view_of}
 use Rattle.monitor_state.specs.StateLaws.{seen_in}
 use Rattle.monitor_state.specs.StateRules.{JoinKeeps, NodeKeeps, NodesKeep, SinceKeeps, UntilKeeps, WindowKeeps}

@@ -7,7 +7,8 @@ use Rattle.mfotl_model.specs.declared.value.Value.{Value}
 use Rattle.relations.specs.KeptRows.{kept_for}
 use Rattle.relations.proofs.{KeptLemmas.each_kept, MapLemmas.same_row}
 use Rattle.eval_since.proofs.DatedLemmas.{past_all}
-use Rattle.eval_since.specs.{SinceData.KeepsTimes, Times.ArePast}
+use Rattle.eval_since.specs.{SinceData.KeepsTimes}
+use Rattle.row_times.specs.{Times.ArePast}
 use Rattle.eval_until.specs.declared.recalled.Mark.{Mark}
 use Rattle.monitor_state.specs.JoinedRows.{RowsUnion, either, least_time, marks_joined, times_joined, times_united}
 use Rattle.state_merge.specs.Pairs.{lesser_mark}

@@ -6,7 +6,8 @@ use Rattle.eval_bool.specs.{BoolData.kept_tables, JoinView.children_of}
 use Rattle.eval_bool.specs.declared.recalled.JoinData.{JoinData}
 use Rattle.monitorable.specs.Conjuncts.{conjuncts_of}
 use Rattle.monitorable.specs.CoreForms.{CoreForm, meaning, Not, And, Or, Previous, Next, Since, Until}
-use Rattle.monitor_state.specs.{Nodes.left_operand, Nodes.operands, Stands.conjunct_as, StateLaws.seen_in}
+use Rattle.monitor_nodes.specs.{Operands.left_operand, Operands.operands, Stands.conjunct_as}
+use Rattle.monitor_state.specs.{StateLaws.seen_in}
 use Rattle.monitor_state.specs.StateInside.{NodeInside, TablesInside, WindowInside}
 use Rattle.monitor_state.specs.StateRules.{JoinKeeps, NodeKeeps, NodesKeep, WindowKeeps}
 use Rattle.monitor_state.specs.StateStands.{JoinDataStands, NodeDataStands, NodesDataStand, WindowDataStands}

@@ -6,15 +6,16 @@ use Rattle.std.specs.{Cmp.eq_by_cmp_equiv, List.AllByRecursion, Option.unwrap_or
 use Rattle.mfotl_model.specs.{Exact.Covers, Exact.View, FreeVariables.fv, Regions.Region, Satisfaction.Valuation}
 use Rattle.mfotl_model.specs.{Satisfaction.time_at, Tables.all_sized, Values.row_total}
 use Rattle.mfotl_model.specs.declared.{interval.Interval.Interval, value.Value.Value}
-use Rattle.eval_since.specs.{Recalled.times_for, Recalled.times_kept, SinceBefore.since_before, SinceData.KeepsTimes}
-use Rattle.eval_since.specs.{Times.reaches}
-use Rattle.eval_since.specs.declared.recalled.KeptRow.{KeptRow}
+use Rattle.row_times.specs.{KeptTimes.times_for, KeptTimes.times_kept}
+use Rattle.eval_since.specs.{SinceBefore.since_before, SinceData.KeepsTimes}
+use Rattle.row_times.specs.{Times.reaches}
+use Rattle.row_times.specs.declared.kept_row.KeptRow.{KeptRow}
 use Rattle.monitorable.specs.CoreForms.{CoreForm, meaning}
 use Rattle.relations.specs.KeptRows.{kept_for}
+use Rattle.monitor_nodes.specs.{Views.Dates, Views.Tells}
 use Rattle.monitor_state.specs.{JoinedRows.RowsUnion, JoinedRows.times_joined, StateInside.WindowInside}
 use Rattle.monitor_state.specs.{StateLaws.seen_in, StateRules.SinceKeeps, StateStands.SinceDataStands}
-use Rattle.monitor_state.specs.{StateTimes.KeptTimes, StateTimes.time_before, StateUnions.SinceUnion, Views.Dates}
-use Rattle.monitor_state.specs.{Views.Tells}
+use Rattle.monitor_state.specs.{StateTimes.KeptTimes, StateTimes.time_before, StateUnions.SinceUnion}
 use Rattle.monitor_state.specs.declared.state.SinceKept.{SinceKept}
 use Rattle.monitor_state.specs.declared.state.WindowData.TheVariants as window
 use Rattle.state_merge.proofs.JoinedLemmas.{pooled, times_right}

@@ -10,10 +10,10 @@ use Rattle.eval_until.specs.{UntilBefore.until_before, UntilData.UntilRule, Unti
 use Rattle.eval_until.specs.declared.{entries.Entry.Entry, recalled.Mark.Mark}
 use Rattle.monitorable.specs.CoreForms.{CoreForm, meaning}
 use Rattle.relations.specs.KeptRows.{kept_for}
-use Rattle.monitor_state.specs.{JoinedRows.marks_joined, Nodes.is_negated, Nodes.left_operand, StateInside.WindowInside}
-use Rattle.monitor_state.specs.{StateLaws.seen_in, StateRules.UntilKeeps, StateRules.until_setting}
-use Rattle.monitor_state.specs.{StateTimes.KeptTimes, StateTimes.times_from, StateUnions.UntilUnion, Views.Dates}
-use Rattle.monitor_state.specs.{Views.Tells}
+use Rattle.monitor_nodes.specs.{Operands.is_negated, Operands.left_operand, Views.Dates, Views.Tells}
+use Rattle.monitor_state.specs.{JoinedRows.marks_joined, StateInside.WindowInside, StateLaws.seen_in}
+use Rattle.monitor_state.specs.{StateRules.UntilKeeps, StateRules.until_setting, StateTimes.KeptTimes}
+use Rattle.monitor_state.specs.{StateTimes.times_from, StateUnions.UntilUnion}
 use Rattle.monitor_state.specs.StateStands.{UntilDataStands, mark_meets, marks_for, marks_kept}
 use Rattle.monitor_state.specs.declared.state.UntilKept.{UntilKept}
 use Rattle.monitor_state.specs.declared.state.WindowData.TheVariants as window

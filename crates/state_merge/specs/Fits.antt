@@ -4,8 +4,8 @@ use Rattle.std.specs.List.{AllByRecursion}
 use Rattle.std.specs.List.Sorted.{IsStrictlyIncreasing}
 use Rattle.mfotl_model.specs.Tables.{TableOf}
 use Rattle.eval_bool.specs.BoolData.{kept_tables}
-use Rattle.eval_since.specs.Recalled.{times_kept}
-use Rattle.eval_since.specs.declared.recalled.KeptRow.{KeptRow}
+use Rattle.row_times.specs.KeptTimes.{times_kept}
+use Rattle.row_times.specs.declared.kept_row.KeptRow.{KeptRow}
 use Rattle.eval_since.specs.declared.recalled.SinceData.{SinceData}
 use Rattle.eval_until.specs.Recalled.{starts_kept}
 use Rattle.eval_until.specs.declared.recalled.KeptMarks.{KeptMarks}

@@ -4,12 +4,12 @@ ghost use Rattle.std.specs.List.{AllByRecursion};
 ghost use Rattle.std.specs.List.Sorted.{IsStrictlyIncreasing};
 ghost use Rattle.mfotl_model.specs.Values.{row_cmp};
 ghost use Rattle.relations.specs.KeptRows.{RowsAscend};
-ghost use Rattle.eval_since.specs.Recalled.{times_kept};
+ghost use Rattle.row_times.specs.KeptTimes.{times_kept};
 ghost use Rattle.monitor_state.specs.JoinedRows.{RowsUnion, times_joined};
 
 use crate::keyed::{Keyed, joined};
 use crate::times::joined_times;
-use eval_since::KeptRow;
+use row_times::KeptRow;
 use std::alloc::{AllocError, Global};
 use std::cmp::Ordering;
 

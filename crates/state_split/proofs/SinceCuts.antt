@@ -4,13 +4,15 @@ use Rattle.std.specs.{List.AllByRecursion, Map.keys_of}
 use Rattle.mfotl_model.specs.{Exact.Covers, Exact.View, FreeVariables.fv, Regions.Passes, Satisfaction.Valuation}
 use Rattle.mfotl_model.specs.{Satisfaction.time_at, Tables.all_sized}
 use Rattle.mfotl_model.specs.declared.{interval.Interval.Interval, value.Value.Value}
-use Rattle.eval_since.specs.{Recalled.times_for, Recalled.times_kept, SinceBefore.since_before, SinceData.KeepsTimes}
-use Rattle.eval_since.specs.{Times.reaches}
-use Rattle.eval_since.specs.declared.recalled.KeptRow.{KeptRow}
+use Rattle.row_times.specs.{KeptTimes.times_for, KeptTimes.times_kept}
+use Rattle.eval_since.specs.{SinceBefore.since_before, SinceData.KeepsTimes}
+use Rattle.row_times.specs.{Times.reaches}
+use Rattle.row_times.specs.declared.kept_row.KeptRow.{KeptRow}
 use Rattle.monitorable.specs.CoreForms.{CoreForm, meaning}
 use Rattle.monitor_state.specs.StateCuts.{SinceCut, cut_rows, lies}
+use Rattle.monitor_nodes.specs.{Views.Dates, Views.Tells}
 use Rattle.monitor_state.specs.{StateInside.WindowInside, StateRules.SinceKeeps, StateStands.SinceDataStands}
-use Rattle.monitor_state.specs.{StateTimes.KeptTimes, StateTimes.time_before, Views.Dates, Views.Tells}
+use Rattle.monitor_state.specs.{StateTimes.KeptTimes, StateTimes.time_before}
 use Rattle.monitor_state.specs.declared.state.SinceKept.{SinceKept}
 use Rattle.monitor_state.specs.declared.state.WindowData.TheVariants as window
 use Rattle.state_split.proofs.RowCuts.{all_filtered, all_mapped, all_unmapped, ascend_filtered, keys_filtered}

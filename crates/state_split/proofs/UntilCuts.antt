@@ -10,9 +10,9 @@ use Rattle.eval_until.specs.{UntilData.UntilRule, UntilData.until_of}
 use Rattle.eval_until.specs.declared.{entries.Entry.Entry, recalled.KeptMarks.KeptMarks, recalled.Mark.Mark}
 use Rattle.monitorable.specs.CoreForms.{CoreForm, meaning}
 use Rattle.relations.specs.KeptRows.{kept_for}
-use Rattle.monitor_state.specs.{Nodes.is_negated, Nodes.left_operand, StateInside.WindowInside, StateRules.UntilKeeps}
-use Rattle.monitor_state.specs.{StateRules.until_setting, StateTimes.KeptTimes, StateTimes.times_from, Views.Dates}
-use Rattle.monitor_state.specs.{Views.Tells}
+use Rattle.monitor_nodes.specs.{Operands.is_negated, Operands.left_operand, Views.Dates, Views.Tells}
+use Rattle.monitor_state.specs.{StateInside.WindowInside, StateRules.UntilKeeps, StateRules.until_setting}
+use Rattle.monitor_state.specs.{StateTimes.KeptTimes, StateTimes.times_from}
 use Rattle.monitor_state.specs.StateCuts.{UntilCut, cut_rows, lies}
 use Rattle.monitor_state.specs.StateStands.{UntilDataStands, mark_meets, marks_for, marks_kept}
 use Rattle.monitor_state.specs.declared.state.UntilKept.{UntilKept}

@@ -1,6 +1,6 @@
 -- Which rows over some columns a region keeps.
 use Rattle.std.specs.Prelude.{◌≡◌, ℕ, Bool, ◌&&◌, nat_eq, List, filter, length}
-use Rattle.eval_since.specs.Recalled.{times_kept}
+use Rattle.row_times.specs.KeptTimes.{times_kept}
 use Rattle.eval_since.specs.declared.recalled.SinceData.{SinceData}
 use Rattle.eval_until.specs.Recalled.{starts_kept}
 use Rattle.eval_until.specs.declared.recalled.UntilData.{UntilData}

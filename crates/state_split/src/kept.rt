@@ -1,9 +1,9 @@
 //! Rows, alone or with what is kept for them.
 ghost use Rattle.std.specs.Prelude.{◌≡◌, IfOk};
 
-use eval_since::KeptRow;
 use eval_until::{KeptMarks, KeptStart};
 use mfotl_model::Row;
+use row_times::KeptRow;
 use std::alloc::{AllocError, Global};
 
 /// A row, alone or with what is kept for it.

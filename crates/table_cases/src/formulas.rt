@@ -1,7 +1,7 @@
 //! Atoms, EXISTS and conjunctions of comparisons alone.
 ghost use Rattle.std.specs.Prelude.{◌≡◌};
 
-use crate::tables::{X, Y, first, named, put};
+use crate::tables::{X, Y, first, named, put, put_table};
 use eval_bool::{Conjunct, JoinState, eval_atom, eval_exists};
 use mfotl_model::{Atom, Comparison, Db, Event, Sign, Term, Terms, TimePoint, Value};
 use std::alloc::{AllocError, Global};
@@ -30,14 +30,23 @@ fn put_event(alloc: Global, db: &mut Db, name: &str, number: i64) -> Result<(), 
     db.insert(Event { pred: 0, args })
 }
 
-fn atom(alloc: Global, told: &mut Vec<u8>) -> Result<(), AllocError> {
+// A time-point with two events, one of them twice.
+fn two_events(alloc: Global) -> Result<TimePoint, AllocError> {
     let mut db = Db::new(alloc);
-    put_event(alloc, &mut db, "b", 2)?;
-    put_event(alloc, &mut db, "a", i64::MIN)?;
-    put_event(alloc, &mut db, "b", 2)?;
-    let point = TimePoint { ts: 1, db };
-    let table = eval_atom(alloc, &point, &p_of_x_y(alloc)?)?;
-    put(told, "eval_atom", table.rows())
+    for (name, number) in [("b", 2), ("a", i64::MIN), ("b", 2)] {
+        put_event(alloc, &mut db, name, number)?;
+    }
+    Ok(TimePoint { ts: 1, db })
+}
+
+fn atom(alloc: Global, told: &mut Vec<u8>) -> Result<(), AllocError> {
+    let point = two_events(alloc)?;
+    put_atom(alloc, told, &point)
+}
+
+fn put_atom(alloc: Global, told: &mut Vec<u8>, point: &TimePoint) -> Result<(), AllocError> {
+    let atom = p_of_x_y(alloc)?;
+    put_table(told, "eval_atom", eval_atom(alloc, point, &atom))
 }
 
 fn exists(alloc: Global, told: &mut Vec<u8>) -> Result<(), AllocError> {

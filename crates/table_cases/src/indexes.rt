@@ -19,11 +19,19 @@ fn put_counted<L: Ledger>(alloc: Global, told: &mut Vec<u8>, blank: Blank) -> Re
     requires some { 0 < blank.parts }
 {
     let mut steps = Steps::<L>::new(blank);
-    joined(alloc, &mut steps, told)?;
-    antijoined(alloc, &mut steps, told)?;
-    matches(alloc, &[(1, 2), (3, 2), (4, 5)], 2, &mut steps, told)?;
-    matches(alloc, &[(1, 2), (3, 2), (4, 5)], 9, &mut steps, told)?;
-    matches(alloc, &[], 2, &mut steps, told)
+    put_with(alloc, &mut steps, told)
+}
+
+fn put_with<L: Ledger>(
+    alloc: Global,
+    steps: &mut Steps<L>,
+    told: &mut Vec<u8>,
+) -> Result<(), AllocError> {
+    joined(alloc, steps, told)?;
+    antijoined(alloc, steps, told)?;
+    matches(alloc, &[(1, 2), (3, 2), (4, 5)], 2, steps, told)?;
+    matches(alloc, &[(1, 2), (3, 2), (4, 5)], 9, steps, told)?;
+    matches(alloc, &[], 2, steps, told)
 }
 
 // A table's rows by what they have in y.
@@ -102,6 +110,16 @@ fn matches<L: Ledger>(
     told: &mut Vec<u8>,
 ) -> Result<(), AllocError> {
     let index = pairs_by_y(alloc, rows)?;
+    put_matches(alloc, &index, value, steps, told)
+}
+
+fn put_matches<L: Ledger>(
+    alloc: Global,
+    index: &Index,
+    value: i64,
+    steps: &mut Steps<L>,
+    told: &mut Vec<u8>,
+) -> Result<(), AllocError> {
     let key = one(alloc, value)?;
     put(told, "matches", index.matches(&key, steps))
 }

@@ -10,14 +10,16 @@ use Rattle.rescale_core.specs.{Worlds.spot_in}
 use Rattle.rescale_core.specs.declared.{driver.Driver.Driver, item.Entry.Entry, item.Entry.TheVariants.Point}
 use Rattle.rescale_core.specs.declared.{item.Entry.TheVariants.Change as ToStrategy}
 use Rattle.slice_strategy.specs.declared.change.Change.{Change}
+use Rattle.lone_worker.specs.Verdicts.{Falls}
+use Rattle.lone_worker.specs.declared.tally.Tally.{Tally}
 use Rattle.worker_pool.specs.Changes.{AllSuit, HaveCells, IsDue, NoneDue, Suits, TakesDue, changes_due, changes_later}
 use Rattle.worker_pool.specs.Changes.{points_in}
 use Rattle.worker_pool.specs.Laws.{DueAtItsNumber}
-use Rattle.worker_pool.specs.Writing.{AddsEntries, AddsPoint, ChangesIn, Falls, FallsShort, WritesOnly, ReadsIn, Runs}
-use Rattle.worker_pool.specs.Writing.{RunsTo, Writes}
-use Rattle.worker_pool.specs.declared.{schedule.Schedule.Schedule, tally.Tally.Tally}
+use Rattle.worker_pool.specs.Writing.{AddsEntries, AddsPoint, ChangesIn, FallsShort, WritesOnly, ReadsIn, Runs, RunsTo}
+use Rattle.worker_pool.specs.Writing.{Writes}
+use Rattle.worker_pool.specs.declared.schedule.Schedule.{Schedule}
+use Rattle.worker_pool.proofs.{WritingLemmas.one_read, WritingLemmas.points_are}
 use Rattle.worker_pool.proofs.EntryLemmas.{none_due, one_due, points_due, points_with}
-use Rattle.worker_pool.proofs.WritingLemmas.{one_read, points_are}
 
 -- ---- the core stays
 

@@ -1,36 +1,34 @@
--- How a run stops between two chunks, and how it ends.
-use Rattle.std.proofs.Common.{◌≡◌, ◌≤◌, ℕ, Bool, true, false, List, Option, Some, Ok, Err, OnOk, arith, subst, sym}
+-- How a run by a plan ends.
+use Rattle.std.proofs.Common.{◌≡◌, ℕ, Bool, true, false, List, Option, Some, Ok, Err, OnOk}
+use Rattle.std.proofs.Math.Seq.{take-length}
 use Rattle.std.specs.Prelude.{Result}
-use Rattle.mon_outside.specs.Views.{InputsView, SinkView}
-use Rattle.mfotl_model.specs.Formulas.{Form}
-use Rattle.mfotl_model.specs.declared.event.TimePoint.{TimePoint}
 use Rattle.mfotl_sig.specs.Preds.{PredOf}
 use Rattle.log_reader.specs.Readers.{Reader}
 use Rattle.monitorable.specs.CoreForms.{CoreForm}
-use Rattle.worker_pool.specs.Chunks.{ReadsOn, ReadsPlan, run_end}
-use Rattle.worker_pool.specs.{Effects.Effect, Endings.FollowsLog, Policies.ForEachPolicy, Policies.IsCoreOf}
+use Rattle.rescale_core.specs.declared.driver.Driver.{Driver}
+use Rattle.slice_strategy.specs.declared.change.Change.{Change}
+use Rattle.lone_worker.specs.{Chunks.run_end, Endings.FollowsLog, Policies.ForEachPolicy}
+use Rattle.lone_worker.specs.declared.{stop.Stop.Stop, tally.Tally.Tally}
+use Rattle.lone_worker.proofs.ChunkLemmas.{Settled}
+use Rattle.worker_pool.specs.{Chunks.ReadsPlan, Chunks.Routes, Steps.end_of}
 use Rattle.worker_pool.specs.Following.{Beginning, ComesTo, LoopState, effect_since}
-use Rattle.worker_pool.specs.Steps.{end_of}
-use Rattle.worker_pool.specs.declared.{stop.Stop.Stop, tally.Tally.Tally}
-use Rattle.worker_pool.specs.declared.stop.Stop.TheVariants.{Sink}
-use Rattle.worker_pool.proofs.ChunkLemmas.{Settled, chunk_failed, lines_end}
 
--- what was written could not be handed on, or no more could be read or fed
-pub read_stopped : {core : CoreForm} {Done : List TimePoint → Type 0} {sig : List PredOf} (policy : Form)
-    (is : IsCoreOf core policy) (e : Effect) {reader : Reader} {mid : Option (List ℕ)} {tally : Tally}
-    (next : Reader) (before : InputsView) (old : SinkView) → e.new.written ≡ mid
-    → Settled core Done sig e.before.rest before.rest reader e.old.written mid tally → reader.is_ended ≡ false
-    → (why : Stop) → e.before.faults ≤ before.faults → e.old.faults ≤ old.faults
-    → ReadsOn reader next (record { before = before; after = e.after; old = old; new = e.new }) (Err why)
-    → FollowsLog sig policy e (run_end (Err why))
-read_stopped {core} {Done} {sig} policy is e {reader} {mid = mid} {tally = tally} next before old same s untold Sink
-    later later_out failed =
-    lines_end policy is e same
-    (subst (λ (rest : Option (List ℕ)). Settled core Done sig e.before.rest rest reader e.old.written mid tally)
-    (sym failed.0) s)
-    (omega (arith, later_out, failed.1))
-read_stopped policy is e next before old same s untold why later later_out failed =
-    chunk_failed policy is e same s untold before.faults why later failed
+-- at the end of the log all of the plan that was due was read
+pub plan_read : {core : CoreForm} {sig : List PredOf} {plan : List Change} {first rest : Option (List ℕ)}
+    {reader : Reader} {driver : Driver} {changes : List Change} {old mid : Option (List ℕ)} {tally : Tally}
+    → Settled core (Routes core plan old driver changes mid tally) sig first rest reader old mid tally
+    → reader.is_ended ≡ true → ReadsPlan sig plan first rest driver
+plan_read s told =
+    let c = s.course in
+    let writes = c.so_far.done.writes in
+    record {
+      bytes = c.bytes;
+      taken = c.taken;
+      whole = c.whole told;
+      world = writes.world;
+      stands = writes.stands;
+      read_is = rw (s.all, c.sig_is, c.limits_is, take-length, told) at writes.read_is;
+    }
 
 -- the loop ended as its last chunk says
 pub came_to_end : (b : Beginning) (s : LoopState) (ended : Result Bool Stop) (end : Result Tally Stop)

@@ -6,13 +6,13 @@ use Rattle.monitorable.specs.CoreForms.{CoreForm}
 use Rattle.rescale_core.specs.Workers.{MayFollow}
 use Rattle.rescale_core.specs.declared.driver.Driver.{Driver}
 use Rattle.slice_strategy.specs.declared.change.Change.{Change}
+use Rattle.lone_worker.specs.{Courses.Settles, Texts.tally_of, Verdicts.Falls}
+use Rattle.lone_worker.specs.declared.tally.Tally.{Tally}
+use Rattle.worker_pool.specs.{Chunks.IsUnderWay, Chunks.Routes}
 use Rattle.worker_pool.specs.Changes.{changes_due, changes_later, entries_by}
-use Rattle.worker_pool.specs.Chunks.{IsUnderWay, Routes}
-use Rattle.worker_pool.specs.{Courses.Settles, Texts.tally_of}
-use Rattle.worker_pool.specs.Writing.{AddsPoint, AllEmitted, Falls, FallsShort, HasReadNothing, Runs, WritesOnly}
-use Rattle.worker_pool.specs.declared.tally.Tally.{Tally}
+use Rattle.worker_pool.specs.Writing.{AddsPoint, AllEmitted, FallsShort, HasReadNothing, Runs, WritesOnly}
+use Rattle.worker_pool.proofs.{WritingLemmas.nothing_read, WritingLemmas.over_written}
 use Rattle.worker_pool.proofs.EntryLemmas.{entries_more, left_more, points_read}
-use Rattle.worker_pool.proofs.WritingLemmas.{nothing_read, over_written}
 
 -- nothing was read
 pub routes_none : {core : CoreForm} {driver : Driver} {tally : Tally} (plan : List Change) (start : Option (List ℕ))

@@ -5,7 +5,7 @@ use Rattle.mfotl_model.specs.Formulas.{Form}
 use Rattle.mfotl_model.specs.declared.event.TimePoint.{TimePoint}
 use Rattle.log_reader.specs.Given.{Fails}
 use Rattle.log_reader.specs.Progress.{Progress, next_answer, read}
-use Rattle.log_reader.specs.Readers.{ForEach, Reader, Reads, progress}
+use Rattle.log_reader.specs.Readers.{ForEach, Reader, progress}
 use Rattle.log_reader.specs.Readings.{Reading}
 use Rattle.log_reader.specs.declared.fault.LogFault.{LogFault}
 use Rattle.log_reader.specs.declared.fault.LogFault.TheVariants as log
@@ -13,17 +13,17 @@ use Rattle.monitorable.specs.CoreForms.{CoreForm}
 use Rattle.rescale_core.specs.declared.driver.Driver.{Driver}
 use Rattle.slice_strategy.specs.declared.change.Change.{Change}
 use Rattle.turn_hub.specs.Ends.{IsMainOf}
-use Rattle.worker_pool.specs.Changes.{HaveCells, Suits}
-use Rattle.worker_pool.specs.{Hands.WorkerHub, Policies.ForEachPolicy, Texts.text_on}
-use Rattle.worker_pool.specs.Chunks.{ForEachRun, IsUnderWay, Routes, StopsLines, stop_for}
-use Rattle.worker_pool.specs.Courses.{HasDoneAll, Settles}
+use Rattle.lone_worker.specs.{Policies.ForEachPolicy, Texts.text_on, Chunks.StopsLines, Chunks.stop_for}
+use Rattle.lone_worker.specs.{Courses.HasDoneAll, Courses.Settles, Verdicts.IsOutputStop}
+use Rattle.lone_worker.specs.declared.{stop.Stop.Stop, tally.Tally.Tally}
+use Rattle.lone_worker.specs.declared.stop.Stop.TheVariants.{Log, Read, Sink, Memory}
+use Rattle.lone_worker.proofs.GivenPoints.{IsAmid, front_amid, is_amid, still_amid, stops_at}
+use Rattle.lone_worker.proofs.PointLemmas.{take_none_left}
+use Rattle.worker_pool.specs.{Changes.HaveCells, Changes.Suits, Hands.WorkerHub, Steps.MainState}
+use Rattle.worker_pool.specs.Chunks.{ForEachRun, IsUnderWay, Routes}
 use Rattle.worker_pool.specs.Routing.{HasGivenAll, Routed, RoutesShort, StopsBehind}
-use Rattle.worker_pool.specs.{Steps.MainState, Writing.AllEmitted, Writing.FallsShort, Writing.IsOutputStop}
-use Rattle.worker_pool.specs.Writing.{WritesOnly}
-use Rattle.worker_pool.specs.declared.{schedule.Schedule.Schedule, stop.Stop.Stop, tally.Tally.Tally}
-use Rattle.worker_pool.specs.declared.stop.Stop.TheVariants.{Log, Read, Sink, Memory}
-use Rattle.worker_pool.proofs.GivenPoints.{IsAmid, front_amid, is_amid, still_amid, stops_at}
-use Rattle.worker_pool.proofs.PointLemmas.{take_none_left}
+use Rattle.worker_pool.specs.Writing.{AllEmitted, FallsShort, WritesOnly}
+use Rattle.worker_pool.specs.declared.schedule.Schedule.{Schedule}
 use Rattle.worker_pool.proofs.RoutedPoints.{routed_falls, routed_keeps, routed_settles}
 
 -- ---- one after the other

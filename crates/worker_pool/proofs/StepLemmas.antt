@@ -1,13 +1,14 @@
 -- What main's steps do, one after the other.
 use Rattle.std.proofs.Common.{◌≡◌, ◌≤◌, ℕ, Bool, true, false, List, Some, None, Ok, Err, OnOk, arith, refl, subst}
 use Rattle.std.specs.Prelude.{Result, IfOk, IfErr}
-use Rattle.worker_pool.specs.{Hands.WorkerHand, Hands.WorkerHub, Steps.MainState, Steps.MakesDue, Steps.MakesRoom}
-use Rattle.worker_pool.specs.Steps.{end_of}
-use Rattle.worker_pool.specs.Writing.{IsOutputStop, Runs}
-use Rattle.worker_pool.specs.declared.{schedule.Schedule.Schedule, stop.Stop.Stop}
-use Rattle.worker_pool.specs.declared.stop.Stop.TheVariants.{Log, Read, Sink, Memory}
+use Rattle.lone_worker.specs.Verdicts.{IsOutputStop}
+use Rattle.lone_worker.specs.declared.stop.Stop.{Stop}
+use Rattle.lone_worker.specs.declared.stop.Stop.TheVariants.{Log, Read, Sink, Memory}
+use Rattle.worker_pool.specs.{Hands.WorkerHand, Hands.WorkerHub, Writing.Runs}
+use Rattle.worker_pool.specs.Steps.{MainState, MakesDue, MakesRoom, end_of}
+use Rattle.worker_pool.specs.declared.schedule.Schedule.{Schedule}
 use Rattle.worker_pool.proofs.{ChangeLemmas.adds_falls, ChangeLemmas.suits_drained, EntryLemmas.points_due}
-use Rattle.worker_pool.proofs.WritingLemmas.{adds_keeps, runs_with}
+use Rattle.worker_pool.proofs.{WritingLemmas.adds_keeps, WritingLemmas.runs_with}
 
 -- what stopped main since then did so since before
 pub output_later : (before mid now : ℕ) (stop : Stop) → before ≤ mid → IsOutputStop mid now stop

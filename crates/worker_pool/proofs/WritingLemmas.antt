@@ -17,14 +17,13 @@ use Rattle.rescale_core.specs.Worlds.{World, Allowed, world_after, first_world, 
 use Rattle.rescale_core.specs.declared.{driver.Driver.Driver, driver.Turn.Turn, item.Entry.Entry}
 use Rattle.rescale_core.specs.declared.{item.Entry.TheVariants.Point, item.Entry.TheVariants.Change as ToStrategy}
 use Rattle.verdict_merge.specs.declared.rows.Verdict.{Verdict}
-use Rattle.worker_pool.specs.{Changes.points_in, Texts.lines, Texts.tally_of}
-use Rattle.worker_pool.specs.Writing.{AddsEntries, HasReadNothing, Falls, FallsShort, AllEmitted, WritesOnly, Runs}
-use Rattle.worker_pool.specs.Writing.{RunsTo, Writes, all_verdicts, first_verdicts, seen}
-use Rattle.worker_pool.specs.declared.tally.Tally.{Tally}
-use Rattle.worker_pool.proofs.{SinkLemmas.front_behind, SinkLemmas.whole_front, VerdictLemmas.lines_more}
-
-pub on_err : {T E : Type 0} (r : Result T E) (P : Type 0) → P → OnErr r P
-on_err r P p = grind arith
+use Rattle.lone_worker.specs.{Texts.lines, Texts.tally_of}
+use Rattle.lone_worker.specs.Verdicts.{Falls, all_verdicts, first_verdicts, seen}
+use Rattle.lone_worker.specs.declared.tally.Tally.{Tally}
+use Rattle.lone_worker.proofs.{SinkLemmas.front_behind, SinkLemmas.whole_front, VerdictLemmas.lines_more}
+use Rattle.worker_pool.specs.Changes.{points_in}
+use Rattle.worker_pool.specs.Writing.{AddsEntries, HasReadNothing, FallsShort, AllEmitted, WritesOnly, Runs, RunsTo}
+use Rattle.worker_pool.specs.Writing.{Writes}
 
 pub on_ok_both : {T E : Type 0} (r : Result T E) (P Q R : Type 0) → (P → Q → R) → OnOk r P → OnOk r Q → OnOk r R
 on_ok_both r P Q R f p q = grind arith

@@ -8,14 +8,15 @@ use Rattle.monitorable.specs.CoreForms.{CoreForm}
 use Rattle.log_reader.specs.Readers.{Reader}
 use Rattle.rescale_core.specs.declared.driver.Driver.{Driver}
 use Rattle.slice_strategy.specs.declared.change.Change.{Change}
-use Rattle.worker_pool.specs.Chunks.{ReadsPlan, Routes, run_end}
-use Rattle.worker_pool.specs.Courses.{Course}
-use Rattle.worker_pool.specs.Effects.{Effect}
-use Rattle.worker_pool.specs.Endings.{FollowsLog}
-use Rattle.worker_pool.specs.Policies.{ForEachPolicy}
+use Rattle.lone_worker.specs.Chunks.{run_end}
+use Rattle.lone_worker.specs.Courses.{Course}
+use Rattle.lone_worker.specs.Effects.{Effect}
+use Rattle.lone_worker.specs.Endings.{FollowsLog}
+use Rattle.lone_worker.specs.Policies.{ForEachPolicy}
+use Rattle.lone_worker.specs.declared.stop.Stop.{Stop}
+use Rattle.lone_worker.specs.declared.tally.Tally.{Tally}
+use Rattle.worker_pool.specs.Chunks.{ReadsPlan, Routes}
 use Rattle.worker_pool.specs.declared.schedule.Schedule.{Schedule}
-use Rattle.worker_pool.specs.declared.stop.Stop.{Stop}
-use Rattle.worker_pool.specs.declared.tally.Tally.{Tally}
 
 -- How a run began: by which core, signature and plan, and how the inputs and the output stood.
 pub record Beginning : Type 0 where

@@ -1,33 +1,14 @@
--- Laws and examples of what is due and of what is counted.
-use Rattle.std.specs.Prelude.{◌≡◌, ◌+◌, ◌≤◌, ◌<◌, ℕ, List, [], ◌∷◌, ◌++◌, map, take, drop, length, nat_lt}
+-- Laws and examples of what is read by a plan, and of who gets which hands.
+use Rattle.std.specs.Prelude.{◌≡◌, ◌+◌, ◌≤◌, ◌<◌, ℕ, List, [], ◌∷◌, ◌++◌, map, take, drop, length}
 use Rattle.std.specs.List.{AllByRecursion}
-use Rattle.mfotl_model.specs.Formulas.{Form}
 use Rattle.mfotl_model.specs.Strategies.{Strategy}
 use Rattle.mfotl_model.specs.declared.event.TimePoint.{TimePoint}
-use Rattle.log_reader.specs.Limits.{standard}
-use Rattle.log_reader.specs.Readings.{Reading}
 use Rattle.rescale_core.specs.declared.item.Entry.{Entry}
 use Rattle.rescale_core.specs.declared.item.Entry.TheVariants.{Point, Change as ToStrategy}
 use Rattle.slice_strategy.specs.declared.change.Change.{Change}
+use Rattle.hub_threads.specs.Hands.{dealt}
 use Rattle.worker_pool.specs.Changes.{IsDue, NoneDue, entries_by, left_by, points_in, strategies_in}
-use Rattle.worker_pool.specs.Hands.{dealt}
-use Rattle.worker_pool.specs.Texts.{tally_of, tally_on, violated_on}
 use Rattle.worker_pool.specs.declared.schedule.Schedule.{Schedule}
-
--- some verdict has a row exactly where one that has a row is counted
-abbrev pub ViolationsCounted : Type 0
-ViolationsCounted = (policy : Form) (r : Reading) → violated_on policy r ≡ nat_lt 0 (tally_on policy r).violated
-
--- three verdicts, of three rows, of none and of one: two of them have rows, four in all
-abbrev pub TallyOfThree : Type 0
-TallyOfThree =
-    tally_of (record { point = 0; ts = 5; rows = [] ∷ [] ∷ [] ∷ [] } ∷ record { point = 1; ts = 7; rows = [] }
-    ∷ record { point = 2; ts = 7; rows = [] ∷ [] } ∷ [])
-    ≡ record { settled = 3; violated = 2; rows = 4 }
-
--- how much a log may have, in full
-abbrev pub LimitsInFull : Type 0
-LimitsInFull = standard ≡ record { bytes = 1099511627776; points = 4294967295; events = 65536 }
 
 -- the next change is due where as many time-points were read as its number says, and not where one fewer was
 pub record DueAtItsNumber : Type 0 where

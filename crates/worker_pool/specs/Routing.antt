@@ -6,17 +6,19 @@ use Rattle.log_reader.specs.Readers.{ForEach, Reader, Reads, progress}
 use Rattle.log_reader.specs.Readings.{NoFault}
 use Rattle.log_reader.specs.declared.fault.LogFault.{LogFault}
 use Rattle.turn_hub.specs.Ends.{IsMainOf}
+use Rattle.lone_worker.specs.Chunks.{StopsLines, stop_for}
+use Rattle.lone_worker.specs.Courses.{HasDone}
+use Rattle.lone_worker.specs.Policies.{ForEachPolicy}
+use Rattle.lone_worker.specs.Texts.{text_on}
+use Rattle.lone_worker.specs.Verdicts.{IsOutputStop}
+use Rattle.lone_worker.specs.declared.stop.Stop.{Stop}
+use Rattle.lone_worker.specs.declared.stop.Stop.TheVariants.{Log}
 use Rattle.worker_pool.specs.Changes.{HaveCells, Suits}
-use Rattle.worker_pool.specs.Chunks.{ForEachRun, Routes, StopsLines, stop_for}
-use Rattle.worker_pool.specs.Courses.{HasDone}
+use Rattle.worker_pool.specs.Chunks.{ForEachRun, Routes}
 use Rattle.worker_pool.specs.Hands.{WorkerHub}
-use Rattle.worker_pool.specs.Policies.{ForEachPolicy}
 use Rattle.worker_pool.specs.Steps.{MainState}
-use Rattle.worker_pool.specs.Texts.{text_on}
-use Rattle.worker_pool.specs.Writing.{AllEmitted, IsOutputStop, WritesOnly}
+use Rattle.worker_pool.specs.Writing.{AllEmitted, WritesOnly}
 use Rattle.worker_pool.specs.declared.schedule.Schedule.{Schedule}
-use Rattle.worker_pool.specs.declared.stop.Stop.{Stop}
-use Rattle.worker_pool.specs.declared.stop.Stop.TheVariants.{Log}
 
 -- The reader gave some time-points more, which were read by the plan, whatever was read before. What is to come suits
 -- main and its cells.

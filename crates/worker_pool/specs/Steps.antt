@@ -4,14 +4,16 @@ use Rattle.std.specs.Prelude.{OnErr}
 use Rattle.mon_outside.specs.declared.sink.Sink.{Ghosts as SinkGhosts}
 use Rattle.rescale_core.specs.declared.driver.Driver.{Driver}
 use Rattle.turn_hub.specs.Ends.{IsMainOf}
+use Rattle.hub_threads.specs.Hands.{AreHandsOf}
+use Rattle.lone_worker.specs.Verdicts.{IsOutputStop}
+use Rattle.lone_worker.specs.declared.stop.Stop.{Stop}
+use Rattle.lone_worker.specs.declared.tally.Tally.{Tally}
 use Rattle.worker_pool.specs.Changes.{HaveCells, NoneDue, Suits, changes_due, changes_later}
-use Rattle.worker_pool.specs.Hands.{AreHandsOf, WorkerHand, WorkerHub}
-use Rattle.worker_pool.specs.Writing.{AddsEntries, AllEmitted, FallsShort, IsOutputStop, IsRoomy, WritesOnly}
+use Rattle.worker_pool.specs.Hands.{WorkerHand, WorkerHub}
+use Rattle.worker_pool.specs.Writing.{AddsEntries, AllEmitted, FallsShort, IsRoomy, WritesOnly}
 use Rattle.worker_pool.specs.declared.main_turns.Until.{Until}
 use Rattle.worker_pool.specs.declared.main_turns.Until.TheVariants.{Drained, Roomy}
 use Rattle.worker_pool.specs.declared.schedule.Schedule.{Schedule}
-use Rattle.worker_pool.specs.declared.stop.Stop.{Stop}
-use Rattle.worker_pool.specs.declared.tally.Tally.{Tally}
 
 -- How main stands before or behind a step: its driver, what was written and counted, and how often the output failed.
 pub record MainState : Type 0 where

@@ -1,39 +1,22 @@
 -- What main has read and written, by the world of its driver.
-use Rattle.std.specs.Prelude.{◌≡◌, ◌≤◌, ℕ, List, [], ◌∷◌, ◌++◌, Option, map}
-use Rattle.std.specs.List.{range_with_len}
-use Rattle.mon_outside.specs.Causes.{Rose}
-use Rattle.mon_outside.specs.Sink.{Appends, AppendsFront}
+use Rattle.std.specs.Prelude.{◌≡◌, ℕ, List, [], ◌∷◌, ◌++◌, Option, map}
+use Rattle.mon_outside.specs.Sink.{Appends}
 use Rattle.mfotl_model.specs.Strategies.{Strategy}
-use Rattle.mfotl_model.specs.VerdictText.{VerdictOf}
 use Rattle.mfotl_model.specs.declared.event.TimePoint.{TimePoint}
 use Rattle.monitorable.specs.CoreForms.{CoreForm}
 use Rattle.rescale_core.specs.Laws.{EmitsVerdicts}
 use Rattle.rescale_core.specs.Moving.{IsDriverOf, Reaches}
 use Rattle.rescale_core.specs.Moving.StepKind.{Reads}
 use Rattle.rescale_core.specs.Waiting.{HasRoom}
-use Rattle.rescale_core.specs.Workers.{IsFor, MayFollow, settled_in}
-use Rattle.rescale_core.specs.Worlds.{World, first_world, spot_in, verdict_on}
+use Rattle.rescale_core.specs.Workers.{IsFor, MayFollow}
+use Rattle.rescale_core.specs.Worlds.{World, first_world, spot_in}
 use Rattle.rescale_core.specs.declared.driver.Driver.{Driver}
 use Rattle.rescale_core.specs.declared.item.Entry.{Entry}
 use Rattle.rescale_core.specs.declared.item.Entry.TheVariants.{Point, Change as ToStrategy}
-use Rattle.verdict_merge.specs.declared.rows.Verdict.{Verdict}
+use Rattle.lone_worker.specs.Verdicts.{Falls, all_verdicts, seen}
+use Rattle.lone_worker.specs.Texts.{lines, tally_of}
+use Rattle.lone_worker.specs.declared.tally.Tally.{Tally}
 use Rattle.worker_pool.specs.Changes.{points_in}
-use Rattle.worker_pool.specs.Texts.{lines, tally_of}
-use Rattle.worker_pool.specs.declared.stop.Stop.{Stop}
-use Rattle.worker_pool.specs.declared.stop.Stop.TheVariants.{Log, Read, Sink, Memory}
-use Rattle.worker_pool.specs.declared.tally.Tally.{Tally}
-
--- a verdict as its line is made of it
-abbrev pub seen : Verdict → VerdictOf
-seen v = record { point = v.point; ts = v.ts; rows = v.rows }
-
--- the verdicts on the first positions of a log
-abbrev pub first_verdicts : CoreForm → List TimePoint → ℕ → List VerdictOf
-first_verdicts core points n = map (λ i. seen (verdict_on core points i)) (range_with_len 0 n)
-
--- the verdicts on all positions that are settled
-abbrev pub all_verdicts : CoreForm → List TimePoint → List VerdictOf
-all_verdicts core points = first_verdicts core points (settled_in core points)
 
 -- The driver stands for a world of this core in which just this was read, and since `start` the lines of the verdicts
 -- that were emitted there were written and counted.
@@ -82,12 +65,6 @@ AddsPoint d now t changes point e then u =
     (core : CoreForm) (read : List Entry) (start : Option (List ℕ)) → MayFollow (points_in read) point
     → Writes core read start d now t → Writes core (read ++ (changes ++ Point point ∷ [])) start e then u
 
--- what was written since `start` is a front of the lines of the first verdicts
-pub record Falls (core : CoreForm) (points : List TimePoint) (start now : Option (List ℕ)) : Type 0 where
-  pub count : ℕ
-  pub settled : count ≤ settled_in core points
-  pub front : AppendsFront start now (lines (first_verdicts core points count))
-
 -- so it is, whatever was read and written before
 abbrev pub FallsShort : Driver → Option (List ℕ) → Tally → Option (List ℕ) → Type 0
 FallsShort d now t then =
@@ -115,10 +92,3 @@ abbrev pub AllEmitted : Driver → Type 0
 AllEmitted d =
     (w : World) → IsDriverOf d w → EmitsVerdicts w
     → map seen w.emitted ≡ all_verdicts w.core (spot_in w).points
-
--- the output failed, which shows in its count, or memory was refused
-abbrev pub IsOutputStop : ℕ → ℕ → Stop → Type 0
-IsOutputStop before now (Log fault) = ⊥
-IsOutputStop before now Read = ⊥
-IsOutputStop before now Sink = Rose before now
-IsOutputStop before now Memory = Unit {0}

@@ -1,103 +1,28 @@
 //! The log in chunks: all lines of a chunk are written and handed on before the next chunk is read.
-ghost use Rattle.std.specs.Prelude.{◌≡◌, ◌<◌, ◌≤◌, IfOk, IsTrue, OnOk, length, [], false};
+ghost use Rattle.std.specs.Prelude.{◌≡◌, ◌<◌, ◌≤◌, IsTrue, OnOk, length, []};
 ghost use Rattle.log_reader.specs.Limits.{standard};
 ghost use Rattle.log_reader.specs.Progress.{nothing_fed};
 ghost use Rattle.log_reader.specs.Readers.{Reads, progress};
 ghost use Rattle.monitorable.specs.CoreForms.{CoreForm};
 ghost use Rattle.turn_hub.specs.Ends.{IsMainOf, cell_count};
+ghost use Rattle.hub_threads.specs.Hands.{AreHandsOf};
+ghost use Rattle.lone_worker.specs.Chunks.{run_end};
+ghost use Rattle.lone_worker.specs.Effects.{effect};
+ghost use Rattle.lone_worker.specs.Endings.{FollowsLog};
+ghost use Rattle.lone_worker.specs.Policies.{ForEachPolicy};
+ghost use Rattle.lone_worker.specs.Texts.{tally_of};
 ghost use Rattle.worker_pool.specs.Changes.{HaveCells, Suits};
-ghost use Rattle.worker_pool.specs.Chunks.{ReadsChunk, ReadsOn, ReadsPlan, run_end};
-ghost use Rattle.worker_pool.specs.Effects.{effect};
-ghost use Rattle.worker_pool.specs.Endings.{FollowsLog};
-ghost use Rattle.worker_pool.specs.Hands.{AreHandsOf};
-ghost use Rattle.worker_pool.specs.Policies.{ForEachPolicy};
-ghost use Rattle.worker_pool.specs.Texts.{tally_of};
+ghost use Rattle.worker_pool.specs.Chunks.{ReadsPlan};
 ghost use Rattle.worker_pool.specs.Writing.{HasReadNothing};
 
-use crate::hands::WorkerHand;
-use crate::line_writer::LineWriter;
-use crate::loop_context::LoopContext;
+use crate::hands::{LoopContext, WorkerHand};
 use crate::loop_end::end_of;
 use crate::schedule::Schedule;
-use crate::stop::Stop;
-use crate::tally::Tally;
 use log_reader::LogReader;
-use mon_outside::{Failed, Gate, Inputs, Sink};
+use lone_worker::{LineWriter, Stop, Tally};
+use mon_outside::{Gate, Inputs, Sink};
 use rescale_core::Driver;
-use std::alloc::{AllocError, Global};
 use std::sync::Wait;
-
-// The most bytes that one read gives.
-const CHUNK: usize = 65_536;
-
-/// Room for what a read gives.
-pub(crate) fn chunk_room(alloc: Global) -> Result<Vec<u8>, AllocError>
-    ensures { IfOk result (λ room. length room.items ≡ 65536) }
-{
-    let room = Vec::from_elem(alloc, 0, CHUNK)?;
-    Ok(room)
-}
-
-/// Reads once, and feeds what was given; no byte is the end. It waits for the log only where the output
-/// holds nothing back.
-pub(crate) fn read_chunk<I: Inputs, O: Sink>(
-    alloc: Global,
-    inputs: &mut I,
-    buffer: &mut [u8],
-    reader: &mut LogReader<'_>,
-    _out: &O,
-) -> Result<(), Stop>
-    requires room { 0 < length buffer.old }
-    requires opened { IsTrue (I.is_open inputs.old) }
-    requires works { reader.old.is_broken ≡ false }
-    requires open { reader.old.is_ended ≡ false }
-    requires handed_on { O.held _out.now ≡ [] }
-    ensures files { I.files inputs.new ≡ I.files inputs.old }
-    ensures stays_open { I.is_open inputs.new ≡ I.is_open inputs.old }
-    ensures asks_nothing { I.asked inputs.new ≡ I.asked inputs.old }
-    ensures later { I.faults inputs.old ≤ I.faults inputs.new }
-    ensures reads { ReadsChunk reader.old reader.new (I.rest inputs.old) (I.rest inputs.new)
-        (I.faults inputs.old) (I.faults inputs.new) result }
-{
-    match inputs.read(buffer) {
-        Ok(0) => {
-            reader.finish();
-            Ok(())
-        }
-        Ok(count) => match reader.feed(alloc, &buffer[..count]) {
-            Ok(()) => Ok(()),
-            Err(_) => Err(Stop::Memory),
-        },
-        Err(_) => Err(Stop::Read),
-    }
-}
-
-/// Hands on what was written, and then reads once.
-pub(crate) fn read_on<I: Inputs, O: Sink>(
-    alloc: Global,
-    inputs: &mut I,
-    buffer: &mut [u8],
-    reader: &mut LogReader<'_>,
-    out: &mut O,
-) -> Result<(), Stop>
-    requires room { 0 < length buffer.old }
-    requires opened { IsTrue (I.is_open inputs.old) }
-    requires works { reader.old.is_broken ≡ false }
-    requires open { reader.old.is_ended ≡ false }
-    ensures files { I.files inputs.new ≡ I.files inputs.old }
-    ensures stays_open { I.is_open inputs.new ≡ I.is_open inputs.old }
-    ensures asks_nothing { I.asked inputs.new ≡ I.asked inputs.old }
-    ensures later { I.faults inputs.old ≤ I.faults inputs.new }
-    ensures kept { O.written out.new ≡ O.written out.old }
-    ensures later_out { O.faults out.old ≤ O.faults out.new }
-    ensures reads { ReadsOn reader.old reader.new
-        (effect I.Inputs O.Sink inputs.old inputs.new out.old out.new) result }
-{
-    match out.flush() {
-        Ok(()) => read_chunk(alloc, inputs, buffer, reader, out),
-        Err(Failed) => Err(Stop::Sink),
-    }
-}
 
 /// What main's loop has and is lent.
 #[derive(Drop)]

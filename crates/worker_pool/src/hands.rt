@@ -1,5 +1,4 @@
 //! The hub of workers and its hands.
-use crate::serving::Thread;
 use rescale_core::Worker;
 use turn_hub::{Hand, Hub};
 
@@ -9,5 +8,5 @@ pub type WorkerHub = Hub<Worker>;
 /// A hand of such a hub.
 pub type WorkerHand = Hand<Worker>;
 
-/// A thread that serves such hands.
-pub(crate) type WorkerThread = Thread<Worker>;
+/// What main's loop is lent beside threads that serve such hands.
+pub(crate) type LoopContext<'o, R, G> = hub_threads::LoopContext<'o, R, Worker, G>;

@@ -1,18 +1,8 @@
 //! Laws of the definitions, each the contract of a function.
 ghost use Rattle.worker_pool.specs.Laws.{ChangesOfThree, DueAtItsNumber, EachChangeInOrder, EachJustBefore};
-ghost use Rattle.worker_pool.specs.Laws.{EachPointOnce, FiveDealtToTwo, LimitsInFull, NoneBehindTheLast, TallyOfThree};
-ghost use Rattle.worker_pool.specs.Laws.{ViolationsCounted};
+ghost use Rattle.worker_pool.specs.Laws.{EachPointOnce, FiveDealtToTwo, NoneBehindTheLast};
 
-/// Some verdict on what was read has a row exactly where the number of those that have one isn't 0.
-pub fn violations_counted()
-    ensures { ViolationsCounted }
-{}
-
-/// What is counted of three verdicts, and how much a log may have.
-pub fn worked_numbers()
-    ensures tally { TallyOfThree }
-    ensures limits { LimitsInFull }
-{}
+pub use lone_worker::laws::{violations_counted, worked_numbers};
 
 /// A change is due just before the time-point of its number is read.
 pub fn due_at_its_number()

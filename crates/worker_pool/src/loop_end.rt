@@ -2,7 +2,7 @@
 ghost use Rattle.std.specs.Prelude.{◌≡◌};
 ghost use Rattle.worker_pool.specs.Steps.{end_of};
 
-use crate::stop::Stop;
+use lone_worker::Stop;
 
 /// The end of a loop whose body answered whether the loop is over, if it is; at a good end the loop gives this answer.
 pub(crate) fn end_of<T: Copy>(over: Result<bool, Stop>, answer: T) -> Option<Result<T, Stop>>

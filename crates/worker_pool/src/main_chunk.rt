@@ -1,15 +1,14 @@
 //! One chunk of main's loop.
 ghost use Rattle.std.specs.Prelude.{◌≡◌, ◌<◌, ◌≤◌, IsTrue, OnOk, length};
 ghost use Rattle.turn_hub.specs.Ends.{IsMainOf, cell_count};
+ghost use Rattle.hub_threads.specs.Hands.{AreHandsOf};
 ghost use Rattle.worker_pool.specs.Changes.{HaveCells, Suits};
 ghost use Rattle.worker_pool.specs.Following.{Beginning, ComesTo, HasCome, loop_state};
-ghost use Rattle.worker_pool.specs.Hands.{AreHandsOf};
 
-use crate::following::{MainLoop, read_on};
+use crate::following::MainLoop;
 use crate::hands::WorkerHand;
-use crate::line_writer::LineWriter;
 use crate::routing::route_complete;
-use crate::stop::Stop;
+use lone_worker::{LineWriter, Stop, read_on};
 use mon_outside::{Gate, Inputs, Sink};
 use std::sync::Wait;
 

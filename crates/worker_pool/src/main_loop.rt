@@ -5,43 +5,42 @@ ghost use Rattle.log_reader.specs.Progress.{nothing_fed};
 ghost use Rattle.log_reader.specs.Readers.{Reads, progress};
 ghost use Rattle.monitorable.specs.CoreForms.{CoreForm};
 ghost use Rattle.turn_hub.specs.Ends.{IsMainOf, cell_count};
+ghost use Rattle.hub_threads.specs.Hands.{AreGroupsOf, AreHandsOf};
+ghost use Rattle.lone_worker.specs.Chunks.{run_end};
+ghost use Rattle.lone_worker.specs.Effects.{effect};
+ghost use Rattle.lone_worker.specs.Endings.{FollowsLog};
+ghost use Rattle.lone_worker.specs.Policies.{ForEachPolicy};
 ghost use Rattle.worker_pool.specs.Changes.{HaveCells, Suits};
-ghost use Rattle.worker_pool.specs.Chunks.{ReadsPlan, run_end};
-ghost use Rattle.worker_pool.specs.Effects.{effect};
-ghost use Rattle.worker_pool.specs.Endings.{FollowsLog};
-ghost use Rattle.worker_pool.specs.Hands.{AreGroupsOf, AreHandsOf};
-ghost use Rattle.worker_pool.specs.Policies.{ForEachPolicy};
+ghost use Rattle.worker_pool.specs.Chunks.{ReadsPlan};
 ghost use Rattle.worker_pool.specs.Writing.{HasReadNothing};
 
 use crate::following::MainLoop;
-use crate::hands::WorkerHand;
-use crate::line_writer::LineWriter;
-use crate::loop_context::LoopContext;
-use crate::main_task::MainTask;
+use crate::hands::{LoopContext, WorkerHand};
 use crate::schedule::Schedule;
-use crate::stop::Stop;
-use crate::tally::Tally;
-use crate::threads::beside;
+use hub_threads::{MainTask, beside};
 use log_reader::LogReader;
+use lone_worker::{LineWriter, Stop, Tally};
 use mon_outside::{Gate, Inputs, Sink};
-use rescale_core::Driver;
+use rescale_core::{Driver, Worker};
 use std::alloc::AllocError;
 use std::sync::Wait;
 use std::thread::Threads;
 
-impl<'o, 's, R: Wait, G: Gate, I: Inputs, O: Sink> MainTask for MainLoop<'o, 's, R, G, I, O> {
+impl<'o, 's, R: Wait, G: Gate, I: Inputs, O: Sink> MainTask<Worker>
+    for MainLoop<'o, 's, R, G, I, O> {
     ghost use Rattle.std.specs.Prelude.{◌≡◌, ◌≤◌, ◌<◌, [], IsTrue, OnOk, length};
     ghost use Rattle.log_reader.specs.Progress.{nothing_fed};
     ghost use Rattle.log_reader.specs.Readers.{Reads, progress};
     ghost use Rattle.monitorable.specs.CoreForms.{CoreForm};
     ghost use Rattle.turn_hub.specs.Ends.{IsMainOf, cell_count};
-    ghost use Rattle.worker_pool.specs.Changes.{HaveCells, Suits};
-    ghost use Rattle.worker_pool.specs.Chunks.{ReadsPlan, run_end};
-    ghost use Rattle.worker_pool.specs.Effects.{effect};
-    ghost use Rattle.worker_pool.specs.Endings.{FollowsLog};
-    ghost use Rattle.worker_pool.specs.Hands.{AreHandsOf};
-    ghost use Rattle.worker_pool.specs.Policies.{ForEachPolicy};
     ghost use Rattle.log_reader.specs.Limits.{standard};
+    ghost use Rattle.hub_threads.specs.Hands.{AreHandsOf};
+    ghost use Rattle.lone_worker.specs.Chunks.{run_end};
+    ghost use Rattle.lone_worker.specs.Effects.{effect};
+    ghost use Rattle.lone_worker.specs.Endings.{FollowsLog};
+    ghost use Rattle.lone_worker.specs.Policies.{ForEachPolicy};
+    ghost use Rattle.worker_pool.specs.Changes.{HaveCells, Suits};
+    ghost use Rattle.worker_pool.specs.Chunks.{ReadsPlan};
     ghost use Rattle.worker_pool.specs.Writing.{HasReadNothing};
 
     type Answer = Result<Tally, Stop>;

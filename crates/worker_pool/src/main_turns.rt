@@ -1,15 +1,14 @@
 //! Main's turns: it goes on until what it waits for is so.
 ghost use Rattle.std.specs.Prelude.{◌≡◌, ◌≤◌, IfErr, IfOk, OnOk, OnErr, true};
 ghost use Rattle.turn_hub.specs.Ends.{IsMainOf, cell_count};
-ghost use Rattle.worker_pool.specs.Hands.{AreHandsOf};
+ghost use Rattle.hub_threads.specs.Hands.{AreHandsOf};
+ghost use Rattle.lone_worker.specs.Verdicts.{IsOutputStop};
 ghost use Rattle.worker_pool.specs.Steps.{IsReached, MakesRoom, main_state};
-ghost use Rattle.worker_pool.specs.Writing.{FallsShort, IsOutputStop, AllEmitted, WritesOnly, Runs};
+ghost use Rattle.worker_pool.specs.Writing.{FallsShort, AllEmitted, WritesOnly, Runs};
 
-use crate::hands::WorkerHand;
-use crate::line_writer::LineWriter;
-use crate::loop_context::LoopContext;
+use crate::hands::{LoopContext, WorkerHand};
 use crate::rounds::round;
-use crate::stop::Stop;
+use lone_worker::{LineWriter, Stop};
 use mon_outside::{Gate, Sink};
 use rescale_core::Driver;
 use std::sync::Wait;

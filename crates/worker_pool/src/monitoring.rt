@@ -5,22 +5,19 @@ ghost use Rattle.log_reader.specs.Progress.{nothing_fed};
 ghost use Rattle.log_reader.specs.Readers.{Reads, progress};
 ghost use Rattle.monitorable.specs.Cores.{core_form};
 ghost use Rattle.rescale_core.specs.Workers.{IsFor};
+ghost use Rattle.lone_worker.specs.Effects.{effect};
+ghost use Rattle.lone_worker.specs.Endings.{FollowsLog};
+ghost use Rattle.lone_worker.specs.Chunks.{run_end};
+ghost use Rattle.lone_worker.specs.Policies.{ForEachPolicy};
 ghost use Rattle.worker_pool.specs.Changes.{AllSuit};
-ghost use Rattle.worker_pool.specs.Effects.{effect};
-ghost use Rattle.worker_pool.specs.Endings.{FollowsLog};
-ghost use Rattle.worker_pool.specs.Chunks.{run_end};
-ghost use Rattle.worker_pool.specs.Policies.{ForEachPolicy};
 
-use crate::alone::follow_alone;
-use crate::end::End;
-use crate::following::chunk_room;
-use crate::loop_context::LoopContext;
+use crate::by_one::follow_by_one;
+use crate::hands::LoopContext;
 use crate::main_loop::follow_beside;
 use crate::plan::Plan;
 use crate::preparing::prepare;
-use crate::stop::Stop;
-use crate::tally::Tally;
 use log_reader::LogReader;
+use lone_worker::{End, Stop, Tally, chunk_room};
 use mon_outside::{Gate, Inputs, Sink};
 use slice_strategy::Slicer;
 use std::alloc::Global;
@@ -109,7 +106,7 @@ fn run_plan<R: Threads + Wait + Sync, I: Inputs, O: Sink, G: Gate + Sync>(
 {
     // No other worker's rows are to be merged, and nobody is to be waited for.
     if threads == 0 && plan.first.workers() == 1 && plan.changes.is_empty() {
-        let done = follow_alone(rt, alloc, &plan, buffer, log, inputs, out);
+        let done = follow_by_one(rt, alloc, &plan, buffer, log, inputs, out);
         // Whole: field by field it is dear to prove.
         drop(plan);
         return done;

@@ -5,7 +5,7 @@ ghost use Rattle.rescale_core.specs.Moving.{IsDriverOf};
 ghost use Rattle.rescale_core.specs.Workers.{IsFor};
 ghost use Rattle.rescale_core.specs.Worlds.{first_world};
 ghost use Rattle.turn_hub.specs.Ends.{AreInOrder, IsMainOf, cell_count};
-ghost use Rattle.worker_pool.specs.Hands.{AreHandsOf};
+ghost use Rattle.hub_threads.specs.Hands.{AreHandsOf};
 ghost use Rattle.worker_pool.specs.Opening.{AreStarted};
 
 use crate::hands::{WorkerHand, WorkerHub};

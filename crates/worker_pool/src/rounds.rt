@@ -3,15 +3,14 @@ ghost use Rattle.std.specs.Prelude.{◌≡◌, ◌≤◌, ℕ, IfErr, List, OnOk
 ghost use Rattle.rescale_core.specs.Moving.{IsDriverOf};
 ghost use Rattle.rescale_core.specs.Worlds.{World};
 ghost use Rattle.turn_hub.specs.Ends.{IsMainOf, cell_count};
-ghost use Rattle.worker_pool.specs.Hands.{AreHandsOf};
-ghost use Rattle.worker_pool.specs.Writing.{FallsShort, IsOutputStop, WritesOnly, Runs};
-ghost use Rattle.worker_pool.specs.declared.tally.Tally.{Tally};
+ghost use Rattle.hub_threads.specs.Hands.{AreHandsOf};
+ghost use Rattle.lone_worker.specs.Verdicts.{IsOutputStop};
+ghost use Rattle.lone_worker.specs.declared.tally.Tally.{Tally};
+ghost use Rattle.worker_pool.specs.Writing.{FallsShort, WritesOnly, Runs};
 
-use crate::hands::WorkerHand;
-use crate::line_writer::LineWriter;
-use crate::loop_context::LoopContext;
-use crate::serving::serve_each;
-use crate::stop::Stop;
+use crate::hands::{LoopContext, WorkerHand};
+use hub_threads::serve_each;
+use lone_worker::{LineWriter, Stop};
 use mon_outside::{Gate, Sink};
 use rescale_core::{Driver, Turn};
 use std::alloc::{AllocError, Global};

@@ -18,3 +18,9 @@ decreases-joined l = 4 * l.depth + 2
 
 abbrev pub decreases-quantified : goal.decreases-quantified
 decreases-quantified l = 4 * l.depth + 2
+
+abbrev pub decreases-joined_in_time : goal.decreases-joined_in_time
+decreases-joined_in_time l = 4 * l.depth + 2
+
+abbrev pub decreases-negated : goal.decreases-negated
+decreases-negated l = 4 * l.depth + 1

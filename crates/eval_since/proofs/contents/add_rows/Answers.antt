@@ -1,10 +1,10 @@
 use Rattle.std.proofs.Common.{◌&&◌, ap, sym, arith, take, ◌∙◌}
 use Rattle.std.specs.BTreeMap.{is_at}
 use Rattle.mfotl_model.specs.{Values.row_cmp, Tables.has_row, Tables.part}
-use Rattle.eval_since.specs.{Groups.times_at, Times.added, Times.ArePast}
+use Rattle.row_times.specs.{Groups.times_at, Times.added, Times.ArePast}
 use Rattle.relations.proofs.MapLemmas.{either}
-use Rattle.eval_since.proofs.GroupRowLemmas.{all_together}
-use Rattle.eval_since.proofs.WindowLemmas.{rows_more, added_twice, past_added}
+use Rattle.eval_since.proofs.WindowLemmas.{all_together, rows_more}
+use Rattle.row_times.proofs.TwiceLemmas.{added_twice, past_added}
 use Rattle.eval_since.proofs.contents.add_rows.Goals as goal
 
 pub returns-then-is_empty-clause-times : goal.returns-then-is_empty-clause-times

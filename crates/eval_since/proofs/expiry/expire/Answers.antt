@@ -2,7 +2,7 @@ use Rattle.std.proofs.Common.{◌≡◌, ◌&&◌, nat_le, ◌∷◌, arith}
 use Rattle.std.proofs.lemmas.Bool.{and_parts}
 use Rattle.std.specs.{BTreeMap.is_at, List.list_all}
 use Rattle.mfotl_model.specs.{Values.row_cmp, Tables.has_row, Tables.part}
-use Rattle.eval_since.specs.{PackedRows.packed_rows, Groups.times_at}
+use Rattle.row_times.specs.{PackedRows.packed_rows, Groups.times_at}
 use Rattle.eval_since.proofs.ExpireLemmas.{thin_more, nothing_thinned, covered_more, fresh_front, front_far}
 use Rattle.eval_since.proofs.expiry.expire.Goals as goal
 

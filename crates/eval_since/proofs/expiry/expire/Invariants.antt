@@ -1,6 +1,6 @@
 use Rattle.std.proofs.Common.{ℕ, List, length}
 use Rattle.mfotl_model.specs.declared.value.Value.{Value}
-use Rattle.eval_since.specs.Groups.{NoneEmpty, times_at}
+use Rattle.row_times.specs.Groups.{NoneEmpty, times_at}
 use Rattle.eval_since.specs.Windows.{Covered, IsThinned, NotAfter, Placed, Rising}
 use Rattle.eval_since.proofs.expiry.expire.Given as goal
 

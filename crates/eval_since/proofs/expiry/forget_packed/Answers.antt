@@ -1,7 +1,8 @@
 use Rattle.std.proofs.Common.{[], ◌∷◌, refl, sym, ◌∙◌}
 use Rattle.mfotl_model.specs.Tables.{part}
-use Rattle.eval_since.specs.{Groups.times_at, PackedRows.packed_rows, Times.recent}
-use Rattle.eval_since.proofs.{GroupRowLemmas.all_together, WindowLemmas.one_row, WindowLemmas.recent_twice}
+use Rattle.row_times.specs.{Groups.times_at, PackedRows.packed_rows, Times.recent}
+use Rattle.eval_since.proofs.{WindowLemmas.all_together, WindowLemmas.one_row}
+use Rattle.row_times.proofs.{TwiceLemmas.recent_twice}
 use Rattle.eval_since.proofs.expiry.forget_packed.Goals as goal
 
 pub returns-then-is_empty-clause-times : goal.returns-then-is_empty-clause-times

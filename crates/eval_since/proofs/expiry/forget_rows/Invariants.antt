@@ -2,7 +2,7 @@ use Rattle.std.proofs.Common.{◌≡◌, ◌&&◌, List, cond}
 use Rattle.std.specs.BTreeMap.{is_at}
 use Rattle.mfotl_model.specs.{Values.row_cmp, Tables.has_row, Tables.part}
 use Rattle.mfotl_model.specs.declared.value.Value.{Value}
-use Rattle.eval_since.specs.{Groups.NoneEmpty, Groups.times_at, Times.recent}
+use Rattle.row_times.specs.{Groups.NoneEmpty, Groups.times_at, Times.recent}
 use Rattle.eval_since.proofs.expiry.forget_rows.Given as goal
 
 -- once what is left is forgotten

@@ -1,7 +1,8 @@
 use Rattle.std.proofs.Common.{rules, ◌≡◌, ◌∷◌, [], refl, ◌∙◌}
 use Rattle.mfotl_model.specs.Tables.{part}
-use Rattle.eval_since.specs.{Groups.times_at, PackedRows.alone, Times.recent}
-use Rattle.eval_since.proofs.WindowLemmas.{rows_rest, recent_twice}
+use Rattle.row_times.specs.{Groups.times_at, PackedRows.alone, Times.recent}
+use Rattle.eval_since.proofs.WindowLemmas.{rows_rest}
+use Rattle.row_times.proofs.TwiceLemmas.{recent_twice}
 use Rattle.eval_since.proofs.expiry.forget_values.Goals as goal
 
 pub loop-value-preserved : goal.loop-value-preserved

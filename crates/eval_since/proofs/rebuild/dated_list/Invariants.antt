@@ -2,7 +2,8 @@ use Rattle.std.proofs.Common.{◌≡◌, ℕ, Bool, ◌&&◌, ◌||◌, List, dr
 use Rattle.std.specs.List.{list_all}
 use Rattle.mfotl_model.specs.declared.value.Value.{Value}
 use Rattle.eval_since.specs.{Recalled.is_recalled, Windows.names}
-use Rattle.eval_since.specs.declared.{recalled.KeptRow.KeptRow, contents.Dated.Dated}
+use Rattle.row_times.specs.declared.{kept_row.KeptRow.KeptRow}
+use Rattle.eval_since.specs.declared.{contents.Dated.Dated}
 use Rattle.eval_since.proofs.rebuild.dated_list.Given as goal
 
 abbrev pub invariant-loop-kept : goal.invariant-loop-kept

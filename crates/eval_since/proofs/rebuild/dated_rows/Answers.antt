@@ -2,7 +2,8 @@ use Rattle.std.proofs.Common.{◌&&◌, nat_eq, sym, subst, ap, ◌∙◌, rules
 use Rattle.std.proofs.lemmas.List.Sorted.{IsNonDecreasingBy-from_sort_by_key, list_any-IsPermutation}
 use Rattle.std.specs.List.{list_all}
 use Rattle.mfotl_model.specs.Tables.{has_row}
-use Rattle.eval_since.specs.{Windows.Rising, Windows.names, PackedRows.packed_rows}
+use Rattle.eval_since.specs.{Windows.Rising, Windows.names}
+use Rattle.row_times.specs.{PackedRows.packed_rows}
 use Rattle.eval_since.specs.declared.contents.Dated.{Dated}
 use Rattle.relations.proofs.{QueueLemmas.rises_from, TestLemmas.all_moved}
 use Rattle.eval_since.proofs.rebuild.dated_rows.Goals as goal

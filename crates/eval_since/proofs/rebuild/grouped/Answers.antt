@@ -1,5 +1,6 @@
 use Rattle.std.proofs.Common.{◌≡◌, ◌∷◌, ap, ◌∙◌, rules}
-use Rattle.eval_since.specs.Recalled.{put_times, times_kept}
+use Rattle.eval_since.specs.Recalled.{put_times}
+use Rattle.row_times.specs.KeptTimes.{times_kept}
 use Rattle.eval_since.proofs.rebuild.grouped.Goals as goal
 
 pub loop-kept-preserved : goal.loop-kept-preserved

@@ -1,8 +1,9 @@
 use Rattle.std.proofs.Common.{◌≡◌, ◌<◌, List, [], length}
 use Rattle.std.specs.{List.AllByRecursion, List.Sorted.IsStrictlyIncreasing}
 use Rattle.mfotl_model.specs.declared.value.Value.{Value}
-use Rattle.eval_since.specs.{Groups.NoneEmpty, Groups.times_at, Recalled.put_times, Recalled.times_kept}
-use Rattle.eval_since.specs.declared.recalled.KeptRow.{KeptRow}
+use Rattle.row_times.specs.{Groups.NoneEmpty, Groups.times_at, KeptTimes.times_kept}
+use Rattle.eval_since.specs.{Recalled.put_times}
+use Rattle.row_times.specs.declared.kept_row.KeptRow.{KeptRow}
 use Rattle.eval_since.proofs.rebuild.grouped.Given as goal
 
 -- what was put, and what is left to put

@@ -1,7 +1,4 @@
 use Rattle.eval_since.proofs.rebuild.put_kept.Goals as goal
 
 pub returns-clause-times : goal.returns-clause-times
-returns-clause-times c = rw (c.in_ok-key.ensures, c.values.ensures, c.in_ok-times.ensures) at c.put.ensures.times
-
-pub returns-clause-some : goal.returns-clause-some
-returns-clause-some c = rw c.in_ok-times.ensures at c.put.ensures.some
+returns-clause-times c = rw (c.in_ok-key.ensures, c.values.ensures) at c.put.ensures.times

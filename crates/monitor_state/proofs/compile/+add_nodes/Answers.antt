@@ -8,7 +8,8 @@ use Rattle.monitor_state.proofs.FilterBegins.{filtered_whole, is_filter_window, 
 use Rattle.monitor_state.proofs.GuardLemmas.{and_left, and_own, and_right, exists_under_at, not_own_at, not_under_at}
 use Rattle.monitor_state.proofs.GuardLemmas.{or_parts, since_parts, until_parts}
 use Rattle.monitor_state.proofs.{MonitorSteps.last_off, SizeLemmas.operand_no_larger}
-use Rattle.monitor_state.specs.Nodes.{filters, nodes_in}
+use Rattle.monitor_nodes.specs.Operands.{filters}
+use Rattle.monitor_state.specs.Nodes.{nodes_in}
 use Rattle.monitor_state.proofs.compile.+add_nodes.Goals as goal
 
 pub add_nodes-returns-in-True : goal.add_nodes-returns-in-True

@@ -7,7 +7,8 @@ use Rattle.eval_bool.specs.JoinView.{children_of, is_guarded, join_begun, tests_
 use Rattle.monitorable.specs.{Conjuncts.conjuncts_of, CoreForms.node_form, PartView.part_form}
 use Rattle.monitor_state.proofs.{BeginLemmas.join_node, BeginLemmas.tests_node, ConstantLemmas.tests_are}
 use Rattle.monitor_state.proofs.{ConstantLemmas.tests_closed, GuardLemmas.join_guarded, GuardLemmas.some_child}
-use Rattle.monitor_state.specs.{Beginnings.is_child, Constants.is_ground_test, Stands.conjunct_as}
+use Rattle.monitor_nodes.specs.{Stands.conjunct_as}
+use Rattle.monitor_state.specs.{Beginnings.is_child, Constants.is_ground_test}
 use Rattle.monitor_state.proofs.conjunction.conjunction.Goals as goal
 
 pub join_state-requires : goal.join_state-requires

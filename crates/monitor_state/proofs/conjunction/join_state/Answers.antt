@@ -4,7 +4,7 @@ use Rattle.eval_bool.specs.JoinView.{JoinOf, all_children, children_of, conjunct
 use Rattle.mfotl_model.specs.Tables.{all_apart}
 use Rattle.monitorable.specs.PartView.{part_form}
 use Rattle.monitor_state.proofs.GuardLemmas.{join_apart}
-use Rattle.monitor_state.specs.Stands.{conjunct_as}
+use Rattle.monitor_nodes.specs.Stands.{conjunct_as}
 use Rattle.monitor_state.proofs.conjunction.join_state.Goals as goal
 
 pub new-requires-clause-apart : goal.new-requires-clause-apart

@@ -3,7 +3,7 @@ use Rattle.std.proofs.lemmas.Result.{on_ok_weaker}
 use Rattle.monitorable.specs.{CoreForms.Compare, Fragment.binds}
 use Rattle.monitor_state.proofs.{BeginLemmas.judged_adds, ConstantLemmas.alone_fixed}
 use Rattle.monitor_state.specs.Constants.{stands_alone}
-use Rattle.monitor_state.specs.declared.node.Node.TheVariants as node
+use Rattle.monitor_nodes.specs.declared.node.Node.TheVariants as node
 use Rattle.monitor_state.proofs.constant.add_comparison.Goals as goal
 
 pub comparison_table-requires : goal.comparison_table-requires

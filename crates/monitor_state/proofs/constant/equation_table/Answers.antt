@@ -2,8 +2,8 @@ use Rattle.std.proofs.Common.{◌≡◌, [], ◌∷◌}
 use Rattle.std.specs.Ordering.{eq_by_cmp}
 use Rattle.mfotl_model.specs.{Satisfaction.Valuation, Tables.TableOf, Tables.has, Values.value_cmp}
 use Rattle.monitorable.specs.CoreForms.{Compare}
-use Rattle.monitor_state.proofs.{ConstantLemmas.equation_left, ConstantLemmas.equation_right, OrderingLemmas.ok_two}
-use Rattle.monitor_state.specs.Stands.{IsConstant}
+use Rattle.monitor_state.proofs.{ConstantLemmas.equation_left, ConstantLemmas.equation_right, ResultLemmas.ok_two}
+use Rattle.monitor_nodes.specs.Stands.{IsConstant}
 use Rattle.monitor_state.proofs.constant.equation_table.Goals as goal
 
 pub returns-in-Var-Const : goal.returns-in-Var-Const

@@ -3,7 +3,8 @@ use Rattle.std.specs.List.{list_all}
 use Rattle.mfotl_model.specs.{Satisfaction.Valuation, Tables.has}
 use Rattle.eval_bool.specs.Laws.{passes}
 use Rattle.monitorable.specs.PartView.{part_form}
-use Rattle.monitor_state.specs.{Constants.is_ground_test, Stands.conjunct_as}
+use Rattle.monitor_nodes.specs.{Stands.conjunct_as}
+use Rattle.monitor_state.specs.{Constants.is_ground_test}
 use Rattle.monitor_state.proofs.constant.tested.Given as goal
 
 abbrev pub invariant-loop-part : goal.invariant-loop-part

@@ -3,7 +3,7 @@ use Rattle.mfotl_model.specs.Exact.{View}
 use Rattle.mfotl_model.specs.declared.event.TimePoint.{TimePoint}
 use Rattle.monitorable.specs.CoreForms.{CoreForm}
 use Rattle.monitor_state.specs.Going.{Going}
-use Rattle.monitor_state.specs.declared.node.Node.{Node}
+use Rattle.monitor_nodes.specs.declared.node.Node.{Node}
 use Rattle.monitor_state.proofs.monitor.advance_before.Given as goal
 
 abbrev pub invariant-loop-node : goal.invariant-loop-node

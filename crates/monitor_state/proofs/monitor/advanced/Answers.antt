@@ -3,9 +3,9 @@ use Rattle.std.proofs.lemmas.List.{length_push, nil_from_length, with_items_is}
 use Rattle.std.proofs.lemmas.Result.{IfOk-weaker}
 use Rattle.std.specs.Vec.{with_items}
 use Rattle.monitor_state.proofs.MonitorSteps.{going_begins, going_ends, going_somewhere}
-use Rattle.monitor_state.specs.{Going.AllAdvance, Going.Going, Nodes.nodes_of, Stands.NodesStand, Steps.TakesPoint}
-use Rattle.monitor_state.specs.{Steps.longer}
-use Rattle.monitor_state.specs.declared.node.Node.{Node}
+use Rattle.monitor_nodes.specs.{Steps.TakesPoint, Steps.longer}
+use Rattle.monitor_state.specs.{Going.AllAdvance, Going.Going, Nodes.nodes_of, Stands.NodesStand}
+use Rattle.monitor_nodes.specs.declared.node.Node.{Node}
 use Rattle.monitor_state.proofs.monitor.advanced.Goals as goal
 
 pub returns-in_ok-advance_before-in-Some : goal.returns-in_ok-advance_before-in-Some

@@ -1,7 +1,7 @@
 use Rattle.std.proofs.Common.{◌≡◌, ◌∷◌, [], ◌++◌}
 use Rattle.std.proofs.lemmas.Result.{on_ok_weaker}
 use Rattle.monitor_state.specs.Resuming.{NodeResumed}
-use Rattle.monitor_state.specs.declared.node.Node.{Node}
+use Rattle.monitor_nodes.specs.declared.node.Node.{Node}
 use Rattle.monitor_state.proofs.resume_nodes.push_resumed.Goals as goal
 
 pub returns : goal.returns

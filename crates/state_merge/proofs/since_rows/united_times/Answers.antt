@@ -1,4 +1,4 @@
-use Rattle.eval_since.specs.declared.recalled.KeptRow.{KeptRow}
+use Rattle.row_times.specs.declared.kept_row.KeptRow.{KeptRow}
 use Rattle.state_merge.proofs.PairLemmas.{rows_united}
 use Rattle.state_merge.proofs.since_rows.united_times.Goals as goal
 

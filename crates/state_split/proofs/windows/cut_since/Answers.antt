@@ -1,5 +1,5 @@
 use Rattle.std.proofs.Common.{rules, ◌∙◌, refl}
-use Rattle.eval_since.specs.Recalled.{times_kept}
+use Rattle.row_times.specs.KeptTimes.{times_kept}
 use Rattle.monitor_state.specs.declared.state.WindowData.TheVariants.{Since}
 use Rattle.state_split.proofs.ShareLemmas.{each_collected, each_copied, each_paired}
 use Rattle.state_split.proofs.SieveLemmas.{inside_is_cut}

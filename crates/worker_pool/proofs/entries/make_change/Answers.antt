@@ -1,5 +1,6 @@
-use Rattle.worker_pool.proofs.ChangeLemmas.{change_adds, may_change}
-use Rattle.worker_pool.proofs.WritingLemmas.{falls_on, on_err, stops}
+use Rattle.lone_worker.proofs.ErrorLemmas.{on_err}
+use Rattle.worker_pool.proofs.{ChangeLemmas.change_adds, ChangeLemmas.may_change, WritingLemmas.falls_on}
+use Rattle.worker_pool.proofs.{WritingLemmas.stops}
 use Rattle.worker_pool.proofs.entries.make_change.Goals as goal
 
 pub read_change-requires-clause-may : goal.read_change-requires-clause-may

@@ -1,6 +1,6 @@
 use Rattle.std.proofs.Common.{rules, subst}
 use Rattle.worker_pool.specs.Changes.{DueTells}
-use Rattle.worker_pool.proofs.ChangeLemmas.{all_made, none_made}
+use Rattle.worker_pool.proofs.{ChangeLemmas.all_made, ChangeLemmas.none_made}
 use Rattle.worker_pool.proofs.entries.make_changes.Goals as goal
 
 pub returns : goal.returns

@@ -1,8 +1,9 @@
 use Rattle.std.proofs.Common.{◌∙◌, ap, rules, arith}
+use Rattle.lone_worker.proofs.ErrorLemmas.{on_err}
 use Rattle.worker_pool.specs.declared.schedule.Schedule.{Schedule}
 use Rattle.worker_pool.proofs.ChangeLemmas.{adds_falls, all_made, none_made, one_made, seated_later, seated_now}
 use Rattle.worker_pool.proofs.ChangeLemmas.{suits_later}
-use Rattle.worker_pool.proofs.WritingLemmas.{on_err, runs_with}
+use Rattle.worker_pool.proofs.WritingLemmas.{runs_with}
 use Rattle.worker_pool.proofs.entries.make_due.Goals as goal
 
 pub loop-init : goal.loop-init

@@ -1,6 +1,7 @@
 use Rattle.std.proofs.Common.{◌≤◌}
 use Rattle.turn_hub.specs.Ends.{IsMainOf}
-use Rattle.worker_pool.specs.{Changes.HaveCells, Changes.Suits, Hands.AreHandsOf}
+use Rattle.hub_threads.specs.Hands.{AreHandsOf}
+use Rattle.worker_pool.specs.{Changes.HaveCells, Changes.Suits}
 use Rattle.worker_pool.proofs.ChangeLemmas.{Made}
 use Rattle.worker_pool.proofs.entries.make_due.Given as goal
 

@@ -1,6 +1,6 @@
+use Rattle.lone_worker.proofs.ErrorLemmas.{on_err}
+use Rattle.worker_pool.proofs.{EntryLemmas.points_due, WritingLemmas.runs_of, WritingLemmas.stops}
 use Rattle.worker_pool.proofs.ChangeLemmas.{adds_falls, may_point, point_adds, suits_routed}
-use Rattle.worker_pool.proofs.EntryLemmas.{points_due}
-use Rattle.worker_pool.proofs.WritingLemmas.{on_err, runs_of, stops}
 use Rattle.worker_pool.proofs.entries.route.Goals as goal
 
 pub make_way-requires-clause-runs : goal.make_way-requires-clause-runs

@@ -1,6 +1,7 @@
 use Rattle.std.proofs.Common.{◌≤◌}
 use Rattle.turn_hub.specs.Ends.{IsMainOf}
-use Rattle.worker_pool.specs.{Hands.AreHandsOf, Writing.WritesOnly}
+use Rattle.hub_threads.specs.Hands.{AreHandsOf}
+use Rattle.worker_pool.specs.Writing.{WritesOnly}
 use Rattle.worker_pool.proofs.main_turns.turn_until.Given as goal
 
 abbrev pub invariant-loop : goal.invariant-loop

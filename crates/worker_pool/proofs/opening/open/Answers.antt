@@ -1,5 +1,5 @@
 use Rattle.monitorable.specs.Cores.{core_form}
-use Rattle.worker_pool.proofs.HandLemmas.{all_hands}
+use Rattle.hub_threads.proofs.HandLemmas.{all_hands}
 use Rattle.worker_pool.proofs.opening.open.Goals as goal
 
 -- main's end is of a hub that was opened on the workers of this core and strategy

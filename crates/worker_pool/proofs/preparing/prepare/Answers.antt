@@ -1,4 +1,4 @@
-use Rattle.worker_pool.proofs.DealLemmas.{in_order}
+use Rattle.hub_threads.proofs.DealLemmas.{in_order}
 use Rattle.worker_pool.proofs.preparing.prepare.Goals as goal
 
 -- the hands are those of the first cells

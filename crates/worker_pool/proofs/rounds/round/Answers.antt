@@ -1,4 +1,5 @@
-use Rattle.worker_pool.proofs.WritingLemmas.{on_err, stops, world_of}
+use Rattle.lone_worker.proofs.ErrorLemmas.{on_err}
+use Rattle.worker_pool.proofs.{WritingLemmas.stops, WritingLemmas.world_of}
 use Rattle.worker_pool.proofs.rounds.round.Goals as goal
 
 pub turn_all-requires-clause-stands : goal.turn_all-requires-clause-stands

@@ -1,5 +1,5 @@
 use Rattle.rescale_core.proofs.Keeping.{turn_moves}
-use Rattle.worker_pool.proofs.WritingLemmas.{keeps_on, turn_written}
+use Rattle.worker_pool.proofs.{WritingLemmas.keeps_on, WritingLemmas.turn_written}
 use Rattle.worker_pool.proofs.rounds.turn_all.Goals as goal
 
 pub turn-requires-clause-stands : goal.turn-requires-clause-stands

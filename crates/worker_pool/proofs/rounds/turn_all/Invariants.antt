@@ -1,8 +1,8 @@
 use Rattle.std.proofs.Common.{ℕ, List, Option}
 use Rattle.rescale_core.specs.{Moving.IsDriverOf, Worlds.World}
 use Rattle.turn_hub.specs.Ends.{IsMainOf}
+use Rattle.lone_worker.specs.declared.tally.Tally.{Tally}
 use Rattle.worker_pool.specs.Writing.{WritesOnly}
-use Rattle.worker_pool.specs.declared.tally.Tally.{Tally}
 use Rattle.worker_pool.proofs.rounds.turn_all.Given as goal
 
 abbrev pub invariant-loop-k : goal.invariant-loop-k

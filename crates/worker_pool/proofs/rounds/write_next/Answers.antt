@@ -1,4 +1,5 @@
-use Rattle.worker_pool.proofs.WritingLemmas.{cut_short, on_err, same_keeps, stops, wrote_one}
+use Rattle.lone_worker.proofs.ErrorLemmas.{on_err}
+use Rattle.worker_pool.proofs.WritingLemmas.{cut_short, same_keeps, stops, wrote_one}
 use Rattle.worker_pool.proofs.rounds.write_next.Goals as goal
 
 pub returns-in_err-ready-clause-err : goal.returns-in_err-ready-clause-err

@@ -1,8 +1,8 @@
 use Rattle.std.proofs.{Common.refl, lemmas.Result.err_from_is_err_and}
-use Rattle.worker_pool.proofs.{EntryLemmas.points_read, GivenPoints.few_before, GivenPoints.is_amid}
-use Rattle.worker_pool.proofs.GivenPoints.{may_follow}
+use Rattle.lone_worker.proofs.GivenPoints.{few_before, is_amid, may_follow}
+use Rattle.worker_pool.proofs.{EntryLemmas.points_read, RoutedPoints.runs_under, RoutingLemmas.fault_short}
+use Rattle.worker_pool.proofs.{RoutingLemmas.output_short}
 use Rattle.worker_pool.proofs.RoutedNext.{given_at_end, given_for_more, none_routed, one_routed}
-use Rattle.worker_pool.proofs.{RoutedPoints.runs_under, RoutingLemmas.fault_short, RoutingLemmas.output_short}
 use Rattle.worker_pool.proofs.routing.route_next.Goals as goal
 
 pub route-requires-clause-runs : goal.route-requires-clause-runs

@@ -1,5 +1,6 @@
 use Rattle.std.proofs.Common.{◌≤◌}
-use Rattle.worker_pool.specs.{Hands.AreHandsOf, Routing.Routed, Steps.main_state}
+use Rattle.hub_threads.specs.Hands.{AreHandsOf}
+use Rattle.worker_pool.specs.{Routing.Routed, Steps.main_state}
 use Rattle.worker_pool.proofs.routing.route_points.Given as goal
 
 abbrev pub invariant-points : goal.invariant-points

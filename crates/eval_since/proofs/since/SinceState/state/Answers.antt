@@ -1,7 +1,8 @@
 use Rattle.std.proofs.Common.{refl, ap, ◌∙◌}
 use Rattle.relations.specs.KeptRows.{filled}
 use Rattle.mfotl_model.specs.Tables.{part}
-use Rattle.eval_since.specs.{Times.reaches, WindowView.kept_times}
+use Rattle.row_times.specs.{Times.reaches}
+use Rattle.eval_since.specs.{WindowView.kept_times}
 use Rattle.eval_since.proofs.DataLemmas.{climbs_newest, data_follows}
 use Rattle.eval_since.proofs.RecalledLemmas.{no_rows, recalls_is, times_are}
 use Rattle.eval_since.proofs.since.SinceState.state.Goals as goal

@@ -3,7 +3,8 @@ use Rattle.std.specs.Option.{option_or}
 use Rattle.mfotl_model.specs.Tables.{part}
 use Rattle.mfotl_model.specs.declared.value.Value.{Value}
 use Rattle.relations.specs.KeptRows.{filled, kept_for}
-use Rattle.eval_since.specs.{LeftOperand.grouping, Groups.times_at, Recalled.first_times, Recalled.times_kept}
+use Rattle.eval_since.specs.{LeftOperand.grouping}
+use Rattle.row_times.specs.{Groups.times_at, KeptTimes.first_times, KeptTimes.times_kept}
 use Rattle.eval_since.proofs.{RecalledLemmas.first_there, RecalledLemmas.rows_sized, RestoredLemmas.window_keeps}
 use Rattle.eval_since.proofs.window.Window.kept.Goals as goal
 

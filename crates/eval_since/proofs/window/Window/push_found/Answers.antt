@@ -2,7 +2,8 @@ use Rattle.std.proofs.Common.{◌&&◌, ◌||◌, ℕ, List, sym, ap, ap₂, ◌
 use Rattle.std.proofs.lemmas.Result.{on_ok_weaker}
 use Rattle.mfotl_model.specs.Tables.{has_row, part}
 use Rattle.mfotl_model.specs.declared.value.Value.{Value}
-use Rattle.eval_since.specs.{Groups.times_at, LeftOperand.grouping, Times.reaches}
+use Rattle.row_times.specs.{Groups.times_at, Times.reaches}
+use Rattle.eval_since.specs.{LeftOperand.grouping}
 use Rattle.eval_since.proofs.KeyLemmas.{found_at}
 use Rattle.eval_since.proofs.window.Window.push_found.Goals as goal
 

@@ -1,7 +1,8 @@
 use Rattle.std.proofs.Common.{[], cond, ap, ◌∙◌}
 use Rattle.std.specs.Cmp.{eq_by_cmp_equiv}
 use Rattle.mfotl_model.specs.{Tables.part, Values.row_total}
-use Rattle.eval_since.specs.{LeftOperand.grouping, Recalled.times_for}
+use Rattle.eval_since.specs.{LeftOperand.grouping}
+use Rattle.row_times.specs.{KeptTimes.times_for}
 use Rattle.eval_since.proofs.window.Window.resumed.Goals as goal
 
 pub returns-clause-kept : goal.returns-clause-kept

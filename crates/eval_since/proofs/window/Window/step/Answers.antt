@@ -1,6 +1,7 @@
 use Rattle.std.proofs.Common.{◌≡◌, ◌&&◌, ◌||◌, ℕ, ◌-◌, nat_eq, List, length, ap, ap₂, ◌∙◌}
 use Rattle.mfotl_model.specs.{Intervals.in_interval, Tables.has_row, Tables.part}
-use Rattle.eval_since.specs.{Groups.times_at, LeftOperand.grouping, LeftOperand.left_has, Times.reaches}
+use Rattle.row_times.specs.{Groups.times_at, Times.reaches}
+use Rattle.eval_since.specs.{LeftOperand.grouping, LeftOperand.left_has}
 use Rattle.eval_since.proofs.KeyLemmas.{lead_is}
 use Rattle.eval_since.proofs.window.Window.step.Goals as goal
 

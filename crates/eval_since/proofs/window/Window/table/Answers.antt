@@ -2,7 +2,8 @@ use Rattle.std.proofs.Common.{sym, ap, ◌∙◌}
 use Rattle.mfotl_model.specs.Tables.{has_row, part}
 use Rattle.relations.proofs.AscendingRows.{has_ascending}
 use Rattle.eval_since.specs.LeftOperand.{grouping}
-use Rattle.eval_since.proofs.{GroupLemmas.group_is, StepLemmas.sized_reached}
+use Rattle.row_times.proofs.{GroupLemmas.group_is}
+use Rattle.eval_since.proofs.{StepLemmas.sized_reached}
 use Rattle.eval_since.proofs.window.Window.table.Goals as goal
 
 pub from_rows-requires : goal.from_rows-requires

@@ -2,8 +2,9 @@ use Rattle.std.proofs.Common.{◌≡◌, ◌≤◌, ◌<◌, length}
 use Rattle.mon_outside.specs.Views.{inputs_view, sink_view}
 use Rattle.monitorable.specs.CoreForms.{CoreForm}
 use Rattle.turn_hub.specs.Ends.{IsMainOf}
-use Rattle.worker_pool.specs.{Changes.HaveCells, Changes.Suits, Hands.AreHandsOf, Writing.HasReadNothing}
-use Rattle.worker_pool.specs.Following.{HasCome, loop_state}
+use Rattle.hub_threads.specs.Hands.{AreHandsOf}
+use Rattle.worker_pool.specs.{Changes.HaveCells, Changes.Suits, Writing.HasReadNothing, Following.HasCome}
+use Rattle.worker_pool.specs.{Following.loop_state}
 use Rattle.worker_pool.proofs.following.MainLoop.follow.Given as goal
 
 abbrev pub invariant-chunks : goal.invariant-chunks

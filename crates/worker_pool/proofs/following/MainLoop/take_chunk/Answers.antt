@@ -2,8 +2,9 @@ use Rattle.std.proofs.Common.{◌≡◌, ◌∙◌, ◌-◌, ◌^◌, ap, arith,
 use Rattle.mon_outside.specs.Views.{inputs_view, sink_view}
 use Rattle.log_reader.specs.Readers.{Reader}
 use Rattle.log_reader.specs.declared.limits.Limits.{Limits}
-use Rattle.worker_pool.proofs.ChunkLemmas.{finished, lines_stop, one_more_chunk, plan_read, settles}
-use Rattle.worker_pool.proofs.FollowLemmas.{read_stopped}
+use Rattle.lone_worker.proofs.ChunkLemmas.{finished, lines_stop, one_more_chunk, settles}
+use Rattle.lone_worker.proofs.ReadStops.{read_stopped}
+use Rattle.worker_pool.proofs.FollowLemmas.{plan_read}
 use Rattle.worker_pool.proofs.following.MainLoop.take_chunk.Goals as goal
 
 pub route_complete-requires-clause-works : goal.route_complete-requires-clause-works

@@ -1,7 +1,7 @@
 use Rattle.std.proofs.Common.{◌≡◌, ap, refl, rules, subst, true}
-use Rattle.monitor_state.proofs.OrderingLemmas.{taken_one}
+use Rattle.monitor_nodes.proofs.OrderingLemmas.{taken_one}
 use Rattle.slice_strategy.specs.declared.change.Change.{Change}
-use Rattle.worker_pool.specs.Changes.{DueTells, IsDue}
+use Rattle.worker_pool.specs.{Changes.DueTells, Changes.IsDue}
 use Rattle.worker_pool.proofs.ChangeLemmas.{first_is}
 use Rattle.worker_pool.proofs.schedule.Schedule.next_due.Goals as goal
 

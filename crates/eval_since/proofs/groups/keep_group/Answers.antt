@@ -1,4 +1,0 @@
-use Rattle.eval_since.proofs.groups.keep_group.Goals as goal
-
-pub returns : goal.returns
-returns c = c.in_ok-insert.ensures.updates.0

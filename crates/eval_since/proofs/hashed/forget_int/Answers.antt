@@ -1,8 +1,0 @@
-use Rattle.eval_since.specs.Times.{recent}
-use Rattle.eval_since.proofs.{GroupLemmas.recent_none, RowKeyLemmas.others_stay}
-use Rattle.eval_since.proofs.hashed.forget_int.Goals as goal
-
-pub returns-in-None-clause-times : goal.returns-in-None-clause-times
-returns-in-None-clause-times c = λ v.
-    others_stay (recent c.args.hi c.args.now) c.args.row.now v c.args.rows.now
-    (recent_none c.args.hi c.args.now) c.in-None.ensures

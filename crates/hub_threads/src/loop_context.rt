@@ -1,0 +1,29 @@
+//! What main's loop is lent and does not change.
+use crate::bells::Bells;
+use std::alloc::Global;
+use std::sync::Wait;
+use turn_hub::{Hub, Work};
+
+/// The hub with the number of its cells, and what main needs to wait and to serve.
+#[derive(Drop)]
+pub struct LoopContext<'o, R, W: Work, G> {
+    pub rt: &'o R,
+    pub alloc: Global,
+    pub hub: &'o Hub<W>,
+    pub gate: &'o G,
+    pub bells: &'o Bells,
+    pub cells: u32,
+}
+
+impl<R: Wait, W: Work, G> LoopContext<'_, R, W, G> {
+    /// Passes a little time behind a round without work, and answers how many of them came in a row. `heard` was asked
+    /// of main's bell before the round.
+    pub fn rest(&self, busy: bool, heard: u32, idle: u64) -> u64 {
+        if busy {
+            return 0;
+        }
+        let idle = idle.saturating_add(1);
+        self.bells.main.rest(self.rt, heard, idle);
+        idle
+    }
+}

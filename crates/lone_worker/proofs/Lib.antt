@@ -1,0 +1,12 @@
+pub mod SinkLemmas
+pub mod LineLemmas
+pub mod ErrorLemmas
+pub mod LogTimes
+pub mod TallyLemmas
+pub mod VerdictLemmas
+pub mod PointLemmas
+pub mod GivenPoints
+pub mod ChunkLemmas
+pub mod ReadStops
+pub mod AloneLemmas
+pub mod AloneRuns

@@ -1,0 +1,9 @@
+use Rattle.std.proofs.Common.{length}
+use Rattle.monitor_nodes.specs.NextFeeding.{NextPulled}
+use Rattle.monitor_nodes.proofs.next.pulled.Given as goal
+
+abbrev pub invariant-loop-tables : goal.invariant-loop-tables
+invariant-loop-tables l = NextPulled l.initial.state l.state l.tables
+
+abbrev pub decreases-loop-tables : goal.decreases-loop-tables
+decreases-loop-tables l = length l.state.times

@@ -1,0 +1,7 @@
+use Rattle.monitor_nodes.proofs.since.push_left.Goals as goal
+
+pub returns : goal.returns
+returns c = record {
+  pushed = c.in_ok-push_left.ensures.pushed;
+  follows = λ t a b v h one. c.in_ok-push_left.ensures.follows t a b v h one.0;
+}

@@ -1,0 +1,8 @@
+use Rattle.monitor_nodes.proofs.until.push_left.Goals as goal
+
+pub returns : goal.returns
+returns c = record {
+  pushed = c.in_ok-push_left.ensures.pushed;
+  left = λ a v h one. c.in_ok-push_left.ensures.left a v h one.0;
+  follows = λ t a b v h one. c.in_ok-push_left.ensures.follows t a b v h one.0;
+}

@@ -1,5 +1,0 @@
-use Rattle.monitor_state.specs.Quantified.{Quantifies}
-use Rattle.monitor_state.proofs.exists.push_tables.Given as goal
-
-abbrev pub invariant-loop-table : goal.invariant-loop-table
-invariant-loop-table l = Quantifies l.var l.yielded l.without

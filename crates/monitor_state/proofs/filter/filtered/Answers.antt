@@ -1,4 +1,0 @@
-use Rattle.monitor_state.proofs.filter.filtered.Goals as goal
-
-pub returns-clause-gives : goal.returns-clause-gives
-returns-clause-gives c = (c.in_ok-kept.ensures.over, c.in_ok-kept.ensures.sifts)

@@ -1,7 +1,0 @@
-use Rattle.std.proofs.Common.{◌≡◌}
-use Rattle.monitor_state.specs.JoinFeeding.{child_fed}
-use Rattle.monitor_state.proofs.join.push_child.Given as goal
-
-abbrev pub invariant-loop-table : goal.invariant-loop-table
-invariant-loop-table l =
-    l.state ≡ record l.initial.state { children = child_fed l.initial.state.children l.child l.yielded }

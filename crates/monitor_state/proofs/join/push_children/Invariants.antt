@@ -1,9 +1,0 @@
-use Rattle.std.proofs.Common.{◌≡◌, length}
-use Rattle.monitor_state.specs.JoinFeeding.{join_fed}
-use Rattle.monitor_state.proofs.join.push_children.Given as goal
-
-abbrev pub invariant-loop-tables : goal.invariant-loop-tables
-invariant-loop-tables l = record {
-  number : l.child ≡ length l.yielded;
-  fed : l.state ≡ join_fed l.initial.state l.yielded;
-}

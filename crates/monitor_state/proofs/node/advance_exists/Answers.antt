@@ -1,8 +1,0 @@
-use Rattle.std.proofs.lemmas.Result.{IfOk-weaker}
-use Rattle.monitor_state.proofs.NodeSteps.{exists_advances}
-use Rattle.monitor_state.proofs.node.advance_exists.Goals as goal
-
-pub returns : goal.returns
-returns c =
-    IfOk-weaker c.quantified.result _ _ (λ tables takes. exists_advances c.args.var c.popped-tables.ensures takes)
-    c.quantified.ensures

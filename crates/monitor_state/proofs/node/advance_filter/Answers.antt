@@ -1,9 +1,0 @@
-use Rattle.std.proofs.lemmas.Result.{IfOk-weaker}
-use Rattle.monitor_state.proofs.NodeSteps.{filter_advances}
-use Rattle.monitor_state.proofs.node.advance_filter.Goals as goal
-
-pub returns : goal.returns
-returns c =
-    IfOk-weaker c.take_filter.result _ _
-    (λ tables takes. filter_advances c.popped-right.ensures c.popped-left.ensures c.popped-tables.ensures takes)
-    c.take_filter.ensures

@@ -1,8 +1,0 @@
-use Rattle.std.proofs.lemmas.Result.{IfOk-weaker}
-use Rattle.monitor_state.proofs.NodeSteps.{next_advances}
-use Rattle.monitor_state.proofs.node.advance_next.Goals as goal
-
-pub returns : goal.returns
-returns c =
-    IfOk-weaker c.take_next.result _ _ (λ tables takes. next_advances c.popped-operand.ensures takes)
-    c.take_next.ensures

@@ -1,9 +1,0 @@
-use Rattle.std.proofs.Common.{length}
-use Rattle.monitor_state.specs.Feeding.{SincePulled}
-use Rattle.monitor_state.proofs.since.pulled.Given as goal
-
-abbrev pub invariant-loop-tables : goal.invariant-loop-tables
-invariant-loop-tables l = SincePulled l.order.columns l.initial.state l.state l.tables
-
-abbrev pub decreases-loop-tables : goal.decreases-loop-tables
-decreases-loop-tables l = length l.state.times

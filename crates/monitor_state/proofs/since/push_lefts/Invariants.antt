@@ -1,5 +1,0 @@
-use Rattle.monitor_state.specs.Feeding.{LeftsPushed}
-use Rattle.monitor_state.proofs.since.push_lefts.Given as goal
-
-abbrev pub invariant-loop-table : goal.invariant-loop-table
-invariant-loop-table l = LeftsPushed l.initial.state l.state l.yielded

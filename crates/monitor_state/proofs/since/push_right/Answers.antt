@@ -1,7 +1,0 @@
-use Rattle.monitor_state.proofs.since.push_right.Goals as goal
-
-pub returns : goal.returns
-returns c = record {
-  pushed = c.in_ok-push_right.ensures.pushed;
-  follows = λ t a b v h one. c.in_ok-push_right.ensures.follows t a b v h one.0;
-}

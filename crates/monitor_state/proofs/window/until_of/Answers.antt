@@ -1,7 +1,0 @@
-use Rattle.monitor_state.proofs.LookupLemmas.{until_finds}
-use Rattle.monitor_state.proofs.window.until_of.Goals as goal
-
-pub returns-clause-finds : goal.returns-clause-finds
-returns-clause-finds c =
-    until_finds c.args.state.now c.args.keys.now c.in_ok-found.found c.in_ok-found.ensures.columns
-    c.in_ok-found.ensures.rows

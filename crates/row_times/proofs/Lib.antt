@@ -1,0 +1,11 @@
+pub mod TimesLemmas
+pub mod TwiceLemmas
+pub mod RuleLemmas
+pub mod RowKeyLemmas
+pub mod GroupLemmas
+pub mod GroupRowLemmas
+pub mod OneRowLemmas
+pub mod FewLemmas
+pub mod FilledLemmas
+pub mod ForgetLemmas
+pub mod MatchLemmas

@@ -1,0 +1,12 @@
+use Rattle.std.proofs.Common.{◌≡◌, ◌||◌, List}
+use Rattle.std.specs.List.{list_any}
+use Rattle.mfotl_model.specs.declared.value.Value.{Value}
+use Rattle.mfotl_model.specs.Tables.{has_row}
+use Rattle.relations.specs.KeptRows.{list_for}
+use Rattle.row_times.specs.Times.{reaches}
+use Rattle.row_times.proofs.groups.Groups.push_reaching.Given as goal
+
+abbrev pub invariant-loop-key : goal.invariant-loop-key
+invariant-loop-key l = (u : List Value) →
+    (has_row l.out.items u || list_any (λ e. reaches l.interval (list_for e.1 u) l.x) l.key-iterator)
+    ≡ (has_row l.fn.out.items u || list_any (λ e. reaches l.interval (list_for e.1 u) l.x) l.fn.self)

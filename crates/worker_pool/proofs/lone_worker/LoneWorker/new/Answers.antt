@@ -1,5 +1,0 @@
-use Rattle.worker_pool.proofs.AloneLemmas.{takes_none}
-use Rattle.worker_pool.proofs.lone_worker.LoneWorker.new.Goals as goal
-
-pub returns : goal.returns
-returns c = takes_none c.requires c.in_ok-monitor.ensures.core c.in_ok-monitor.ensures.begins c.new-2.ensures

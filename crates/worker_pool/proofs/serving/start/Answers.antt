@@ -1,6 +1,0 @@
-use Rattle.worker_pool.proofs.HandLemmas.{no_hands}
-use Rattle.worker_pool.proofs.serving.start.Goals as goal
-
--- a thread has the hands, and none come back
-pub returns-in-Ok-clause-hands : goal.returns-in-Ok-clause-hands
-returns-in-Ok-clause-hands g c = rw c.new.ensures.items (no_hands c.args.serving.hub.now)
