@@ -5,11 +5,13 @@ use Rattle.std.proofs.Crossing.{crosses}
 use Rattle.std.proofs.MapsCrossing as maps
 use Rattle.mfotl_model.specs.contracts as model
 use Rattle.relations.specs.contracts as relations
+use Rattle.row_times.specs.contracts as kept
 use Rattle.eval_since.specs.contracts as since
 use Rattle.eval_until.specs.contracts as until
 use Rattle.eval_bool.specs.contracts as bool
 use Rattle.monitorable.specs.contracts as monitorable
 use Rattle.slice_strategy.specs.contracts as slicing
+use Rattle.monitor_nodes.specs.contracts as nodes
 use Rattle.monitor_state.specs.contracts as monitor
 use Rattle.state_merge.specs.contracts as merge
 use Rattle.monitorable.proofs.node.Node.TheLaws.TheKnot.{send-Node}
@@ -61,22 +63,22 @@ pub strategy_send : IsSend (slicing.strategy.Strategy.the_field).row
 strategy_send = search base depth 30
 
 -- ---- what operators keep
-pub times_send : IsSend (since.times.Times.the_field).row
+pub times_send : IsSend (kept.times.Times.the_field).row
 times_send = search base depth 40
 
-pub hashed_send : IsSend (since.hashed.Hashed.the_field).row
+pub hashed_send : IsSend (kept.hashed.Hashed.the_field).row
 hashed_send = search (row_send, times_send, base) depth 40
 
-pub few_send : IsSend (since.few.FewRows.the_field).row
+pub few_send : IsSend (kept.few.FewRows.the_field).row
 few_send = search (row_send, times_send, base) depth 40
 
-pub held_send : IsSend (since.held.Held.the_field).row
+pub held_send : IsSend (kept.held.Held.the_field).row
 held_send = search (row_send, times_send, few_send, hashed_send, base) depth 40
 
-pub group_send : IsSend (since.group.Group.the_field).row
+pub group_send : IsSend (kept.group.Group.the_field).row
 group_send = search (held_send, base) depth 30
 
-pub groups_send : IsSend (since.groups.Groups.the_field).row
+pub groups_send : IsSend (kept.groups.Groups.the_field).row
 groups_send = search (row_send, group_send, base) depth 30
 
 pub window_send : IsSend (since.window.Window.the_field).row
@@ -122,7 +124,7 @@ pub or_send : IsSend (bool.or.OrState.the_field).row
 or_send = search (table_send, base) depth 30
 
 -- ---- monitors and their states
-pub node_send : IsSend (monitor.node.Node.the_field).row
+pub node_send : IsSend (nodes.node.Node.the_field).row
 node_send = search (since_send, until_send, reader_send, join_send, or_send, interval_send, table_send, base) depth 30
 
 pub monitor_send : IsSend (monitor.monitor.Monitor.the_field).row
