@@ -18,6 +18,7 @@ children_fed [] lists = []
 children_fed (c ∷ children) [] = c ∷ children
 children_fed (c ∷ children) (tables ∷ lists) = record c { tables = c.tables ++ tables } ∷ children_fed children lists
 
+-- the state with more tables for its first children
 abbrev pub join_fed : JoinOf → List (List TableOf) → JoinOf
 join_fed s lists = record s { children = children_fed s.children lists }
 
