@@ -1,3 +1,4 @@
+use Rattle.std.proofs.Common.{ap, arith, drop, refl, sym}
 use Rattle.eval_until.proofs.FollowsLemmas.{Pulled, follows_pulled, left_pulled}
 use Rattle.eval_until.proofs.until.UntilState.go_on.Goals as goal
 
@@ -28,3 +29,16 @@ returns-clause-follows c = rw (← c.self.view_is) (
       start = c.advance.ensures.start;
     } in
     λ t a b v f. follows_pulled pulled t a b v (rw c.in-Some.ensures.items at f))
+
+pub returns-clause-advances : goal.returns-clause-advances
+returns-clause-advances c = rw (← c.self.view_is) (record {
+  interval = c.advance.ensures.interval;
+  left = c.advance.ensures.left;
+  right = c.advance.ensures.right;
+  negated = c.advance.ensures.negated;
+  pulled = c.advance.ensures.pulled;
+  taken = search arith;
+  times = sym (ap (drop 1) c.in-Some.ensures.items);
+  lefts = refl;
+  rights = refl;
+})
