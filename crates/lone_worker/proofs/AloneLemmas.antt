@@ -15,9 +15,9 @@ use Rattle.monitor_state.specs.{Beginnings.Begins, MonitorView.MonitorOf, Monito
 use Rattle.monitor_state.specs.{Stands.Stands, Steps.Steps}
 use Rattle.monitor_state.specs.declared.monitor.Monitor.{Monitor}
 use Rattle.relations.specs.Tables.{IsTable}
-use Rattle.rescale_core.proofs.LogLemmas.{settled_more, settled_within, times_more, viol_final}
-use Rattle.rescale_core.specs.{Settlings.IsKept, Worlds.verdict_on}
-use Rattle.rescale_core.specs.Workers.{IsEvaluable, MayFollow, settled_in, violations_at}
+use Rattle.monitor_state.proofs.LogLemmas.{settled_more, settled_within, times_more, viol_final}
+use Rattle.monitor_state.specs.{Stands.IsKept, Verdicts.verdict_on}
+use Rattle.monitor_state.specs.Verdicts.{IsEvaluable, MayFollow, settled_in, violations_at}
 use Rattle.lone_worker.specs.{Courses.Settles, Texts.lines, Texts.tally_of}
 use Rattle.lone_worker.specs.Alone.{Owes, WritesAlone, told_of}
 use Rattle.lone_worker.specs.Verdicts.{Falls, all_verdicts, first_verdicts, seen}

@@ -14,7 +14,7 @@ use Rattle.log_reader.specs.declared.fault.LogFault.{LogFault}
 use Rattle.log_reader.specs.declared.fault.LogFault.TheVariants as log
 use Rattle.log_reader.specs.declared.next.Next.TheVariants.{Point, More, End}
 use Rattle.monitorable.specs.CoreForms.{CoreForm}
-use Rattle.rescale_core.specs.Workers.{MayFollow}
+use Rattle.monitor_state.specs.Verdicts.{MayFollow}
 use Rattle.lone_worker.specs.{Chunks.StopsLines, Chunks.stop_for, Policies.ForEachPolicy, Texts.lines, Texts.text_on}
 use Rattle.lone_worker.specs.{Verdicts.Falls}
 use Rattle.lone_worker.specs.Courses.{HasDone, HasDoneAll, Settles}

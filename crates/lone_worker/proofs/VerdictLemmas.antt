@@ -9,8 +9,8 @@ use Rattle.mfotl_model.specs.VerdictText.{VerdictOf, line_of, verdict_at, verdic
 use Rattle.mfotl_model.specs.declared.event.TimePoint.{TimePoint}
 use Rattle.mfotl_model.proofs.CountLemmas.{passing_taken}
 use Rattle.monitorable.specs.{CoreForms.CoreForm, Laws.log_of}
-use Rattle.rescale_core.proofs.LogLemmas.{policy_violations}
-use Rattle.rescale_core.specs.{Workers.settled_in, Worlds.verdict_on}
+use Rattle.monitor_state.proofs.LogLemmas.{policy_violations}
+use Rattle.monitor_state.specs.{Verdicts.settled_in, Verdicts.verdict_on}
 use Rattle.lone_worker.specs.{Policies.IsCoreOf, Texts.lines}
 use Rattle.lone_worker.specs.Verdicts.{all_verdicts, first_verdicts, seen}
 

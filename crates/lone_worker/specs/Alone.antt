@@ -13,7 +13,7 @@ use Rattle.monitorable.specs.Laws.{whole_view}
 use Rattle.monitor_state.specs.MonitorView.{monitor_of}
 use Rattle.monitor_state.specs.Stands.{StateOf, Stands}
 use Rattle.monitor_state.specs.declared.monitor.Monitor.{Monitor}
-use Rattle.rescale_core.specs.Workers.{IsEvaluable, MayFollow, settled_in}
+use Rattle.monitor_state.specs.Verdicts.{IsEvaluable, MayFollow, settled_in}
 use Rattle.lone_worker.specs.Courses.{HasDone, Settles}
 use Rattle.lone_worker.specs.Texts.{lines, tally_of}
 use Rattle.lone_worker.specs.Verdicts.{first_verdicts}

@@ -5,7 +5,7 @@ use Rattle.monitorable.specs.CoreForms.{CoreForm}
 use Rattle.monitorable.specs.Fragment.{Names, frag_fault}
 use Rattle.monitorable.specs.Negation.{SettlesWith}
 use Rattle.monitorable.specs.SatisfyingRows.{HasViolationsOf}
-use Rattle.rescale_core.specs.Workers.{IsEvaluable}
+use Rattle.monitor_state.specs.Verdicts.{IsEvaluable}
 
 -- the policy can be monitored by this core: it is settled where the policy is, and its rows are the violations
 pub record IsCoreOf (core : CoreForm) (policy : Form) : Type 0 where

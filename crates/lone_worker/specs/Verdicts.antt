@@ -6,8 +6,7 @@ use Rattle.mon_outside.specs.Sink.{AppendsFront}
 use Rattle.mfotl_model.specs.VerdictText.{VerdictOf}
 use Rattle.mfotl_model.specs.declared.event.TimePoint.{TimePoint}
 use Rattle.monitorable.specs.CoreForms.{CoreForm}
-use Rattle.rescale_core.specs.Workers.{settled_in}
-use Rattle.rescale_core.specs.Worlds.{verdict_on}
+use Rattle.monitor_state.specs.Verdicts.{settled_in, verdict_on}
 use Rattle.verdict_merge.specs.declared.rows.Verdict.{Verdict}
 use Rattle.lone_worker.specs.Texts.{lines}
 use Rattle.lone_worker.specs.declared.stop.Stop.{Stop}

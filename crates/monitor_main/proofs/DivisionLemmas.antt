@@ -11,7 +11,7 @@ use Rattle.slice_strategy.specs.{ChangeRules.IsValue, ChangeRules.changes_of, En
 use Rattle.slice_strategy.specs.declared.change.Change.{Change as ChangeOf}
 use Rattle.slice_strategy.proofs.EntryLaws.{strategy_size}
 use Rattle.lone_worker.specs.Policies.{IsCoreOf}
-use Rattle.worker_pool.specs.Changes.{AllSuit}
+use Rattle.main_steps.specs.Changes.{AllSuit}
 use Rattle.monitor_main.specs.CheckedPolicies.{Divides, Fails, HasVariables, checked_in}
 use Rattle.monitor_main.specs.ReadyTasks.{IsReady}
 use Rattle.monitor_main.specs.Tasks.{◌>>=◌, Division, divided_by}

@@ -1,7 +1,7 @@
 -- When a task can be monitored.
 use Rattle.monitorable.specs.Cores.{core_form}
 use Rattle.rescale_core.specs.Workers.{IsFor}
-use Rattle.worker_pool.specs.Changes.{AllSuit}
+use Rattle.main_steps.specs.Changes.{AllSuit}
 use Rattle.lone_worker.specs.Policies.{IsCoreOf}
 use Rattle.monitor_main.specs.declared.task.Task.{Task}
 use Rattle.monitor_main.specs.CheckedPolicies.{checked_in}

@@ -14,6 +14,7 @@ use Rattle.monitorable.specs.CoreForms.{CoreForm, meaning, Compare, Not, And, Si
 use Rattle.monitorable.specs.{Fragment.bound_by, Soundness.IsWellFormedIn}
 use Rattle.relations.proofs.{JoinLemmas.member_of_all, InsideLemmas.joined_within}
 use Rattle.relations.specs.Pushed.{turned}
+use Rattle.core_arranging.specs.Windows.{left_operand}
 use Rattle.monitor_nodes.proofs.CountLemmas.{and_below, count_and, count_below}
 use Rattle.monitor_nodes.proofs.ExactLemmas.{reached_grows, reached_within, rising_before}
 use Rattle.monitor_nodes.proofs.{GrowthLemmas.exact_more, SinceSteps.reached_operand, SinceSteps.turned_sat}
@@ -22,7 +23,7 @@ use Rattle.monitor_nodes.proofs.WindowSteps.{window_due_at, window_fed, window_g
 use Rattle.monitor_nodes.specs.FilterFeeding.{FilterPulled, FilterStep, FilterStops, FilterTakes, FiltersOrJoins, Joins}
 use Rattle.monitor_nodes.specs.FilterFeeding.{Sifts}
 use Rattle.monitor_nodes.specs.FilterNode.{FilterStands, GivenAs, IsFilter}
-use Rattle.monitor_nodes.specs.Operands.{adds_none, is_negated, left_operand, window_operands}
+use Rattle.monitor_nodes.specs.Operands.{adds_none, is_negated, window_operands}
 use Rattle.monitor_nodes.specs.Steps.{News, StackNews, longer}
 use Rattle.monitor_nodes.specs.Views.{reached}
 use Rattle.monitor_nodes.specs.WindowNode.{IsWindow, WindowStands, window_columns, window_due}

@@ -13,6 +13,7 @@ use Rattle.mfotl_model.specs.FreeVariables.{fv, among, without, variables_in}
 use Rattle.mfotl_model.specs.Satisfaction.{Valuation, sat, with_value, event_of, has_event}
 use Rattle.mfotl_model.specs.declared.{event.TimePoint.TimePoint, formula.Bound.Bound, term.Atom.Atom as OneAtom}
 use Rattle.mfotl_model.specs.declared.{value.Value.Value}
+use Rattle.core_arranging.specs.Windows.{is_window, left_operand}
 use Rattle.eval_since.specs.{PreviousView.PrevOf, SinceView.SinceOf}
 use Rattle.monitorable.proofs.{DomainLaw.domain, DomainLemmas.any_with, DomainLemmas.any_witness}
 use Rattle.monitorable.proofs.{DomainRows.has_constants, DomainRows.has_log}
@@ -29,7 +30,7 @@ use Rattle.monitor_nodes.specs.{PreviousFeeding.PreviousTakes, NextFeeding.NextT
 use Rattle.monitor_nodes.specs.{FilterFeeding.FilterTakes, Quantified.IsWithout, Quantified.Quantifies, Stacks.Pops}
 use Rattle.monitor_nodes.specs.{Stacks.PopsMany, Views.reached}
 use Rattle.eval_until.specs.{NextView.NextOf, UntilView.UntilOf}
-use Rattle.monitor_nodes.specs.Operands.{adds_none, is_keyed, is_window, left_operand, operands}
+use Rattle.monitor_nodes.specs.Operands.{adds_none, is_keyed, operands}
 use Rattle.monitor_nodes.specs.Operands.{window_operands}
 use Rattle.monitor_nodes.specs.declared.filter.FilterState.{FilterState}
 use Rattle.monitor_nodes.specs.Stands.{ChildrenStand, IsConstant, IsConjunction, JoinStands}

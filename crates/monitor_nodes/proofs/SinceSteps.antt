@@ -7,6 +7,7 @@ use Rattle.mfotl_model.specs.{Tables.TableOf, Tables.all_among, Times.NeverFalls
 use Rattle.mfotl_model.specs.Exact.{View, Covers, AllExact}
 use Rattle.mfotl_model.specs.Satisfaction.{Valuation, sat, truth_at}
 use Rattle.mfotl_model.specs.declared.{event.TimePoint.TimePoint, interval.Interval.Interval, value.Value.Value}
+use Rattle.core_arranging.specs.{Windows.left_operand}
 use Rattle.eval_since.specs.SinceView.{Follows, SinceOf}
 use Rattle.monitorable.specs.CoreForms.{CoreForm, meaning, Since}
 use Rattle.monitorable.specs.Soundness.{HasVariablesOf}
@@ -17,7 +18,7 @@ use Rattle.monitor_nodes.proofs.ExactLemmas.{reached_within, stand_exact, tells_
 use Rattle.monitor_nodes.proofs.StampLemmas.{known_more, stamps_moved, stamps_pushed}
 use Rattle.monitor_nodes.proofs.RegionLemmas.{joined_inside, near_part, near_right, right_inside}
 use Rattle.monitor_nodes.specs.Feeding.{SinceFeeds, SincePulled, SinceTakes}
-use Rattle.monitor_nodes.specs.{Operands.is_negated, Operands.left_operand, PreviousFeeding.tables_used, Stamps.stamps}
+use Rattle.monitor_nodes.specs.{Operands.is_negated, PreviousFeeding.tables_used, Stamps.stamps}
 use Rattle.monitor_nodes.specs.{Steps.News, Steps.longer}
 use Rattle.monitor_nodes.specs.SinceNode.{IsSince, IsSinceState, SinceStands, SinceStandsAt}
 use Rattle.monitor_nodes.specs.Views.{Dates, Tells, reached}

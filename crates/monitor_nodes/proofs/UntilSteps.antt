@@ -9,6 +9,7 @@ use Rattle.mfotl_model.specs.{FreeVariables.fv, Log.times, Regions.Passes, Settl
 use Rattle.mfotl_model.specs.{Tables.all_among, Times.NeverFalls}
 use Rattle.mfotl_model.specs.Satisfaction.{Valuation, sat, time_at, truth_at}
 use Rattle.mfotl_model.specs.declared.{event.TimePoint.TimePoint, interval.Interval.Interval, value.Value.Value}
+use Rattle.core_arranging.specs.{Windows.left_operand}
 use Rattle.eval_until.proofs.DueLemmas.{until_due_settled}
 use Rattle.eval_until.specs.UntilView.{Follows, FollowsLeft, UntilOf, due, took_all}
 use Rattle.monitorable.specs.CoreForms.{CoreForm, meaning, Until}
@@ -20,7 +21,7 @@ use Rattle.monitor_nodes.proofs.{StampLemmas.from_more, UntilLemmas.due_on}
 use Rattle.monitor_nodes.proofs.ExactLemmas.{covers_before, dates_before, dates_new, exact_drop, exact_tell, log_more}
 use Rattle.monitor_nodes.proofs.ExactLemmas.{reached_grows, reached_within, stand_exact, tells_before, truths_tell}
 use Rattle.monitor_nodes.proofs.RegionLemmas.{joined_inside, near_part, near_right, right_inside}
-use Rattle.monitor_nodes.specs.{Operands.left_operand, Steps.News, Steps.longer}
+use Rattle.monitor_nodes.specs.{Steps.News, Steps.longer}
 use Rattle.monitor_nodes.specs.UntilNode.{IsUntil, IsUntilState, UntilStands, UntilStandsAt}
 use Rattle.monitor_nodes.specs.UntilFeeding.{UntilFeeds, UntilPulled, UntilTakes, until_past}
 use Rattle.monitor_nodes.specs.Views.{Dates, Tells, reached}

@@ -5,7 +5,8 @@ use Rattle.mfotl_model.specs.Exact.{AllExact, View}
 use Rattle.mfotl_model.specs.FreeVariables.{fv}
 use Rattle.mfotl_model.specs.Tables.{TableOf}
 use Rattle.monitorable.specs.CoreForms.{CoreForm, meaning, And}
-use Rattle.monitor_nodes.specs.Operands.{adds_none, filters, is_negated, left_operand}
+use Rattle.core_arranging.specs.Windows.{left_operand}
+use Rattle.monitor_nodes.specs.Operands.{adds_none, filters, is_negated}
 use Rattle.monitor_nodes.specs.Views.{reached}
 use Rattle.monitor_nodes.specs.WindowNode.{IsWindow, WindowStands, window_took_all}
 use Rattle.monitor_nodes.specs.declared.filter.FilterState.{FilterState}

@@ -8,9 +8,10 @@ use Rattle.mfotl_model.specs.FreeVariables.{among, fv}
 use Rattle.mfotl_model.specs.Tables.{all_among}
 use Rattle.monitorable.specs.Conjuncts.{PartForm, conjuncts_of}
 use Rattle.monitorable.specs.Conjuncts.PartForm.{Child, Test}
-use Rattle.monitorable.specs.CoreForms.{CoreForm, meaning, True, False, Not, And, Or, Exists, Previous, Next, Since}
+use Rattle.monitorable.specs.CoreForms.{CoreForm, meaning, True, Not, And, Or, Exists, Previous, Next, Since}
 use Rattle.monitorable.specs.CoreForms.{Until}
 use Rattle.monitorable.specs.Fragment.{bound_by}
+use Rattle.core_arranging.specs.Windows.{is_window, left_operand}
 
 -- the cores that are evaluated for conjuncts; a comparison that is tested is none
 abbrev pub children : List PartForm → List CoreForm
@@ -18,23 +19,11 @@ children [] = []
 children (Child f negated ∷ parts) = f ∷ children parts
 children (Test c wanted ∷ parts) = children parts
 
--- the left operand of SINCE or UNTIL, or a window that is asked for rows, without its NOT; TRUE is NOT FALSE
-abbrev pub left_operand : CoreForm → CoreForm
-left_operand True = False
-left_operand (Not f) = f
-left_operand f = f
-
--- whether it has one
+-- whether a left operand, or a window that is asked for rows, has a NOT
 abbrev pub is_negated : CoreForm → Bool
 is_negated True = true
 is_negated (Not f) = true
 is_negated f = false
-
--- whether a core is a window: a SINCE or an UNTIL
-abbrev pub is_window : CoreForm → Bool
-is_window (Since i f g) = true
-is_window (Until i f g) = true
-is_window f = false
 
 -- the cores whose tables a window takes, from left to right
 abbrev pub window_operands : CoreForm → List CoreForm

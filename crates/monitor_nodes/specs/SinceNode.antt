@@ -7,9 +7,10 @@ use Rattle.mfotl_model.specs.Satisfaction.{Valuation}
 use Rattle.mfotl_model.specs.Tables.{TableOf}
 use Rattle.mfotl_model.specs.declared.interval.Interval.{Interval}
 use Rattle.mfotl_model.specs.declared.value.Value.{Value}
+use Rattle.core_arranging.specs.Windows.{left_operand}
 use Rattle.eval_since.specs.SinceView.{Follows, SinceOf}
 use Rattle.monitorable.specs.CoreForms.{CoreForm, meaning, Since}
-use Rattle.monitor_nodes.specs.Operands.{is_negated, left_operand}
+use Rattle.monitor_nodes.specs.Operands.{is_negated}
 use Rattle.monitor_nodes.specs.Stamps.{stamps}
 use Rattle.monitor_nodes.specs.Views.{Dates, Tells, reached}
 

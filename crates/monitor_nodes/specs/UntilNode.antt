@@ -7,9 +7,10 @@ use Rattle.mfotl_model.specs.Satisfaction.{Valuation}
 use Rattle.mfotl_model.specs.Tables.{TableOf}
 use Rattle.mfotl_model.specs.declared.interval.Interval.{Interval}
 use Rattle.mfotl_model.specs.declared.value.Value.{Value}
+use Rattle.core_arranging.specs.Windows.{left_operand}
 use Rattle.eval_until.specs.UntilView.{Follows, FollowsLeft, UntilOf}
 use Rattle.monitorable.specs.CoreForms.{CoreForm, meaning, Until}
-use Rattle.monitor_nodes.specs.Operands.{is_negated, left_operand}
+use Rattle.monitor_nodes.specs.Operands.{is_negated}
 use Rattle.monitor_nodes.specs.Views.{Dates, Tells, reached}
 
 -- the state is one of an UNTIL of the cores f and g, with this interval

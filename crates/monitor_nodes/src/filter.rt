@@ -1,6 +1,5 @@
 //! A conjunction whose right side is asked for the left one's rows takes a time and its operands' tables.
 ghost use Rattle.std.specs.Prelude.{◌≡◌, ◌++◌, ◌∷◌, [], cond, IfOk, IsTrue, MatchOption, None, OnOk};
-ghost use Rattle.mfotl_model.specs.Tables.{TableOf};
 ghost use Rattle.relations.specs.Pushed.{turned};
 ghost use Rattle.relations.specs.Tables.{IsTable};
 ghost use Rattle.monitor_nodes.specs.FilterFeeding.{FilterPulled, FilterStep, FilterStops, FilterTakes, RowSifted};

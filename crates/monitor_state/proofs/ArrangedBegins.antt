@@ -10,9 +10,9 @@ use Rattle.monitorable.specs.Fragment.{judges_not, looks_within, needed_by, unde
 use Rattle.monitorable.specs.Soundness.{IsWellFormedIn}
 use Rattle.monitorable.specs.declared.role.Role.{Role}
 use Rattle.monitorable.specs.declared.role.Role.TheVariants as role
-use Rattle.monitor_state.proofs.ArrangedLemmas.{fv_arranged, has_conjuncts, of_either}
+use Rattle.core_arranging.proofs.ArrangedLemmas.{fv_arranged, has_conjuncts, of_either}
+use Rattle.core_arranging.specs.Arranging.{arranged, before_windows, windowed, with_conjuncts}
 use Rattle.monitor_state.proofs.{NarrowedBegins.among_both, NarrowedBegins.within_both, WholeLemmas.guarded}
-use Rattle.monitor_state.specs.Nodes.{arranged, before_windows, windowed, with_conjuncts}
 use Rattle.monitor_nodes.specs.Steps.{SameNear}
 
 -- ---- what a conjunction has where both its sides have it

@@ -7,13 +7,14 @@ use Rattle.monitorable.specs.CoreForms.{CoreForm, And, Since, Until}
 use Rattle.monitorable.specs.Fragment.{bound_by, fault_in, is_conjunction}
 use Rattle.monitorable.specs.declared.role.Role.{Role}
 use Rattle.monitorable.specs.declared.role.Role.TheVariants as role
+use Rattle.core_arranging.specs.Windows.{is_window, left_operand}
 use Rattle.monitor_state.proofs.BeginLemmas.{adds_one, none_reached, since_begins_at, since_state_is}
 use Rattle.monitor_state.proofs.{GuardLemmas.and_left, GuardLemmas.and_own, WholeLemmas.asker_guarded}
 use Rattle.monitor_state.proofs.{WholeLemmas.part_whole, NarrowedBegins.among_both, UntilBegins.until_begins_at}
 use Rattle.monitor_state.proofs.{UntilBegins.until_state_is}
 use Rattle.monitor_state.specs.Beginnings.{Accepted, Adds, WindowBegun}
 use Rattle.monitor_nodes.specs.{FilterNode.GivenAs, Views.reached}
-use Rattle.monitor_nodes.specs.Operands.{adds_none, filters, is_negated, is_window, left_operand}
+use Rattle.monitor_nodes.specs.Operands.{adds_none, filters, is_negated}
 use Rattle.monitor_state.specs.Nodes.{nodes_in, without_last}
 use Rattle.monitor_nodes.specs.WindowNode.{IsWindow, WindowStands, window_took_all}
 use Rattle.monitor_nodes.specs.declared.{filter.FilterState.FilterState, node.Node.Node, window.Window.Window}

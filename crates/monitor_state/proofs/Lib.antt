@@ -9,9 +9,7 @@ pub mod SizeLemmas
 pub mod StepLemmas
 pub mod LawProofs
 pub mod WholeLemmas
-pub mod NarrowedLemmas
 pub mod NarrowedBegins
-pub mod ArrangedLemmas
 pub mod ArrangedBegins
 pub mod PosedLemmas
 pub mod PosedSteps
@@ -28,3 +26,4 @@ pub mod ResumeWindows
 pub mod ResumeNodes
 pub mod ResumeState
 pub mod PartLaw
+pub mod LogLemmas

@@ -14,12 +14,14 @@ use Rattle.monitorable.specs.{Soundness.IsWellFormedIn}
 use Rattle.monitorable.specs.Fragment.{binds, bound_by, is_conjunction, under_not}
 use Rattle.monitorable.specs.declared.role.Role.{Role}
 use Rattle.monitorable.specs.declared.role.Role.TheVariants as role
+use Rattle.core_arranging.specs.Windows.{left_operand}
+use Rattle.core_arranging.specs.Arranging.{posed}
 use Rattle.monitor_state.proofs.PosedSteps.{news_posed, premises_posed}
 use Rattle.monitor_state.specs.{Constants.stands_alone, Stands.NodesStand}
 use Rattle.monitor_state.specs.Going.{AllPremises, Going, Works}
-use Rattle.monitor_nodes.specs.Operands.{children, filters, left_operand, operands, window_operands}
+use Rattle.monitor_nodes.specs.Operands.{children, filters, operands, window_operands}
 use Rattle.monitor_state.specs.Nodes.{nodes_in, nodes_of}
-use Rattle.monitor_state.specs.Nodes.{posed, without_last}
+use Rattle.monitor_state.specs.Nodes.{without_last}
 use Rattle.monitor_nodes.specs.Steps.{TakesPoint, News, Premises, SameNear, StackNews, longer}
 use Rattle.monitor_nodes.specs.declared.node.Node.{Node}
 

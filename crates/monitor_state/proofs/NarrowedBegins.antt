@@ -15,11 +15,12 @@ use Rattle.monitorable.specs.Fragment.{named_variable}
 use Rattle.monitorable.specs.Soundness.{IsWellFormedIn}
 use Rattle.monitorable.specs.declared.fault.FragmentFault.TheVariants.{Unguarded}
 use Rattle.monitorable.specs.declared.role.Role.TheVariants as role
-use Rattle.monitor_state.proofs.{NarrowedLemmas.among_led, WholeLemmas.guarded}
+use Rattle.core_arranging.proofs.{NarrowedLemmas.among_led}
+use Rattle.core_arranging.specs.Windows.{is_window}
+use Rattle.core_arranging.specs.Arranging.{first_conjunct, is_atom, leads, led, narrowed}
+use Rattle.monitor_state.proofs.{WholeLemmas.guarded}
 use Rattle.monitor_nodes.specs.{Steps.SameNear}
 use Rattle.monitor_state.specs.{Beginnings.Accepted}
-use Rattle.monitor_nodes.specs.Operands.{is_window}
-use Rattle.monitor_state.specs.Nodes.{first_conjunct, is_atom, leads, led, narrowed}
 
 -- ---- a conjunction with one more conjunct before the others
 

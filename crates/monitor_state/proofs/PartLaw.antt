@@ -3,10 +3,10 @@ use Rattle.std.proofs.Common.{ℕ, ◌+◌, List, [], ◌∷◌}
 use Rattle.mfotl_model.specs.Exact.{AllExact, Exact, View}
 use Rattle.mfotl_model.specs.{Formulas.Form, FreeVariables.fv, Regions.Region, Tables.TableOf}
 use Rattle.mfotl_model.specs.declared.interval.Interval.{Interval}
+use Rattle.core_arranging.specs.Windows.{left_operand}
 use Rattle.eval_since.specs.declared.recalled.SinceData.{SinceData}
 use Rattle.eval_until.specs.declared.recalled.UntilData.{UntilData}
 use Rattle.monitorable.specs.CoreForms.{CoreForm, meaning, Not, And, Or, Previous, Next, Since, Until}
-use Rattle.monitor_nodes.specs.Operands.{left_operand}
 use Rattle.monitor_state.specs.StateLaws.{IsSubregion, PartStands, seen_in}
 use Rattle.monitor_state.specs.StateStands.{NodeDataStands, NodesDataStand, SinceDataStands, TablesStand}
 use Rattle.monitor_state.specs.StateStands.{UntilDataStands, WindowDataStands}

@@ -5,9 +5,10 @@ use Rattle.mfotl_model.specs.{Counts.settled_count, Tables.TableOf}
 use Rattle.mfotl_model.specs.Exact.{AllExact, Exact, View}
 use Rattle.mfotl_model.specs.declared.event.TimePoint.{TimePoint}
 use Rattle.monitorable.specs.CoreForms.{CoreForm, meaning}
-use Rattle.monitor_state.proofs.PosedLemmas.{fv_posed, same_posed, sat_posed, settled_posed, sound_posed}
+use Rattle.core_arranging.proofs.PosedLemmas.{fv_posed, sat_posed, settled_posed}
+use Rattle.core_arranging.specs.{Arranging.posed}
+use Rattle.monitor_state.proofs.PosedLemmas.{same_posed, sound_posed}
 use Rattle.monitor_nodes.specs.{Views.reached}
-use Rattle.monitor_state.specs.{Nodes.posed}
 use Rattle.monitor_nodes.specs.Steps.{News, Premises, longer}
 
 reached_posed : (view : View) (f : CoreForm) → reached view (posed f) ≡ reached view f

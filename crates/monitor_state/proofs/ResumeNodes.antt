@@ -6,6 +6,7 @@ use Rattle.mfotl_model.specs.Exact.{AllExact, Covers, View}
 use Rattle.mfotl_model.specs.{FreeVariables.fv, Satisfaction.Valuation, Satisfaction.truth_at, Tables.TableOf}
 use Rattle.mfotl_model.specs.{Tables.has}
 use Rattle.mfotl_model.specs.declared.{interval.Interval.Interval, value.Value.Value}
+use Rattle.core_arranging.specs.{Windows.left_operand}
 use Rattle.eval_bool.proofs.{ChildLemmas.Alike, RefillLemmas.rule_alike}
 use Rattle.eval_bool.specs.BoolData.{JoinRule, TablesOver, join_of, with_tables}
 use Rattle.eval_bool.specs.JoinView.{ChildOf, JoinOf}
@@ -22,7 +23,7 @@ use Rattle.monitor_state.proofs.{RecordKeeps.alike_parts}
 use Rattle.monitor_state.proofs.ResumeTimes.{known_from, last_dates, rest_dates, rest_is, rest_size}
 use Rattle.monitor_state.proofs.ResumeWindows.{since_resumed_is, since_resumed_stands, until_resumed_all}
 use Rattle.monitor_state.proofs.ResumeWindows.{until_resumed_is, until_resumed_stands, until_resumed_taken}
-use Rattle.monitor_nodes.specs.{Operands.left_operand, Views.Tells, Views.reached, WindowNode.IsWindow}
+use Rattle.monitor_nodes.specs.{Views.Tells, Views.reached, WindowNode.IsWindow}
 use Rattle.monitor_state.specs.{StateRules.NodeKeeps, StateRules.WindowKeeps}
 use Rattle.monitor_state.specs.Resuming.{NodeResumed, Reach, SinceResumed, UntilResumed, WindowResumed}
 use Rattle.monitor_nodes.specs.Stands.{ChildrenStand, IsNodeFor, IsConjunction, IsPrevious, JoinStands, NextStands}

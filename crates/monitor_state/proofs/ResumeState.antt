@@ -7,12 +7,13 @@ use Rattle.mfotl_model.specs.{Exact.View, Log.times, Regions.everywhere, Times.N
 use Rattle.mfotl_model.specs.declared.event.TimePoint.{TimePoint}
 use Rattle.monitorable.specs.CoreForms.{CoreForm, meaning}
 use Rattle.monitorable.specs.declared.role.Role.TheVariants as role
+use Rattle.core_arranging.specs.{Arranging.posed}
 use Rattle.monitor_nodes.proofs.{ExactLemmas.reached_within}
 use Rattle.monitor_state.proofs.{BeginLemmas.begins, LawProofs.itself, MonitorSteps.premises_all}
 use Rattle.monitor_state.proofs.{PosedSteps.premises_posed, RecordKeeps.earliest_least, RecordKeeps.earliest_reaches}
 use Rattle.monitor_state.proofs.{ResumeTimes.log_size}
 use Rattle.monitor_nodes.specs.{Views.reached, Steps.longer}
-use Rattle.monitor_state.specs.{Beginnings.Adds, Going.AllPremises, Nodes.nodes_of, Nodes.posed, StateRules.NodesKeep}
+use Rattle.monitor_state.specs.{Beginnings.Adds, Going.AllPremises, Nodes.nodes_of, StateRules.NodesKeep}
 use Rattle.monitor_state.specs.{StateRules.StateRule, StateStands.NodesDataStand, StateStands.StateStands}
 use Rattle.monitor_state.specs.Resuming.{AllMatch, NodeResumed, NodesResumed, SuitsEvaluation, SuitsWhole}
 use Rattle.monitor_state.specs.Stands.{NodesStand, StateOf, Stands}

@@ -3,7 +3,7 @@ use Rattle.std.proofs.Common.{◌≡◌, ◌+◌, ◌*◌, ◌<◌, ◌≤◌, a
 use Rattle.mfotl_model.specs.declared.interval.Interval.{Interval}
 use Rattle.monitorable.specs.CoreForms.{CoreForm, Since, Until}
 use Rattle.monitorable.specs.NodeCount.{nodes}
-use Rattle.monitor_nodes.specs.Operands.{left_operand}
+use Rattle.core_arranging.specs.Windows.{left_operand}
 
 pub since_both_smaller : (h : CoreForm) (i : Interval) (f g : CoreForm) → h ≡ Since i f g
     → 2 * (nodes f + nodes g) < 2 * nodes h

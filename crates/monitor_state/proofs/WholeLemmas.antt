@@ -12,9 +12,10 @@ use Rattle.monitorable.specs.Fragment.{named_variable, needed_by}
 use Rattle.monitorable.specs.declared.fault.FragmentFault.TheVariants.{Unguarded}
 use Rattle.monitorable.specs.declared.role.Role.TheVariants as role
 use Rattle.relations.proofs.JoinLemmas.{member_of_all}
+use Rattle.core_arranging.specs.Windows.{is_window, left_operand}
 use Rattle.monitor_nodes.proofs.FilterSteps.{bound_free}
 use Rattle.monitor_state.specs.Beginnings.{Accepted}
-use Rattle.monitor_nodes.specs.Operands.{adds_none, filters, is_keyed, is_window, left_operand}
+use Rattle.monitor_nodes.specs.Operands.{adds_none, filters, is_keyed}
 
 pub inside_all : (xs ys : List ℕ) → ((y : ℕ) → among y ys ≡ true → among y xs ≡ true) → first_outside xs ys ≡ None
 inside_all xs [] each = refl

@@ -4,8 +4,9 @@ use Rattle.mfotl_model.specs.Exact.{View}
 use Rattle.mfotl_model.specs.Tables.{TableOf}
 use Rattle.mfotl_model.specs.declared.event.TimePoint.{TimePoint}
 use Rattle.monitorable.specs.CoreForms.{CoreForm}
+use Rattle.core_arranging.specs.Arranging.{posed}
 use Rattle.monitor_nodes.specs.Operands.{operands}
-use Rattle.monitor_state.specs.Nodes.{nodes_of, posed}
+use Rattle.monitor_state.specs.Nodes.{nodes_of}
 use Rattle.monitor_state.specs.Stands.{NodesStand}
 use Rattle.monitor_nodes.specs.Steps.{News, Premises, StackNews, longer}
 use Rattle.monitor_nodes.specs.declared.node.Node.{Node}

@@ -19,6 +19,7 @@ use Rattle.monitorable.specs.Renaming.{binders}
 use Rattle.monitorable.specs.SatisfyingRows.{HasViolationsOf}
 use Rattle.relations.specs.Tables.{IsTable}
 use Rattle.monitor_nodes.specs.Steps.{Premises, SameNear}
+use Rattle.monitor_state.specs.Verdicts.{violations_at}
 
 -- whatever lies between a region's slice and the database has the same near events
 abbrev pub SliceIsEnough : Type 0
@@ -43,3 +44,9 @@ TablesAreViolations =
     → HasViolationsOf core policy → IsMonitorable core
     → Exact (whole_view log core) (meaning core) i table → IsTable table.columns table.rows
     → table.rows ≡ viol log policy i
+
+-- the violations that are spoken of are those of each policy that the core negates
+abbrev pub PolicyViolations : Type 0
+PolicyViolations =
+    (core : CoreForm) (policy : Form) (log : List TimePoint) (i : ℕ) → HasViolationsOf core policy
+    → violations_at core log i ≡ viol log policy i

@@ -5,6 +5,7 @@ pub mod Steps
 pub mod Going
 pub mod Beginnings
 pub mod MonitorView
+pub mod Verdicts
 pub mod Laws
 pub mod Recording
 pub mod StateTimes

@@ -1,5 +1,5 @@
 -- When what a monitor keeps stands for a log, in a region of rows.
-use Rattle.std.specs.Prelude.{◌≡◌, ℕ, ◌≤◌, List, [], ◌∷◌, length, drop}
+use Rattle.std.specs.Prelude.{◌≡◌, ℕ, ◌+◌, ◌≤◌, ◌^◌, List, [], ◌∷◌, length, drop}
 use Rattle.mfotl_model.specs.Exact.{View}
 use Rattle.mfotl_model.specs.Log.{times}
 use Rattle.monitorable.specs.CoreForms.{CoreForm}
@@ -31,3 +31,9 @@ pub record Stands (view : View) (core : CoreForm) (state : StateOf) : Type 0 whe
   pub first : state.first ≤ state.given
   pub times : state.times ≡ drop state.first (times view.log)
   pub nodes : NodesStand view (nodes_of core) state.nodes
+
+-- the timestamps of so many positions from the first on are kept
+pub record IsKept (state : StateOf) (first count : ℕ) : Type 0 where
+  pub from : state.first ≤ first
+  pub upto : first + count ≤ state.first + length state.times
+  pub few : first + count ≤ 2 ^ 63

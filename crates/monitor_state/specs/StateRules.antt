@@ -3,6 +3,7 @@
 use Rattle.std.specs.Prelude.{◌≡◌, ◌<◌, true, List, [], ◌∷◌, length, map}
 use Rattle.mfotl_model.specs.FreeVariables.{fv}
 use Rattle.mfotl_model.specs.declared.interval.Interval.{Interval}
+use Rattle.core_arranging.specs.Windows.{left_operand}
 use Rattle.eval_bool.specs.BoolData.{JoinRule, OrRule}
 use Rattle.eval_bool.specs.JoinView.{children_of}
 use Rattle.eval_bool.specs.declared.recalled.JoinData.{JoinData}
@@ -15,7 +16,7 @@ use Rattle.monitorable.specs.CoreForms.{CoreForm, meaning, True, False, Atom, Co
 use Rattle.monitorable.specs.CoreForms.{Next, Since}
 use Rattle.monitorable.specs.CoreForms.{Until}
 use Rattle.relations.specs.Pushed.{AreOver}
-use Rattle.monitor_nodes.specs.Operands.{children, filters, is_negated, left_operand, operands}
+use Rattle.monitor_nodes.specs.Operands.{children, filters, is_negated, operands}
 use Rattle.monitor_state.specs.Nodes.{nodes_of}
 use Rattle.monitor_nodes.specs.Stands.{conjunct_as}
 use Rattle.monitor_state.specs.StateTimes.{KeptTimes, time_before, times_from, times_of}

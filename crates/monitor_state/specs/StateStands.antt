@@ -11,6 +11,7 @@ use Rattle.mfotl_model.specs.Satisfaction.{Valuation, time_at}
 use Rattle.mfotl_model.specs.Tables.{TableOf}
 use Rattle.mfotl_model.specs.declared.interval.Interval.{Interval}
 use Rattle.mfotl_model.specs.declared.value.Value.{Value}
+use Rattle.core_arranging.specs.Windows.{left_operand}
 use Rattle.eval_bool.specs.BoolData.{kept_tables}
 use Rattle.eval_bool.specs.declared.recalled.JoinData.{JoinData}
 use Rattle.eval_bool.specs.declared.recalled.OrData.{OrData}
@@ -28,7 +29,7 @@ use Rattle.eval_until.specs.declared.recalled.NextData.{NextData}
 use Rattle.eval_until.specs.declared.recalled.UntilData.{UntilData}
 use Rattle.monitorable.specs.CoreForms.{CoreForm, meaning, Not, And, Or, Previous, Next, Since, Until}
 use Rattle.relations.specs.KeptRows.{list_for}
-use Rattle.monitor_nodes.specs.Operands.{is_negated, left_operand, operands}
+use Rattle.monitor_nodes.specs.Operands.{is_negated, operands}
 use Rattle.monitor_state.specs.Nodes.{nodes_of}
 use Rattle.monitor_state.specs.StateTimes.{earliest}
 use Rattle.monitor_nodes.specs.Views.{Dates, Tells, reached}

@@ -1,46 +1,24 @@
 //! The node of a conjunction whose right side is asked for the left one's rows.
 ghost use Rattle.std.specs.Prelude.{◌≡◌, ◌&&◌, ◌∷◌, [], cond, IfOk, IsTrue, OnOk};
-ghost use Rattle.std.specs.List.{list_any};
 ghost use Rattle.relations.specs.Operations.{common};
 ghost use Rattle.monitorable.specs.CoreForms.{node_form, meaning, And, Since, Until};
 ghost use Rattle.monitorable.specs.Fragment.{bound_by};
 ghost use Rattle.mfotl_model.specs.FreeVariables.{among, fv};
 ghost use Rattle.mfotl_model.specs.Tables.{all_among};
+ghost use Rattle.core_arranging.specs.Windows.{is_window, left_operand};
 ghost use Rattle.monitor_state.specs.Beginnings.{Accepted, Adds, WindowBegun};
 ghost use Rattle.monitor_nodes.specs.FilterNode.{GivenAs};
-ghost use Rattle.monitor_nodes.specs.Operands.{adds_none, filters, is_keyed, is_window, left_operand};
+ghost use Rattle.monitor_nodes.specs.Operands.{adds_none, filters, is_keyed};
 
 use crate::adding::add;
 use crate::begin_until::until_state;
 use crate::operators::{is_negated, since_state, without_rows};
+use core_arranging::{is_window, some_among, without_not};
 use mfotl_model::{Interval, is_among};
 use monitor_nodes::{FilterState, Node, Tables, Window};
 use monitorable::{Node as Core, Role, bound_by};
 use relations::{Columns, Table, all_among, common};
 use std::alloc::{AllocError, Global};
-
-/// A window that is asked for rows, without its NOT.
-pub fn without_not(core: &Core) -> &Core
-    ensures window { is_window (node_form result.now) ≡ is_window (left_operand (node_form core.now)) }
-    ensures operand { IsTrue (is_window (left_operand (node_form core.now)))
-        → node_form result.now ≡ left_operand (node_form core.now) }
-{
-    match core {
-        Core::Not(inner) => inner,
-        _ => core,
-    }
-}
-
-/// Whether a core is a window.
-pub fn is_window(core: &Core) -> bool
-    ensures { result ≡ is_window (node_form core.now) }
-{
-    match core {
-        Core::Since(_, _, _) => true,
-        Core::Until(_, _, _) => true,
-        _ => false,
-    }
-}
 
 /// Whether a conjunction that is its own has a right side that is asked for the left one's rows.
 pub fn is_filtered(alloc: Global, own: bool, left: &Core, right: &Core) -> Result<bool, AllocError>
@@ -94,13 +72,6 @@ fn binds(alloc: Global, core: &Core, x: u32) -> Result<bool, AllocError>
         Core::And(left, right) => Ok(binds(alloc, right, x)? || binds(alloc, left, x)?),
         _ => Ok(is_among(x, bound_by(alloc, core)?.as_slice())),
     }
-}
-
-/// Whether one of the wanted is among the columns.
-pub fn some_among(wanted: &[u32], columns: &[u32]) -> bool
-    ensures { result ≡ list_any (λ x. among x columns.now) wanted.now }
-{
-    wanted.iter().any(|x| is_among(*x, columns))
 }
 
 // Nothing where the right side only filters; else a table with the columns of both in their order.

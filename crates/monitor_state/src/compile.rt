@@ -6,12 +6,12 @@ ghost use Rattle.monitor_state.specs.Beginnings.{Accepted, Adds};
 ghost use Rattle.monitor_state.specs.Nodes.{nodes_in, nodes_of, without_last};
 
 use crate::adding::add;
-use crate::begin_filter::{add_filter, is_filtered, without_not};
+use crate::begin_filter::{add_filter, is_filtered};
 use crate::begin_until::add_until;
 use crate::conjunction::add_join;
 use crate::constant::{add_comparison, add_false, add_true};
 use crate::operators::{add_next, add_or, add_previous, add_since};
-use crate::posing::posed;
+use core_arranging::{posed, without_not};
 use eval_bool::AtomReader;
 use mfotl_model::{Atom as OneAtom, Bound, Interval};
 use monitor_nodes::Node;

@@ -1,8 +1,7 @@
 //! The node of a conjunction.
-ghost use Rattle.std.specs.Prelude.{◌≡◌, ◌++◌, ◌∷◌, [], cond, map, true, IfOk, IsTrue, OnOk};
+ghost use Rattle.std.specs.Prelude.{◌≡◌, map, true, IfOk, IsTrue, OnOk};
 ghost use Rattle.std.specs.List.{list_any};
 ghost use Rattle.eval_bool.specs.JoinView.{children_of, conjunct_of, is_guarded, join_begun, tests_of};
-ghost use Rattle.monitorable.specs.Conjuncts.{conjuncts_of};
 ghost use Rattle.monitorable.specs.CoreForms.{node_form};
 ghost use Rattle.monitorable.specs.PartView.{part_form};
 ghost use Rattle.monitor_state.specs.Beginnings.{AddsIf, BeginsNode, GuardedIf, IsJoined, WholeIf, is_child};

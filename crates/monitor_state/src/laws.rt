@@ -1,5 +1,5 @@
 //! Laws of a monitor's steps and of its state, each stated by the contract of a function that does nothing.
-ghost use Rattle.monitor_state.specs.Laws.{LoneWorkerSteps, SliceIsEnough, TablesAreViolations};
+ghost use Rattle.monitor_state.specs.Laws.{LoneWorkerSteps, PolicyViolations, SliceIsEnough, TablesAreViolations};
 ghost use Rattle.monitor_state.specs.StateLaws.{PartStands};
 
 /// A worker needs no more of a time-point than its region's slice.
@@ -20,4 +20,9 @@ pub fn tables_are_violations()
 /// A state that stands for a log in a region stands for it in each part of that region.
 pub fn part_stands()
     ensures { PartStands }
+{}
+
+/// The violations that verdicts speak of are the policy's.
+pub fn policy_violations()
+    ensures { PolicyViolations }
 {}

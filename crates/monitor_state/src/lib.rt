@@ -3,11 +3,8 @@
 #![tactic(auto)]
 
 mod adding;
-mod arranging;
 mod begin_filter;
 mod begin_until;
-mod boxes;
-mod chains;
 mod compile;
 mod conjunction;
 mod constant;
@@ -15,7 +12,6 @@ mod kept_times;
 pub mod laws;
 mod monitor;
 mod operators;
-mod posing;
 mod recording;
 mod resume_nodes;
 mod resume_windows;

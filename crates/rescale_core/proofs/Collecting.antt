@@ -1,9 +1,11 @@
 -- What holds of worlds still does where outs are collected.
-use Rattle.std.proofs.Common.{◌≡◌, ◌≢◌, ℕ, ◌+◌, ◌-◌, ◌<◌, ◌≤◌, Bool, true, false, nat_eq, Option, List, [], ◌++◌}
+use Rattle.std.proofs.Common.{◌≡◌, ◌≢◌, ℕ, ◌-◌, ◌<◌, ◌≤◌, Bool, true, false, nat_eq, Option, List, [], ◌++◌}
 use Rattle.std.proofs.Common.{length, filter, map, take, drop, sym, ap, ◌∙◌, subst, append-nil, arith, eq-eqb, take-add}
 use Rattle.std.proofs.Common.{take-append-drop}
 use Rattle.std.proofs.{lemmas.List.Elements.filter-append, Math.Seq.drop-append_seam, Permutation.every_append}
 use Rattle.std.proofs.{lemmas.Grind.common_steps}
+use Rattle.monitor_state.specs.{Verdicts.settled_in}
+use Rattle.monitor_state.specs.declared.state.Piece.{Piece}
 use Rattle.rescale_core.proofs.{Fitting.every_map, Fitting.every_filter, SeatLemmas.at_seat}
 use Rattle.rescale_core.proofs.Pieces.{all_pass, answers_came, answers_cut, answers_lone, Came, changes_apart}
 use Rattle.rescale_core.proofs.Pieces.{distinct_lone, every_behind, every_front, last_more, last_rises, none_pass}
@@ -13,13 +15,12 @@ use Rattle.rescale_core.proofs.Rowing.{last_level_more, line_ascends, line_slice
 use Rattle.rescale_core.proofs.WorldLemmas.{supplies_pieces, AreChanges, Rises, line_rises, line_changes}
 use Rattle.rescale_core.specs.Lines.{ChangeOfStrategy, Due, first_spot}
 use Rattle.rescale_core.specs.Soundly.{change_of, last_part, last_level, IsSeated, IsSound}
-use Rattle.rescale_core.specs.{Phases.Answers, Workers.settled_in, Handing.for_place, Worlds.Step.Collect}
+use Rattle.rescale_core.specs.{Phases.Answers, Handing.for_place, Worlds.Step.Collect}
 use Rattle.rescale_core.specs.Worlds.{pieces_in, World, Seat, line_in, set_seat, all_collected, world_after, slice_at}
 use Rattle.rescale_core.specs.Worlds.{rows_in}
 use Rattle.std.specs.List.{AllByRecursion}
 use Rattle.mfotl_model.specs.Numbers.{Apart}
 use Rattle.verdict_merge.specs.Gathers.{rows_at}
-use Rattle.monitor_state.specs.declared.state.Piece.{Piece}
 use Rattle.rescale_core.specs.declared.item.Out.{Out}
 use Rattle.verdict_merge.specs.declared.rows.Rows.{Rows}
 

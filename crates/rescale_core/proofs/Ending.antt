@@ -7,11 +7,13 @@ use Rattle.mfotl_model.proofs.{NumberLemmas.at_most, LogicLemmas.filtered_found}
 use Rattle.mfotl_model.specs.Strategies.{workers_of}
 use Rattle.verdict_merge.specs.Gathers.{rows_at}
 use Rattle.verdict_merge.specs.declared.rows.Rows.{Rows}
+use Rattle.monitor_state.proofs.{LogLemmas.settled_within}
+use Rattle.monitor_state.specs.{Verdicts.settled_in}
 use Rattle.rescale_core.proofs.Emitting.{DueRow, below_of, due_all}
-use Rattle.rescale_core.proofs.{Fitting.every_map, LogLemmas.settled_within, Progress.all_handed}
+use Rattle.rescale_core.proofs.{Fitting.every_map, Progress.all_handed}
 use Rattle.rescale_core.proofs.Given.{given_there, is_of, on_line, settling, worker_there}
 use Rattle.rescale_core.specs.{Cells.Enabled, Cells.IsMachineOf, Laws.EmitsVerdicts, Routing.HasEnded, Lines.first_spot}
-use Rattle.rescale_core.specs.{Soundly.IsSound, Phases.Answers, Workers.settled_in, Handing.chance}
+use Rattle.rescale_core.specs.{Soundly.IsSound, Phases.Answers, Handing.chance}
 use Rattle.rescale_core.specs.Worlds.{World, IsGathered, line_in, spot_in}
 use Rattle.rescale_core.specs.declared.{step.Step.Step as MachineStep, item.Entry.Entry, machine.Machine.Machine}
 use Rattle.rescale_core.specs.declared.step.Step.TheVariants as step

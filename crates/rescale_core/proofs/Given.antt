@@ -9,9 +9,10 @@ use Rattle.mfotl_model.specs.declared.event.TimePoint.{TimePoint}
 use Rattle.monitorable.specs.CoreForms.{CoreForm}
 use Rattle.verdict_merge.specs.Gathers.{rows_at}
 use Rattle.verdict_merge.specs.declared.rows.Rows.{Rows}
+use Rattle.monitor_state.specs.{Verdicts.settled_in}
 use Rattle.rescale_core.proofs.{Chains.taken_if, Rowing.rows_more, Rowing.rows_of_slice}
 use Rattle.rescale_core.specs.Lines.{Due, Spot, dues, line, moved, spot_after}
-use Rattle.rescale_core.specs.{Lines.Due.Slicing, Phases.Answers, Phases.row_for, Workers.newly, Workers.settled_in}
+use Rattle.rescale_core.specs.{Lines.Due.Slicing, Phases.Answers, Phases.row_for, Workers.newly}
 use Rattle.rescale_core.specs.{Worlds.rows_in, Worlds.slice_at}
 use Rattle.rescale_core.specs.declared.{item.Entry.Entry, item.Entry.TheVariants.Point, item.Entry.TheVariants.Change}
 use Rattle.rescale_core.specs.declared.{item.Out.Out}

@@ -1,4 +1,3 @@
-pub mod LogLemmas
 pub mod OwnedLemmas
 pub mod Chains
 pub mod WorldLemmas

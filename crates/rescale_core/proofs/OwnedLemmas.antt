@@ -19,7 +19,8 @@ use Rattle.monitorable.specs.SatisfyingRows.{core_domain, satisfies, satisfying_
 use Rattle.relations.specs.Tables.{IsTable}
 use Rattle.slice_strategy.specs.{SlicerLemmas.near_is_owner, SlicerLemmas.owner_below, Slicers.full_row}
 use Rattle.monitor_state.specs.Pieces.{view_of}
-use Rattle.rescale_core.specs.Workers.{IsFor, owned_by, owner, violations_at}
+use Rattle.monitor_state.specs.Verdicts.{violations_at}
+use Rattle.rescale_core.specs.Workers.{IsFor, owned_by, owner}
 
 -- whether a row is among those that pass
 pub has_passing : (p : List Value → Bool) (rows : List (List Value)) (row : List Value)

@@ -3,10 +3,11 @@ use Rattle.std.proofs.Common.{◌≡◌, ◌⊎◌, ℕ, zero, suc, ◌<◌, ◌
 use Rattle.std.proofs.Common.{refl, ◌∙◌, subst, ⊎_elim, arith, length-append}
 use Rattle.std.proofs.lemmas.Bool.Decides.{nat_tests}
 use Rattle.mfotl_model.specs.{Log.times, Strategies.Strategy}
-use Rattle.rescale_core.proofs.LogLemmas.{settled_more, settled_within, viol_final}
+use Rattle.monitor_state.proofs.LogLemmas.{settled_more, settled_within, viol_final}
+use Rattle.monitor_state.specs.{Verdicts.violations_at, Verdicts.settled_in}
 use Rattle.rescale_core.specs.Lines.{Spot, Due, moved, spot_after, AreSound}
 use Rattle.monitorable.specs.{Fragment.IsMonitorable, CoreForms.CoreForm}
-use Rattle.rescale_core.specs.{Workers.violations_at, Workers.settled_in, Worlds.slice_at, Lines.Due.Slicing}
+use Rattle.rescale_core.specs.{Worlds.slice_at, Lines.Due.Slicing}
 use Rattle.mfotl_model.specs.declared.event.TimePoint.{TimePoint}
 use Rattle.rescale_core.specs.declared.{item.Entry.Entry, item.Entry.TheVariants.Point, item.Entry.TheVariants.Change}
 

@@ -16,11 +16,14 @@ use Rattle.monitor_state.specs.{Pieces.view_of}
 use Rattle.monitor_nodes.specs.Steps.{Premises, longer}
 use Rattle.monitor_state.specs.Steps.{Steps as StepsOn}
 use Rattle.monitor_state.specs.declared.monitor.Monitor.{Monitor}
-use Rattle.rescale_core.proofs.{LogLemmas.settled_within, OwnedLemmas.owned_same}
+use Rattle.monitor_state.proofs.{LogLemmas.settled_within}
+use Rattle.monitor_state.specs.Stands.{IsKept}
+use Rattle.monitor_state.specs.Verdicts.{MayFollow, settled_in}
+use Rattle.rescale_core.proofs.{OwnedLemmas.owned_same}
 use Rattle.rescale_core.specs.{Lines.Due, Lines.Due.Slicing, Monitors.IsMonitor, Phases.PhaseOf.Active}
-use Rattle.rescale_core.specs.Settlings.{HasWidth, IsKept, IsTabled, all_settled, row_out}
+use Rattle.rescale_core.specs.Settlings.{HasWidth, IsTabled, all_settled, row_out}
 use Rattle.rescale_core.specs.Phases.{PhaseOf, FitsPhase, AnswersOne, Meets, rows_for, phase_after}
-use Rattle.rescale_core.specs.Workers.{IsFor, MayFollow, settled_in, slice_for}
+use Rattle.rescale_core.specs.Workers.{IsFor, slice_for}
 use Rattle.rescale_core.specs.Working.{CanTake, IsAt, TakesItem, first_phase}
 use Rattle.rescale_core.specs.declared.{phase.Phase.Phase, worker.Worker.Worker, item.Item.TheVariants.Slice}
 use Rattle.rescale_core.specs.declared.{item.Out.Out, settled.Settled.Settled}

@@ -3,13 +3,15 @@ use Rattle.std.proofs.Common.{◌≡◌, ℕ, zero, suc, ◌+◌, ◌<◌, ◌�
 use Rattle.std.proofs.Common.{arith, length-append}
 use Rattle.std.specs.List.{range_with_len}
 use Rattle.std.proofs.lemmas.List.FromFn.{map-range_with_len_more}
-use Rattle.rescale_core.proofs.{LogLemmas.settled_within, Soundness.step_sound, WorldLemmas.spot_more}
+use Rattle.monitor_state.proofs.{LogLemmas.settled_within}
+use Rattle.monitor_state.specs.{Verdicts.violations_at, Verdicts.settled_in}
+use Rattle.monitor_state.specs.Verdicts.{verdict_on}
+use Rattle.rescale_core.proofs.{Soundness.step_sound, WorldLemmas.spot_more}
 use Rattle.rescale_core.proofs.Settling.{level_rises, viol_stays, time_stays, slice_below}
 use Rattle.rescale_core.specs.{Lines.first_spot, Lines.moved, Soundly.IsSound, Laws.EmitsVerdicts}
-use Rattle.rescale_core.specs.{Workers.violations_at, Workers.settled_in}
 use Rattle.mfotl_model.specs.Strategies.{Strategy}
 use Rattle.monitorable.specs.CoreForms.{CoreForm}
-use Rattle.rescale_core.specs.Worlds.{World, first_world, Step, spot_in, verdict_on, Allowed, AreAllowed, world_after}
+use Rattle.rescale_core.specs.Worlds.{World, first_world, Step, spot_in, Allowed, AreAllowed, world_after}
 use Rattle.rescale_core.specs.Worlds.{run_steps}
 use Rattle.rescale_core.specs.declared.item.Entry.{Entry}
 use Rattle.rescale_core.specs.Worlds.Step.{Read, Feed, Take, Collect, Emit}

@@ -5,6 +5,7 @@ use lib.ListN.{get_elem?}
 use Rattle.std.specs.List.{range_with_len}
 use Rattle.mfotl_model.specs.Strategies.{Strategy, workers_of}
 use Rattle.monitorable.specs.CoreForms.{CoreForm}
+use Rattle.monitor_state.specs.Verdicts.{settled_in, verdict_on, violations_at}
 use Rattle.turn_hub.specs.Ends.{Starts, main_view}
 use Rattle.turn_hub.specs.Steps.{started}
 use Rattle.turn_hub.specs.declared.hub.Main.{Main}
@@ -16,10 +17,10 @@ use Rattle.rescale_core.specs.Moving.{IsDriverOf, IsOpened, StepKind, Reaches, T
 use Rattle.rescale_core.specs.Routing.{HasEnded}
 use Rattle.rescale_core.specs.Soundly.{IsSound}
 use Rattle.rescale_core.specs.Waiting.{waiting_in}
-use Rattle.rescale_core.specs.Workers.{owner, settled_in, violations_at}
+use Rattle.rescale_core.specs.Workers.{owner}
 use Rattle.rescale_core.specs.Working.{StandsFor, seed_of}
 use Rattle.rescale_core.specs.Works.{StandsBy, begun}
-use Rattle.rescale_core.specs.Worlds.{World, IsGathered, spot_in, verdict_on}
+use Rattle.rescale_core.specs.Worlds.{World, IsGathered, spot_in}
 use Rattle.rescale_core.specs.declared.driver.Driver.{Driver}
 use Rattle.rescale_core.specs.declared.driver.Turn.{Turn}
 use Rattle.rescale_core.specs.declared.item.Entry.{Entry}

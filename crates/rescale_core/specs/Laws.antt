@@ -1,16 +1,13 @@
 -- Laws of worlds.
 use Rattle.std.specs.Prelude.{◌≡◌, ◌≤◌, ℕ, List, length, map, take}
 use Rattle.std.specs.List.{range_with_len}
-use Rattle.mfotl_model.specs.Formulas.{Form}
 use Rattle.mfotl_model.specs.Strategies.{Strategy}
-use Rattle.mfotl_model.specs.Violations.{viol}
-use Rattle.mfotl_model.specs.declared.event.TimePoint.{TimePoint}
 use Rattle.monitorable.specs.CoreForms.{CoreForm}
-use Rattle.monitorable.specs.SatisfyingRows.{HasViolationsOf}
-use Rattle.rescale_core.specs.Workers.{IsFor, settled_in, violations_at}
+use Rattle.monitor_state.specs.Verdicts.{settled_in, verdict_on}
+use Rattle.rescale_core.specs.Workers.{IsFor}
 use Rattle.rescale_core.specs.Phases.{Answers}
 use Rattle.rescale_core.specs.Working.{Has}
-use Rattle.rescale_core.specs.Worlds.{World, Step, first_world, run_steps, AreAllowed, line_in, spot_in, verdict_on}
+use Rattle.rescale_core.specs.Worlds.{World, Step, first_world, run_steps, AreAllowed, line_in, spot_in}
 
 -- what worker k was handed fits, and what it gave answers what it took
 abbrev pub FitsAndAnswers : World → ℕ → Type 0
@@ -29,9 +26,3 @@ ReachedWorlds =
     (core : CoreForm) (s : Strategy) (steps : List Step) → IsFor core s → AreAllowed (first_world core s) steps
     → ((k : ℕ) → FitsAndAnswers (run_steps (first_world core s) steps) k)
     × EmitsVerdicts (run_steps (first_world core s) steps)
-
--- the violations that are spoken of are those of each policy that the core negates
-abbrev pub PolicyViolations : Type 0
-PolicyViolations =
-    (core : CoreForm) (policy : Form) (log : List TimePoint) (i : ℕ) → HasViolationsOf core policy
-    → violations_at core log i ≡ viol log policy i

@@ -7,11 +7,12 @@ use Rattle.mfotl_model.specs.Strategies.{Strategy, workers_of}
 use Rattle.mfotl_model.specs.declared.event.TimePoint.{TimePoint}
 use Rattle.monitorable.specs.CoreForms.{CoreForm}
 use Rattle.verdict_merge.specs.declared.rows.Rows.{Rows}
-use Rattle.rescale_core.specs.Workers.{IsFor, MayFollow, newly, owned_by, slice_for, violations_at}
+use Rattle.monitor_state.specs.Verdicts.{MayFollow, violations_at}
 use Rattle.monitor_state.specs.Pieces.{PieceStands}
+use Rattle.monitor_state.specs.declared.state.Piece.{Piece}
+use Rattle.rescale_core.specs.Workers.{IsFor, newly, owned_by, slice_for}
 use Rattle.rescale_core.specs.Lines.{ChangeOfStrategy, Due}
 use Rattle.rescale_core.specs.Lines.Due.{Slicing, Parting, Hole}
-use Rattle.monitor_state.specs.declared.state.Piece.{Piece}
 use Rattle.rescale_core.specs.declared.item.Item.{Item}
 use Rattle.rescale_core.specs.declared.item.Item.TheVariants.{Slice, Part, Adopt}
 use Rattle.rescale_core.specs.declared.item.Out.{Out}

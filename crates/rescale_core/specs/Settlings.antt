@@ -1,5 +1,5 @@
 -- The tables of newly settled positions, and what a worker says of them.
-use Rattle.std.specs.Prelude.{◌≡◌, ℕ, ◌+◌, ◌-◌, ◌≤◌, ◌^◌, List, [], ◌∷◌, length, slice_index}
+use Rattle.std.specs.Prelude.{◌≡◌, ℕ, ◌+◌, ◌-◌, List, [], ◌∷◌, length, slice_index}
 use Rattle.mfotl_model.specs.Strategies.{Strategy}
 use Rattle.mfotl_model.specs.Tables.{TableOf}
 use Rattle.monitor_state.specs.Stands.{StateOf}
@@ -8,12 +8,6 @@ use Rattle.rescale_core.specs.Workers.{owned_by}
 use Rattle.rescale_core.specs.declared.item.Out.{Out}
 use Rattle.rescale_core.specs.declared.item.Out.TheVariants.{Rows as OfRows}
 use Rattle.rescale_core.specs.declared.settled.Settled.{Settled}
-
--- the timestamps of so many positions from the first on are kept
-pub record IsKept (state : StateOf) (first count : ℕ) : Type 0 where
-  pub from : state.first ≤ first
-  pub upto : first + count ≤ state.first + length state.times
-  pub few : first + count ≤ 2 ^ 63
 
 -- the tables with their positions, from i on, and their timestamps
 abbrev pub all_settled : StateOf → ℕ → List TableOf → List Settled

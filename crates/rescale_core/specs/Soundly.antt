@@ -8,13 +8,14 @@ use Rattle.mfotl_model.specs.declared.event.TimePoint.{TimePoint}
 use Rattle.monitorable.specs.CoreForms.{CoreForm}
 use Rattle.verdict_merge.specs.Gathers.{rows_at}
 use Rattle.verdict_merge.specs.declared.rows.Rows.{Rows}
-use Rattle.rescale_core.specs.Workers.{IsFor, settled_in}
+use Rattle.monitor_state.specs.Verdicts.{settled_in}
+use Rattle.monitor_state.specs.declared.state.Piece.{Piece}
+use Rattle.rescale_core.specs.Workers.{IsFor}
 use Rattle.rescale_core.specs.Lines.{ChangeOfStrategy, Spot, Due, change_at, moved, first_spot, AreSound}
 use Rattle.rescale_core.specs.Lines.Due.{Slicing, Parting, Hole}
 use Rattle.rescale_core.specs.Phases.{IsPieceFor, Answers, row_for}
 use Rattle.rescale_core.specs.Handing.{for_place, item_of}
 use Rattle.rescale_core.specs.Worlds.{World, Seat, line_in, pieces_in, rows_in, slice_at}
-use Rattle.monitor_state.specs.declared.state.Piece.{Piece}
 use Rattle.rescale_core.specs.declared.item.Entry.{Entry}
 use Rattle.rescale_core.specs.declared.item.Entry.TheVariants.{Point, Change}
 use Rattle.rescale_core.specs.declared.item.Item.{Item}

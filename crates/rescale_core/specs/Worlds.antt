@@ -1,21 +1,19 @@
 -- All that happened: what was read, handed over, taken, given, collected and emitted.
 use Rattle.std.specs.Prelude.{◌≡◌, ℕ, ◌+◌, ◌<◌, ◌≤◌, cond, nat_eq, Option, Some, None}
 use Rattle.std.specs.Prelude.{List, [], ◌∷◌, ◌++◌, length, map, take, drop}
-use Rattle.mfotl_model.specs.Log.{times}
-use Rattle.mfotl_model.specs.Satisfaction.{time_at}
 use Rattle.mfotl_model.specs.Strategies.{Strategy, workers_of}
 use Rattle.mfotl_model.specs.declared.event.TimePoint.{TimePoint}
 use Rattle.monitorable.specs.CoreForms.{CoreForm}
 use Rattle.verdict_merge.specs.Gathers.{rows_at}
 use Rattle.verdict_merge.specs.declared.rows.Rows.{Rows}
 use Rattle.verdict_merge.specs.declared.rows.Verdict.{Verdict}
-use Rattle.rescale_core.specs.Workers.{settled_in, violations_at}
+use Rattle.monitor_state.specs.Verdicts.{settled_in, verdict_on}
+use Rattle.monitor_state.specs.declared.state.Piece.{Piece}
 use Rattle.rescale_core.specs.Lines.{Spot, Due, moved, spot_after, first_spot, line, MayRead}
 use Rattle.rescale_core.specs.Lines.Due.{Slicing}
 use Rattle.rescale_core.specs.Phases.{Answers}
 use Rattle.rescale_core.specs.Chances.{Chance, Standing}
 use Rattle.rescale_core.specs.Handing.{chance, ready_items, standing}
-use Rattle.monitor_state.specs.declared.state.Piece.{Piece}
 use Rattle.rescale_core.specs.declared.item.Entry.{Entry}
 use Rattle.rescale_core.specs.declared.item.Entry.TheVariants.{Point, Change}
 use Rattle.rescale_core.specs.declared.item.Item.{Item}
@@ -140,10 +138,6 @@ world_after w (Collect k) =
       rows = w.rows ++ rows_in (not_back (w.seats k));
     }
 world_after w (Emit v) = record w { emitted = w.emitted ++ v ∷ [] }
-
--- the verdict on a position
-abbrev pub verdict_on : CoreForm → List TimePoint → ℕ → Verdict
-verdict_on core log i = record { point = i; ts = time_at (times log) i; rows = violations_at core log i }
 
 -- all workers of the generation with whose time-point the position is settled gave their Rows for it, and these
 -- were collected

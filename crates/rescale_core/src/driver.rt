@@ -1,13 +1,14 @@
 //! Main's part: it reads, hands over, collects and emits.
-ghost use Rattle.std.specs.Prelude.{◌≡◌, ◌∷◌, [], ◌<◌, ℕ, true, IfOk, IfSome, IfNone, length};
+ghost use Rattle.std.specs.Prelude.{◌≡◌, ◌∷◌, [], ◌<◌, true, IfOk, IfSome, IfNone, length};
 ghost use Rattle.mfotl_model.specs.Strategies.{Strategy as OneStrategy};
 ghost use Rattle.monitorable.specs.CoreForms.{CoreForm};
+ghost use Rattle.monitor_state.specs.Verdicts.{MayFollow};
 ghost use Rattle.turn_hub.specs.Ends.{AllMine, IsMainOf, cell_count, main_view};
 ghost use Rattle.rescale_core.specs.Moving.{HandsOver, HasTurn, IsDriverOf, IsOpened};
 ghost use Rattle.rescale_core.specs.Moving.{Reaches, TakesBack, TurnsTo};
 ghost use Rattle.rescale_core.specs.Moving.StepKind.{Reads};
 ghost use Rattle.rescale_core.specs.Routing.{HasEnded, IsRouterOf};
-ghost use Rattle.rescale_core.specs.Workers.{IsFor, MayFollow};
+ghost use Rattle.rescale_core.specs.Workers.{IsFor};
 ghost use Rattle.rescale_core.specs.Worlds.{World, Allowed, IsGathered, world_after, first_world, spot_in};
 ghost use Rattle.rescale_core.specs.Worlds.Step.{Emit};
 ghost use Rattle.rescale_core.specs.declared.item.Entry.TheVariants.{Change, Point};

@@ -1,7 +1,7 @@
 //! Laws of worlds, as theorems on the definitions. Each call does nothing: its clause is the law.
 ghost use Rattle.rescale_core.specs.Ends.{DriverCore, DriverEnds, DriverWorlds, MachineEnds, MachineWorlds};
 ghost use Rattle.rescale_core.specs.Ends.{OpenedWorkers, RowsPartition, TurnKeeps};
-ghost use Rattle.rescale_core.specs.Laws.{PolicyViolations, ReachedWorlds};
+ghost use Rattle.rescale_core.specs.Laws.{ReachedWorlds};
 ghost use Rattle.rescale_core.specs.Waiting.{WaitsFor};
 
 /// In each world that steps reach from the first one, what each worker was handed fits, what it gave answers that,
@@ -53,9 +53,4 @@ pub fn driver_ends()
 /// What the workers say of a position is by owner a partition of its violations.
 pub fn rows_partition()
     ensures { RowsPartition }
-{}
-
-/// The violations of which worlds speak are the policy's.
-pub fn policy_violations()
-    ensures { PolicyViolations }
 {}

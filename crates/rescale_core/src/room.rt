@@ -1,6 +1,6 @@
 //! How much waits for the workers, and whether there is room for more. A queue's slices and parts count one each, and
 //! so does a place for pieces, until the last of them was handed over.
-ghost use Rattle.std.specs.Prelude.{◌≡◌, true, ℕ};
+ghost use Rattle.std.specs.Prelude.{◌≡◌, true};
 ghost use Rattle.rescale_core.specs.Moving.{IsDriverOf};
 ghost use Rattle.rescale_core.specs.Routing.{IsRouterOf};
 ghost use Rattle.rescale_core.specs.Waiting.{HasRoom, waiting_in};

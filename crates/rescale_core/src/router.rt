@@ -1,8 +1,9 @@
 //! The router: what is read is queued for each worker, until it is handed over.
-ghost use Rattle.std.specs.Prelude.{◌≡◌, ◌++◌, ◌∷◌, ◌+◌, [], ◌<◌, ◌≤◌, IfOk, IfSome, IfNone, length, take, true, ℕ};
+ghost use Rattle.std.specs.Prelude.{◌≡◌, ◌++◌, ◌∷◌, [], ◌<◌, ◌≤◌, IfOk, IfSome, IfNone, length, take, true, ℕ};
+ghost use Rattle.monitor_state.specs.Verdicts.{MayFollow};
 ghost use Rattle.rescale_core.specs.Queues.{all_put, queue_at};
 ghost use Rattle.rescale_core.specs.Routing.{HasEnded, HasTaken, IsRouterOf, MayAdd, TakesFront, feeds};
-ghost use Rattle.rescale_core.specs.Workers.{IsFor, MayFollow};
+ghost use Rattle.rescale_core.specs.Workers.{IsFor};
 ghost use Rattle.rescale_core.specs.Worlds.{World, Allowed, AreAllowed, IsGathered, world_after, run_steps, spot_in};
 ghost use Rattle.rescale_core.specs.Worlds.{pieces_in, ready_in, rows_in};
 ghost use Rattle.rescale_core.specs.Worlds.Step.{Read, Collect, Emit};

@@ -4,7 +4,8 @@ ghost use Rattle.std.specs.List.{AllByRecursion};
 ghost use Rattle.mfotl_model.specs.Tables.{all_sized};
 ghost use Rattle.monitor_state.specs.MonitorView.{monitor_of};
 ghost use Rattle.relations.specs.Tables.{IsTable};
-ghost use Rattle.rescale_core.specs.Settlings.{HasWidth, IsKept, IsTabled, all_settled, row_out};
+ghost use Rattle.monitor_state.specs.Stands.{IsKept};
+ghost use Rattle.rescale_core.specs.Settlings.{HasWidth, IsTabled, all_settled, row_out};
 ghost use Rattle.rescale_core.specs.Workers.{owned_by, owner};
 
 use crate::item::Out;

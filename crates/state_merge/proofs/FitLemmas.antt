@@ -5,6 +5,7 @@ use Rattle.std.specs.List.{AllByRecursion}
 use Rattle.mfotl_model.specs.{Exact.AllExact, Exact.View, Formulas.Form, Tables.TableOf}
 use Rattle.mfotl_model.specs.Regions.{Region, in_both, near_of}
 use Rattle.mfotl_model.specs.declared.{interval.Interval.Interval, value.Value.Value}
+use Rattle.core_arranging.specs.Windows.{left_operand}
 use Rattle.eval_bool.specs.BoolData.{kept_tables}
 use Rattle.eval_bool.specs.declared.recalled.JoinData.{JoinData}
 use Rattle.eval_since.proofs.RestoredLemmas.{each_ascends as times_rise}
@@ -14,7 +15,7 @@ use Rattle.monitorable.specs.CoreForms.{CoreForm, meaning, Not, And, Or, Previou
 use Rattle.relations.proofs.KeptLemmas.{each_kept}
 use Rattle.monitor_state.proofs.{SizeLemmas.since_both_smaller, SizeLemmas.until_both_smaller, MarkLemmas.entries_are}
 use Rattle.monitor_state.proofs.{MonitorSteps.children_append}
-use Rattle.monitor_nodes.specs.Operands.{children, filters, left_operand, operands, window_operands}
+use Rattle.monitor_nodes.specs.Operands.{children, filters, operands, window_operands}
 use Rattle.monitor_state.specs.Nodes.{nodes_of}
 use Rattle.monitor_state.specs.Pieces.{PieceStands, near_some, view_of}
 use Rattle.monitor_state.specs.StateLaws.{seen_in}

@@ -2,11 +2,12 @@
 use Rattle.std.proofs.Common.{◌≡◌, ℕ, ◌+◌, ◌-◌, ◌||◌, List, [], ◌∷◌, map, refl, sym, ap, ◌∙◌, arith}
 use Rattle.std.specs.{List.AllByRecursion, Prelude.min}
 use Rattle.mfotl_model.specs.{Exact.View, Regions.Region, Satisfaction.Valuation}
+use Rattle.core_arranging.specs.{Windows.left_operand}
 use Rattle.eval_bool.specs.{BoolData.kept_tables, JoinView.children_of}
 use Rattle.eval_bool.specs.declared.recalled.JoinData.{JoinData}
 use Rattle.monitorable.specs.Conjuncts.{conjuncts_of}
 use Rattle.monitorable.specs.CoreForms.{CoreForm, meaning, Not, And, Or, Previous, Next, Since, Until}
-use Rattle.monitor_nodes.specs.{Operands.left_operand, Operands.operands, Stands.conjunct_as}
+use Rattle.monitor_nodes.specs.{Operands.operands, Stands.conjunct_as}
 use Rattle.monitor_state.specs.{StateLaws.seen_in}
 use Rattle.monitor_state.specs.StateInside.{NodeInside, TablesInside, WindowInside}
 use Rattle.monitor_state.specs.StateRules.{JoinKeeps, NodeKeeps, NodesKeep, WindowKeeps}

@@ -5,6 +5,7 @@ use Rattle.std.specs.List.{AllByRecursion}
 use Rattle.mfotl_model.proofs.LogicLemmas.{same_number}
 use Rattle.mfotl_model.specs.{FreeVariables.fv, Tables.all_sized}
 use Rattle.mfotl_model.specs.declared.value.Value.{Value}
+use Rattle.core_arranging.specs.{Windows.left_operand}
 use Rattle.row_times.specs.KeptTimes.{times_kept}
 use Rattle.row_times.specs.declared.kept_row.KeptRow.{KeptRow}
 use Rattle.eval_until.specs.{Keeping.Sized, Recalled.entries_kept, Recalled.starts_kept}
@@ -12,7 +13,6 @@ use Rattle.eval_until.specs.declared.{entries.Entry.Entry, recalled.KeptMarks.Ke
 use Rattle.monitorable.specs.CoreForms.{CoreForm, meaning, And, Since, Until}
 use Rattle.relations.proofs.KeptLemmas.{each_kept, found_kept}
 use Rattle.relations.specs.KeptRows.{RowsAscend}
-use Rattle.monitor_nodes.specs.{Operands.left_operand}
 use Rattle.monitor_state.specs.{StateStands.marks_kept, StateTimes.KeptTimes, StateTimes.times_from}
 use Rattle.monitor_state.specs.StateRules.{NodeKeeps, NodesKeep, WindowKeeps}
 use Rattle.monitor_state.specs.declared.{state.NodeData.NodeData, state.WindowData.WindowData}

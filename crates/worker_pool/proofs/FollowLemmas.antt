@@ -10,7 +10,7 @@ use Rattle.slice_strategy.specs.declared.change.Change.{Change}
 use Rattle.lone_worker.specs.{Chunks.run_end, Endings.FollowsLog, Policies.ForEachPolicy}
 use Rattle.lone_worker.specs.declared.{stop.Stop.Stop, tally.Tally.Tally}
 use Rattle.lone_worker.proofs.ChunkLemmas.{Settled}
-use Rattle.worker_pool.specs.{Chunks.ReadsPlan, Chunks.Routes, Steps.end_of}
+use Rattle.worker_pool.specs.{Chunks.ReadsPlan, Chunks.Routes, LoopEnds.end_of}
 use Rattle.worker_pool.specs.Following.{Beginning, ComesTo, LoopState, effect_since}
 
 -- at the end of the log all of the plan that was due was read

@@ -1,8 +1,4 @@
-pub mod WritingLemmas
-pub mod EntryLemmas
-pub mod ChangeLemmas
-pub mod StepLemmas
-pub mod PlanLaws
+pub mod LoopLemmas
 pub mod RoutedPoints
 pub mod RoutedNext
 pub mod RoutingLemmas

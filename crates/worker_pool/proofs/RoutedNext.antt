@@ -10,10 +10,11 @@ use Rattle.turn_hub.specs.Ends.{IsMainOf}
 use Rattle.lone_worker.specs.Courses.{HasDone}
 use Rattle.lone_worker.proofs.GivenPoints.{IsAmid, is_amid, one_done}
 use Rattle.lone_worker.proofs.PointLemmas.{GivesEnding, gives_end, gives_more, one_more_given}
-use Rattle.worker_pool.specs.{Chunks.Routes, Hands.WorkerHub, Steps.MainState, Writing.AddsPoint, Routing.HasGivenAll}
+use Rattle.main_steps.specs.{Hands.WorkerHub, Steps.MainState, Writing.AddsPoint}
+use Rattle.main_steps.specs.Changes.{HaveCells, Suits, changes_due, changes_later}
+use Rattle.main_steps.specs.declared.schedule.Schedule.{Schedule}
+use Rattle.worker_pool.specs.{Chunks.Routes, Routing.HasGivenAll}
 use Rattle.worker_pool.specs.{Routing.Routed}
-use Rattle.worker_pool.specs.Changes.{HaveCells, Suits, changes_due, changes_later}
-use Rattle.worker_pool.specs.declared.schedule.Schedule.{Schedule}
 use Rattle.worker_pool.proofs.RoutedPoints.{routed_more}
 
 -- ---- one time-point more

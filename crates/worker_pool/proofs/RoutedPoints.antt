@@ -3,16 +3,16 @@ use Rattle.std.proofs.Common.{◌≡◌, ◌∙◌, ap, subst, sym, refl, ℕ, �
 use Rattle.mfotl_model.specs.declared.event.TimePoint.{TimePoint}
 use Rattle.log_reader.specs.Readers.{Reader}
 use Rattle.monitorable.specs.CoreForms.{CoreForm}
-use Rattle.rescale_core.specs.Workers.{MayFollow}
+use Rattle.monitor_state.specs.Verdicts.{MayFollow}
 use Rattle.rescale_core.specs.declared.driver.Driver.{Driver}
 use Rattle.slice_strategy.specs.declared.change.Change.{Change}
 use Rattle.lone_worker.specs.{Courses.Settles, Texts.tally_of, Verdicts.Falls}
 use Rattle.lone_worker.specs.declared.tally.Tally.{Tally}
+use Rattle.main_steps.specs.Changes.{changes_due, changes_later, entries_by}
+use Rattle.main_steps.specs.Writing.{AddsPoint, AllEmitted, FallsShort, HasReadNothing, Runs, WritesOnly}
+use Rattle.main_steps.proofs.{WritingLemmas.nothing_read, WritingLemmas.over_written}
+use Rattle.main_steps.proofs.EntryLemmas.{entries_more, left_more, points_read}
 use Rattle.worker_pool.specs.{Chunks.IsUnderWay, Chunks.Routes}
-use Rattle.worker_pool.specs.Changes.{changes_due, changes_later, entries_by}
-use Rattle.worker_pool.specs.Writing.{AddsPoint, AllEmitted, FallsShort, HasReadNothing, Runs, WritesOnly}
-use Rattle.worker_pool.proofs.{WritingLemmas.nothing_read, WritingLemmas.over_written}
-use Rattle.worker_pool.proofs.EntryLemmas.{entries_more, left_more, points_read}
 
 -- nothing was read
 pub routes_none : {core : CoreForm} {driver : Driver} {tally : Tally} (plan : List Change) (start : Option (List ℕ))

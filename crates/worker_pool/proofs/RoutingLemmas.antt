@@ -19,11 +19,11 @@ use Rattle.lone_worker.specs.declared.{stop.Stop.Stop, tally.Tally.Tally}
 use Rattle.lone_worker.specs.declared.stop.Stop.TheVariants.{Log, Read, Sink, Memory}
 use Rattle.lone_worker.proofs.GivenPoints.{IsAmid, front_amid, is_amid, still_amid, stops_at}
 use Rattle.lone_worker.proofs.PointLemmas.{take_none_left}
-use Rattle.worker_pool.specs.{Changes.HaveCells, Changes.Suits, Hands.WorkerHub, Steps.MainState}
+use Rattle.main_steps.specs.{Changes.HaveCells, Changes.Suits, Hands.WorkerHub, Steps.MainState}
+use Rattle.main_steps.specs.Writing.{AllEmitted, FallsShort, WritesOnly}
+use Rattle.main_steps.specs.declared.schedule.Schedule.{Schedule}
 use Rattle.worker_pool.specs.Chunks.{ForEachRun, IsUnderWay, Routes}
 use Rattle.worker_pool.specs.Routing.{HasGivenAll, Routed, RoutesShort, StopsBehind}
-use Rattle.worker_pool.specs.Writing.{AllEmitted, FallsShort, WritesOnly}
-use Rattle.worker_pool.specs.declared.schedule.Schedule.{Schedule}
 use Rattle.worker_pool.proofs.RoutedPoints.{routed_falls, routed_keeps, routed_settles}
 
 -- ---- one after the other

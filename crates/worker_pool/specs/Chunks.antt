@@ -13,8 +13,8 @@ use Rattle.rescale_core.specs.declared.driver.Driver.{Driver}
 use Rattle.slice_strategy.specs.declared.change.Change.{Change}
 use Rattle.lone_worker.specs.Courses.{HasDone}
 use Rattle.lone_worker.specs.declared.tally.Tally.{Tally}
-use Rattle.worker_pool.specs.Changes.{entries_by, left_by}
-use Rattle.worker_pool.specs.Writing.{Writes}
+use Rattle.main_steps.specs.Changes.{entries_by, left_by}
+use Rattle.main_steps.specs.Writing.{Writes}
 
 -- ---- the time-points of the bytes so far
 

@@ -15,8 +15,8 @@ use Rattle.lone_worker.specs.Endings.{FollowsLog}
 use Rattle.lone_worker.specs.Policies.{ForEachPolicy}
 use Rattle.lone_worker.specs.declared.stop.Stop.{Stop}
 use Rattle.lone_worker.specs.declared.tally.Tally.{Tally}
+use Rattle.main_steps.specs.declared.schedule.Schedule.{Schedule}
 use Rattle.worker_pool.specs.Chunks.{ReadsPlan, Routes}
-use Rattle.worker_pool.specs.declared.schedule.Schedule.{Schedule}
 
 -- How a run began: by which core, signature and plan, and how the inputs and the output stood.
 pub record Beginning : Type 0 where

@@ -13,12 +13,12 @@ use Rattle.lone_worker.specs.Texts.{text_on}
 use Rattle.lone_worker.specs.Verdicts.{IsOutputStop}
 use Rattle.lone_worker.specs.declared.stop.Stop.{Stop}
 use Rattle.lone_worker.specs.declared.stop.Stop.TheVariants.{Log}
-use Rattle.worker_pool.specs.Changes.{HaveCells, Suits}
+use Rattle.main_steps.specs.Changes.{HaveCells, Suits}
+use Rattle.main_steps.specs.Hands.{WorkerHub}
+use Rattle.main_steps.specs.Steps.{MainState}
+use Rattle.main_steps.specs.Writing.{AllEmitted, WritesOnly}
+use Rattle.main_steps.specs.declared.schedule.Schedule.{Schedule}
 use Rattle.worker_pool.specs.Chunks.{ForEachRun, Routes}
-use Rattle.worker_pool.specs.Hands.{WorkerHub}
-use Rattle.worker_pool.specs.Steps.{MainState}
-use Rattle.worker_pool.specs.Writing.{AllEmitted, WritesOnly}
-use Rattle.worker_pool.specs.declared.schedule.Schedule.{Schedule}
 
 -- The reader gave some time-points more, which were read by the plan, whatever was read before. What is to come suits
 -- main and its cells.

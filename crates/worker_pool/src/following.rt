@@ -11,15 +11,14 @@ ghost use Rattle.lone_worker.specs.Effects.{effect};
 ghost use Rattle.lone_worker.specs.Endings.{FollowsLog};
 ghost use Rattle.lone_worker.specs.Policies.{ForEachPolicy};
 ghost use Rattle.lone_worker.specs.Texts.{tally_of};
-ghost use Rattle.worker_pool.specs.Changes.{HaveCells, Suits};
+ghost use Rattle.main_steps.specs.Changes.{HaveCells, Suits};
+ghost use Rattle.main_steps.specs.Writing.{HasReadNothing};
 ghost use Rattle.worker_pool.specs.Chunks.{ReadsPlan};
-ghost use Rattle.worker_pool.specs.Writing.{HasReadNothing};
 
-use crate::hands::{LoopContext, WorkerHand};
 use crate::loop_end::end_of;
-use crate::schedule::Schedule;
 use log_reader::LogReader;
 use lone_worker::{LineWriter, Stop, Tally};
+use main_steps::{LoopContext, Schedule, WorkerHand};
 use mon_outside::{Gate, Inputs, Sink};
 use rescale_core::Driver;
 use std::sync::Wait;

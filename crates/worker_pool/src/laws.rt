@@ -1,25 +1,10 @@
 //! Laws of the definitions, each the contract of a function.
-ghost use Rattle.worker_pool.specs.Laws.{ChangesOfThree, DueAtItsNumber, EachChangeInOrder, EachJustBefore};
-ghost use Rattle.worker_pool.specs.Laws.{EachPointOnce, FiveDealtToTwo, NoneBehindTheLast};
+ghost use Rattle.worker_pool.specs.Laws.{FiveDealtToTwo};
 
 pub use lone_worker::laws::{violations_counted, worked_numbers};
+pub use main_steps::laws::{changes_just_before, due_at_its_number, worked_plan};
 
-/// A change is due just before the time-point of its number is read.
-pub fn due_at_its_number()
-    ensures { DueAtItsNumber }
-{}
-
-/// What is read of a log's time-points by a plan of changes: all of them, and each change just before the time-point of
-/// its number.
-pub fn changes_just_before()
-    ensures points { EachPointOnce }
-    ensures order { EachChangeInOrder }
-    ensures timely { EachJustBefore }
-    ensures last { NoneBehindTheLast }
-{}
-
-/// What is read of three time-points by a plan of four changes, and to whom five hands are dealt.
-pub fn worked_plan()
-    ensures changes { ChangesOfThree }
-    ensures hands { FiveDealtToTwo }
+/// To whom five hands are dealt.
+pub fn worked_deal()
+    ensures { FiveDealtToTwo }
 {}

@@ -3,21 +3,16 @@
 
 mod batch;
 mod by_one;
-mod entries;
 mod following;
-mod hands;
 pub mod laws;
 mod loop_end;
 mod main_chunk;
 mod main_loop;
-mod main_turns;
 mod monitoring;
 mod opening;
 mod plan;
 mod preparing;
-mod rounds;
 mod routing;
-mod schedule;
 
 pub use lone_worker::End;
 pub use monitoring::monitor;

@@ -1,6 +1,6 @@
 //! How a loop of main's ends.
 ghost use Rattle.std.specs.Prelude.{◌≡◌};
-ghost use Rattle.worker_pool.specs.Steps.{end_of};
+ghost use Rattle.worker_pool.specs.LoopEnds.{end_of};
 
 use lone_worker::Stop;
 

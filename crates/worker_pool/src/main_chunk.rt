@@ -2,13 +2,13 @@
 ghost use Rattle.std.specs.Prelude.{◌≡◌, ◌<◌, ◌≤◌, IsTrue, OnOk, length};
 ghost use Rattle.turn_hub.specs.Ends.{IsMainOf, cell_count};
 ghost use Rattle.hub_threads.specs.Hands.{AreHandsOf};
-ghost use Rattle.worker_pool.specs.Changes.{HaveCells, Suits};
+ghost use Rattle.main_steps.specs.Changes.{HaveCells, Suits};
 ghost use Rattle.worker_pool.specs.Following.{Beginning, ComesTo, HasCome, loop_state};
 
 use crate::following::MainLoop;
-use crate::hands::WorkerHand;
 use crate::routing::route_complete;
 use lone_worker::{LineWriter, Stop, read_on};
+use main_steps::WorkerHand;
 use mon_outside::{Gate, Inputs, Sink};
 use std::sync::Wait;
 

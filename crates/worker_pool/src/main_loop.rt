@@ -10,16 +10,15 @@ ghost use Rattle.lone_worker.specs.Chunks.{run_end};
 ghost use Rattle.lone_worker.specs.Effects.{effect};
 ghost use Rattle.lone_worker.specs.Endings.{FollowsLog};
 ghost use Rattle.lone_worker.specs.Policies.{ForEachPolicy};
-ghost use Rattle.worker_pool.specs.Changes.{HaveCells, Suits};
+ghost use Rattle.main_steps.specs.Changes.{HaveCells, Suits};
+ghost use Rattle.main_steps.specs.Writing.{HasReadNothing};
 ghost use Rattle.worker_pool.specs.Chunks.{ReadsPlan};
-ghost use Rattle.worker_pool.specs.Writing.{HasReadNothing};
 
 use crate::following::MainLoop;
-use crate::hands::{LoopContext, WorkerHand};
-use crate::schedule::Schedule;
 use hub_threads::{MainTask, beside};
 use log_reader::LogReader;
 use lone_worker::{LineWriter, Stop, Tally};
+use main_steps::{LoopContext, Schedule, WorkerHand};
 use mon_outside::{Gate, Inputs, Sink};
 use rescale_core::{Driver, Worker};
 use std::alloc::AllocError;
@@ -39,9 +38,9 @@ impl<'o, 's, R: Wait, G: Gate, I: Inputs, O: Sink> MainTask<Worker>
     ghost use Rattle.lone_worker.specs.Effects.{effect};
     ghost use Rattle.lone_worker.specs.Endings.{FollowsLog};
     ghost use Rattle.lone_worker.specs.Policies.{ForEachPolicy};
-    ghost use Rattle.worker_pool.specs.Changes.{HaveCells, Suits};
+    ghost use Rattle.main_steps.specs.Changes.{HaveCells, Suits};
+    ghost use Rattle.main_steps.specs.Writing.{HasReadNothing};
     ghost use Rattle.worker_pool.specs.Chunks.{ReadsPlan};
-    ghost use Rattle.worker_pool.specs.Writing.{HasReadNothing};
 
     type Answer = Result<Tally, Stop>;
 

@@ -9,15 +9,15 @@ ghost use Rattle.lone_worker.specs.Effects.{effect};
 ghost use Rattle.lone_worker.specs.Endings.{FollowsLog};
 ghost use Rattle.lone_worker.specs.Chunks.{run_end};
 ghost use Rattle.lone_worker.specs.Policies.{ForEachPolicy};
-ghost use Rattle.worker_pool.specs.Changes.{AllSuit};
+ghost use Rattle.main_steps.specs.Changes.{AllSuit};
 
 use crate::by_one::follow_by_one;
-use crate::hands::LoopContext;
 use crate::main_loop::follow_beside;
 use crate::plan::Plan;
 use crate::preparing::prepare;
 use log_reader::LogReader;
 use lone_worker::{End, Stop, Tally, chunk_room};
+use main_steps::LoopContext;
 use mon_outside::{Gate, Inputs, Sink};
 use slice_strategy::Slicer;
 use std::alloc::Global;

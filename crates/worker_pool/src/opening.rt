@@ -8,7 +8,7 @@ ghost use Rattle.turn_hub.specs.Ends.{AreInOrder, IsMainOf, cell_count};
 ghost use Rattle.hub_threads.specs.Hands.{AreHandsOf};
 ghost use Rattle.worker_pool.specs.Opening.{AreStarted};
 
-use crate::hands::{WorkerHand, WorkerHub};
+use main_steps::{WorkerHand, WorkerHub};
 use monitorable::Core;
 use rescale_core::laws::opened_workers;
 use rescale_core::{Driver, Router, Worker};

@@ -2,7 +2,7 @@
 ghost use Rattle.std.specs.Prelude.{◌<◌, ◌≤◌, All};
 ghost use Rattle.mfotl_model.specs.Strategies.{workers_of};
 
-use crate::schedule::most_workers;
+use main_steps::most_workers;
 use monitorable::Core;
 use slice_strategy::{Change, Strategy};
 

@@ -6,14 +6,13 @@ ghost use Rattle.monitorable.specs.Cores.{core_form};
 ghost use Rattle.rescale_core.specs.Workers.{IsFor};
 ghost use Rattle.turn_hub.specs.Ends.{IsMainOf, cell_count};
 ghost use Rattle.hub_threads.specs.Hands.{AreDealt, AreGroupsOf, AreHandsOf};
-ghost use Rattle.worker_pool.specs.Changes.{AllSuit, HaveCells, Suits};
-ghost use Rattle.worker_pool.specs.Writing.{HasReadNothing};
+ghost use Rattle.main_steps.specs.Changes.{AllSuit, HaveCells, Suits};
+ghost use Rattle.main_steps.specs.Writing.{HasReadNothing};
 
-use crate::hands::{WorkerHand, WorkerHub};
 use crate::opening::open;
 use crate::plan::Plan;
-use crate::schedule::Schedule;
 use hub_threads::{Bells, deal_with_bells};
+use main_steps::{Schedule, WorkerHand, WorkerHub};
 use rescale_core::Driver;
 use std::alloc::{AllocError, Global};
 

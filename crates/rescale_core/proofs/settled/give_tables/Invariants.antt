@@ -1,7 +1,8 @@
 use Rattle.std.proofs.Common.{◌≡◌, ◌++◌, length, map}
 use Rattle.std.specs.List.{AllByRecursion}
 use Rattle.monitor_state.specs.MonitorView.{monitor_of}
-use Rattle.rescale_core.specs.Settlings.{HasWidth, IsKept, IsTabled, all_settled, row_out}
+use Rattle.monitor_state.specs.Stands.{IsKept}
+use Rattle.rescale_core.specs.Settlings.{HasWidth, IsTabled, all_settled, row_out}
 use Rattle.rescale_core.proofs.settled.give_tables.Given as goal
 
 abbrev pub invariant-loop-table : goal.invariant-loop-table

@@ -1,6 +1,7 @@
 use Rattle.std.proofs.lemmas.Result.{IfErr-weaker, err_from_is_err_and}
-use Rattle.worker_pool.proofs.{ChangeLemmas.suits_drained, RoutedPoints.runs_under, StepLemmas.output_later}
-use Rattle.worker_pool.proofs.{WritingLemmas.falls_either, WritingLemmas.on_ok_both}
+use Rattle.main_steps.proofs.{ChangeLemmas.suits_drained, StepLemmas.output_later}
+use Rattle.main_steps.proofs.{WritingLemmas.falls_either, WritingLemmas.on_ok_both}
+use Rattle.worker_pool.proofs.{RoutedPoints.runs_under}
 use Rattle.worker_pool.proofs.RoutingLemmas.{all_drained, output_stops, routed_front, under_way_on}
 use Rattle.worker_pool.proofs.routing.route_complete.Goals as goal
 

@@ -1,6 +1,7 @@
 use Rattle.std.proofs.{Common.refl, lemmas.Result.err_from_is_err_and}
 use Rattle.lone_worker.proofs.GivenPoints.{few_before, is_amid, may_follow}
-use Rattle.worker_pool.proofs.{EntryLemmas.points_read, RoutedPoints.runs_under, RoutingLemmas.fault_short}
+use Rattle.main_steps.proofs.{EntryLemmas.points_read}
+use Rattle.worker_pool.proofs.{RoutedPoints.runs_under, RoutingLemmas.fault_short}
 use Rattle.worker_pool.proofs.{RoutingLemmas.output_short}
 use Rattle.worker_pool.proofs.RoutedNext.{given_at_end, given_for_more, none_routed, one_routed}
 use Rattle.worker_pool.proofs.routing.route_next.Goals as goal

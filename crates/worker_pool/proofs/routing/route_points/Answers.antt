@@ -1,6 +1,6 @@
 use Rattle.std.proofs.Common.{arith}
 use Rattle.worker_pool.proofs.RoutingLemmas.{routed_none, routed_on, short_on, under_way_on}
-use Rattle.worker_pool.proofs.StepLemmas.{ended_err, ended_ok, ended_over, goes_on}
+use Rattle.worker_pool.proofs.LoopLemmas.{ended_err, ended_ok, ended_over, goes_on}
 use Rattle.worker_pool.proofs.routing.route_points.Goals as goal
 
 pub points-init : goal.points-init

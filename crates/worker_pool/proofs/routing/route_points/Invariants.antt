@@ -1,6 +1,7 @@
 use Rattle.std.proofs.Common.{◌≤◌}
 use Rattle.hub_threads.specs.Hands.{AreHandsOf}
-use Rattle.worker_pool.specs.{Routing.Routed, Steps.main_state}
+use Rattle.main_steps.specs.{Steps.main_state}
+use Rattle.worker_pool.specs.{Routing.Routed}
 use Rattle.worker_pool.proofs.routing.route_points.Given as goal
 
 abbrev pub invariant-points : goal.invariant-points

@@ -1,5 +1,6 @@
-use Rattle.worker_pool.proofs.{RoutingLemmas.fault_behind, RoutingLemmas.output_behind, WritingLemmas.falls_on}
-use Rattle.worker_pool.proofs.{WritingLemmas.stops}
+use Rattle.main_steps.proofs.{WritingLemmas.falls_on}
+use Rattle.main_steps.proofs.{WritingLemmas.stops}
+use Rattle.worker_pool.proofs.{RoutingLemmas.fault_behind, RoutingLemmas.output_behind}
 use Rattle.worker_pool.proofs.routing.stop_behind_lines.Goals as goal
 
 pub returns-in-Ok-clause-short : goal.returns-in-Ok-clause-short

@@ -1,6 +1,6 @@
 use Rattle.std.proofs.Common.{◌∙◌, ◌+◌, arith, length, subst, sym}
 use Rattle.monitor_state.specs.MonitorView.{MonitorOf}
-use Rattle.rescale_core.specs.Settlings.{IsKept}
+use Rattle.monitor_state.specs.Stands.{IsKept}
 use Rattle.lone_worker.specs.Alone.{Owes}
 use Rattle.lone_worker.proofs.AloneLemmas.{kept_on, pays_one, pays_part}
 use Rattle.lone_worker.proofs.ErrorLemmas.{on_err}

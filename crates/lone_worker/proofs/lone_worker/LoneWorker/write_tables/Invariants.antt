@@ -1,6 +1,6 @@
 use Rattle.std.proofs.Common.{◌≡◌, ◌≤◌, length}
 use Rattle.monitor_state.specs.MonitorView.{monitor_of}
-use Rattle.rescale_core.specs.Settlings.{IsKept}
+use Rattle.monitor_state.specs.Stands.{IsKept}
 use Rattle.lone_worker.specs.{Alone.ForEachDebt, Alone.Owes}
 use Rattle.lone_worker.proofs.lone_worker.LoneWorker.write_tables.Given as goal
 

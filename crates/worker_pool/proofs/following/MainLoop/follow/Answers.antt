@@ -1,7 +1,7 @@
 use Rattle.std.proofs.{Common.◌∙◌, Common.ap, Common.arith, Common.sym, Common.refl}
 use Rattle.log_reader.specs.Progress.{Progress}
 use Rattle.lone_worker.proofs.ChunkLemmas.{course_begins}
-use Rattle.worker_pool.proofs.{FollowLemmas.came_to_end, RoutedPoints.routes_none, StepLemmas.goes_on}
+use Rattle.worker_pool.proofs.{FollowLemmas.came_to_end, RoutedPoints.routes_none, LoopLemmas.goes_on}
 use Rattle.worker_pool.proofs.following.MainLoop.follow.Goals as goal
 
 pub chunks-init : goal.chunks-init

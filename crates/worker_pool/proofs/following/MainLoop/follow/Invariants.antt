@@ -3,7 +3,8 @@ use Rattle.mon_outside.specs.Views.{inputs_view, sink_view}
 use Rattle.monitorable.specs.CoreForms.{CoreForm}
 use Rattle.turn_hub.specs.Ends.{IsMainOf}
 use Rattle.hub_threads.specs.Hands.{AreHandsOf}
-use Rattle.worker_pool.specs.{Changes.HaveCells, Changes.Suits, Writing.HasReadNothing, Following.HasCome}
+use Rattle.main_steps.specs.{Changes.HaveCells, Changes.Suits, Writing.HasReadNothing}
+use Rattle.worker_pool.specs.{Following.HasCome}
 use Rattle.worker_pool.specs.{Following.loop_state}
 use Rattle.worker_pool.proofs.following.MainLoop.follow.Given as goal
 

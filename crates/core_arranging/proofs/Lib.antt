@@ -1,0 +1,3 @@
+pub mod ArrangedLemmas
+pub mod NarrowedLemmas
+pub mod PosedLemmas

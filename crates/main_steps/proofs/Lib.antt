@@ -1,0 +1,5 @@
+pub mod WritingLemmas
+pub mod EntryLemmas
+pub mod ChangeLemmas
+pub mod StepLemmas
+pub mod PlanLaws

@@ -1,0 +1,12 @@
+use Rattle.std.proofs.Common.{rules, subst}
+use Rattle.main_steps.specs.Changes.{DueTells}
+use Rattle.main_steps.proofs.{ChangeLemmas.all_made, ChangeLemmas.none_made}
+use Rattle.main_steps.proofs.entries.make_changes.Goals as goal
+
+pub returns : goal.returns
+returns g c =
+    let schedule = c.args.schedule.now in
+    let none = subst (DueTells schedule) c.if-is_due.false c.is_due.ensures in
+    let all =
+    all_made (none_made schedule c.args.driver.now (g.O.Sink.written c.args.out.now) c.args.writer.now.tally) none in
+    search rules

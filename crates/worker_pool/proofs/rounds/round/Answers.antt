@@ -1,9 +1,0 @@
-use Rattle.lone_worker.proofs.ErrorLemmas.{on_err}
-use Rattle.worker_pool.proofs.{WritingLemmas.stops, WritingLemmas.world_of}
-use Rattle.worker_pool.proofs.rounds.round.Goals as goal
-
-pub turn_all-requires-clause-stands : goal.turn_all-requires-clause-stands
-turn_all-requires-clause-stands g c = world_of c.requires.runs
-
-pub returns-in_err-turned-clause-err : goal.returns-in_err-turned-clause-err
-returns-in_err-turned-clause-err g c = on_err c.from_residual.result _ (stops _ _ _)
