@@ -4,30 +4,28 @@ ghost use Rattle.std.specs.Prelude.{IfOk, IsTrue, OnErr, OnOk, cond, ifâ—Œthenâ—
 ghost use Rattle.std.specs.List.{AllByRecursion};
 ghost use Rattle.std.specs.List.Sorted.{IsStrictlySortedBy};
 ghost use Rattle.relations.specs.KeptRows.{RowsAscend};
-ghost use Rattle.eval_until.specs.Recalled.{entries_kept, starts_kept};
+ghost use Rattle.until_rows.specs.Recalled.{entries_kept, starts_kept};
 ghost use Rattle.mfotl_model.specs.Intervals.{in_interval};
 ghost use Rattle.mfotl_model.specs.Tables.{all_apart, has_row, part};
 ghost use Rattle.mfotl_model.specs.Values.{row_cmp};
 ghost use Rattle.mfotl_model.specs.declared.value.Value.{Value};
 ghost use Rattle.relations.specs.Pushed.{turned};
 ghost use Rattle.eval_until.specs.AheadView.{AheadOf, met, run_start};
-ghost use Rattle.eval_until.specs.ByKey.{Listed};
-ghost use Rattle.eval_until.specs.InOrder.{in_order};
+ghost use Rattle.until_rows.specs.ByKey.{Listed};
+ghost use Rattle.until_rows.specs.InOrder.{in_order};
 ghost use Rattle.eval_until.specs.Keeping.{Keeps, Sized};
-ghost use Rattle.eval_until.specs.Rules.{Ascending, NoneEmpty, StartsAbove, StartsBelow, Waiting};
+ghost use Rattle.eval_until.specs.Rules.{Ascending, StartsAbove, StartsBelow, Waiting};
+ghost use Rattle.until_rows.specs.Rules.{NoneEmpty};
 
-use crate::by_key::rows_by_key;
 use crate::contents::{Contents, take_position};
 use crate::expiry::expire;
-use crate::ordered::ordered_rows;
-use crate::rebuild::{kept_marks, kept_starts, rows_map, starts_map};
-use crate::recalled::{KeptMarks, KeptStart};
-use crate::row_entries::{push_met, row_met};
 use mfotl_model::{Interval, Row};
 use relations::{Columns, Table};
 use std::alloc::{AllocError, Global};
 use std::collections::VecDeque;
 use std::marker::Model;
+use until_rows::{KeptMarks, KeptStart, kept_marks, kept_starts, ordered_rows, push_met, row_met};
+use until_rows::{rows_by_key, rows_map, starts_map};
 
 /// What UNTIL has seen from the next position on.
 #[derive(Drop)]
@@ -43,8 +41,8 @@ pub struct Ahead {
 
 impl Model for Ahead {
     ghost use Rattle.eval_until.specs.AheadView.{AheadOf};
-    ghost use Rattle.eval_until.specs.ByKey.{Listed};
-    ghost use Rattle.eval_until.specs.InOrder.{in_order};
+    ghost use Rattle.until_rows.specs.ByKey.{Listed};
+    ghost use Rattle.until_rows.specs.InOrder.{in_order};
     ghost use Rattle.eval_until.specs.Keeping.{Keeps};
 
     ghost Value = { AheadOf };

@@ -6,23 +6,20 @@ ghost use Rattle.mfotl_model.specs.Tables.{all_apart, has_row, part};
 ghost use Rattle.mfotl_model.specs.Values.{row_cmp};
 ghost use Rattle.mfotl_model.specs.declared.value.Value.{Value};
 ghost use Rattle.relations.specs.KeptRows.{RowsAscend, kept_for, last_for, list_for};
-ghost use Rattle.eval_until.specs.ByKey.{Listed};
-ghost use Rattle.eval_until.specs.InOrder.{in_order};
+ghost use Rattle.until_rows.specs.ByKey.{Listed};
+ghost use Rattle.until_rows.specs.InOrder.{in_order};
 ghost use Rattle.eval_until.specs.Keeping.{Keeps, Queues, Sized};
-ghost use Rattle.eval_until.specs.Rules.{Ascending, NoneEmpty, StartsAbove, StartsBelow, Waiting, all_before};
-ghost use Rattle.eval_until.specs.Starts.{start_of, start_taken};
+ghost use Rattle.eval_until.specs.Rules.{Ascending, StartsAbove, StartsBelow, Waiting};
+ghost use Rattle.until_rows.specs.Rules.{NoneEmpty, all_before};
+ghost use Rattle.until_rows.specs.Starts.{start_of, start_taken};
 
-use crate::by_key::{RowsByKey, list_rows, rows_by_key};
-use crate::entries::Entries;
-use crate::ordered::{hashed_rows, hashed_starts};
 use crate::rebuild::queue_of;
-use crate::row_entries::add_rows;
-use crate::start_map::StartMap;
-use crate::starts::apply_left;
 use mfotl_model::Row;
 use relations::Table;
 use std::alloc::{AllocError, Global};
 use std::collections::{BTreeMap, HashMap, VecDeque};
+use until_rows::{Entries, RowsByKey, StartMap, add_rows, apply_left, hashed_rows, hashed_starts};
+use until_rows::{list_rows, rows_by_key};
 
 /// The rows of the tables of one position: the right operand's, and those of a negated left one, whose
 /// runs break there.

@@ -3,20 +3,16 @@ ghost use Rattle.std.specs.Prelude.{◌≡◌, ◌&&◌, ℕ, true, List, cond};
 ghost use Rattle.mfotl_model.specs.Tables.{has_row};
 ghost use Rattle.mfotl_model.specs.declared.value.Value.{Value};
 ghost use Rattle.relations.specs.KeptRows.{kept_for, list_for};
-ghost use Rattle.eval_until.specs.ByKey.{Listed};
+ghost use Rattle.until_rows.specs.ByKey.{Listed};
 ghost use Rattle.eval_until.specs.Keeping.{Covered, CoveredStarts, Fresh, IsLater, IsThinned, NotAfter, Rising};
-ghost use Rattle.eval_until.specs.Rules.{NoneEmpty};
-ghost use Rattle.eval_until.specs.Starts.{later_start};
+ghost use Rattle.until_rows.specs.Rules.{NoneEmpty};
+ghost use Rattle.until_rows.specs.Starts.{later_start};
 
-use crate::by_key::RowsByKey;
 use crate::contents::Taken;
-use crate::entries::Entries;
-use crate::row_entries::forget_rows;
-use crate::start_map::StartMap;
-use crate::starts::forget_starts;
 use mfotl_model::Row;
 use std::alloc::Global;
 use std::collections::{HashMap, VecDeque};
+use until_rows::{Entries, RowsByKey, StartMap, forget_rows, forget_starts};
 
 // a run that began with the position `next` or before tells nothing more; only those of a negated
 // operand may be forgotten, since they are taken to begin with the first position

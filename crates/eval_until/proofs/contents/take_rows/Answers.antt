@@ -1,6 +1,6 @@
 use Rattle.mfotl_model.specs.Tables.{part}
-use Rattle.eval_until.specs.Starts.{start_of}
-use Rattle.eval_until.proofs.ByKeyLemmas.{listed_taken}
+use Rattle.until_rows.specs.Starts.{start_of}
+use Rattle.until_rows.proofs.ByKeyLemmas.{listed_taken}
 use Rattle.eval_until.proofs.contents.take_rows.Goals as goal
 
 pub returns-clause-listed : goal.returns-clause-listed

@@ -3,7 +3,7 @@ use Rattle.std.proofs.lemmas.Bool.{and_parts}
 use Rattle.std.specs.List.{list_all}
 use Rattle.mfotl_model.specs.Tables.{has_row}
 use Rattle.relations.specs.KeptRows.{kept_for, list_for}
-use Rattle.eval_until.proofs.EntriesLemmas.{thin_more}
+use Rattle.eval_until.proofs.ThinnedLemmas.{thin_more}
 use Rattle.eval_until.proofs.QueueLemmas.{breaks_more, covered_more, fresh_front, front_before, later_more}
 use Rattle.eval_until.proofs.expiry.expire.Goals as goal
 

@@ -1,7 +1,7 @@
 use Rattle.std.proofs.Common.{◌≡◌, ℕ, List, true, length}
 use Rattle.mfotl_model.specs.declared.value.Value.{Value}
 use Rattle.relations.specs.KeptRows.{kept_for, list_for}
-use Rattle.eval_until.specs.{ByKey.Listed, Rules.NoneEmpty}
+use Rattle.until_rows.specs.{ByKey.Listed, Rules.NoneEmpty}
 use Rattle.eval_until.specs.Keeping.{Covered, CoveredStarts, IsLater, IsThinned, NotAfter, Rising}
 use Rattle.eval_until.proofs.expiry.expire.Given as goal
 

@@ -4,9 +4,10 @@ use Rattle.std.specs.List.{list_any}
 use Rattle.mfotl_model.specs.Tables.{all_apart, all_sized, has_row, part}
 use Rattle.relations.specs.KeptRows.{list_for}
 use Rattle.relations.proofs.AscendingRows.{has_ascending}
-use Rattle.eval_until.specs.Entries.{met_by}
-use Rattle.eval_until.proofs.{ByKeyLemmas.found_meets, ByKeyLemmas.found_met, KeepingLemmas.sized_met}
-use Rattle.eval_until.proofs.{OrderLemmas.entries_in_order}
+use Rattle.until_rows.specs.Entries.{met_by}
+use Rattle.until_rows.proofs.{ByKeyLemmas.found_meets, ByKeyLemmas.found_met}
+use Rattle.eval_until.proofs.KeepingLemmas.{sized_met}
+use Rattle.until_rows.proofs.OrderLemmas.{entries_in_order}
 use Rattle.eval_until.proofs.ahead.Ahead.table_of.Goals as goal
 
 pub from_rows-requires-clause-apart : goal.from_rows-requires-clause-apart
