@@ -6,23 +6,9 @@ ghost use Rattle.mfotl_model.specs.declared.value.Value.{Value};
 ghost use Rattle.relations.specs.KeptRows.{RowsAscend, RowsDiffer, kept_for, last_for};
 
 use crate::entries::Entries;
-use crate::start_map::StartMap;
 use mfotl_model::Row;
 use std::alloc::{AllocError, Global};
 use std::collections::{BTreeMap, HashMap};
-
-/// These starts, each found by its row.
-pub fn hashed_starts(alloc: Global, starts: BTreeMap<Row, u64>) -> Result<StartMap, AllocError>
-    ensures found { IfOk result (λ map. (u : List Value) →
-        kept_for map u ≡ last_for starts.entries u None) }
-    ensures ascend { IfOk result (λ _. RowsAscend starts.entries) }
-{
-    let mut map = StartMap::new(alloc);
-    for (row, start) in starts {
-        map.insert(row, start)?;
-    }
-    Ok(map)
-}
 
 /// These entries, each found by its row's hash.
 pub fn hashed_rows(

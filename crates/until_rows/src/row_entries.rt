@@ -1,210 +1,190 @@
-//! The entries of each row.
-ghost use Rattle.std.specs.Prelude.{◌≡◌, ◌||◌, ◌&&◌, ◌∷◌, ◌++◌, [], List, ℕ, IfOk, IfSome, IsTrue, OnOk, cond};
-ghost use Rattle.std.specs.BTreeMap.{is_at};
+//! The rows of the right operand with their entries, found by their hashes and by their values in some columns.
+ghost use Rattle.std.specs.Prelude.{◌≡◌, ◌||◌, ◌&&◌, ◌∷◌, ◌++◌, [], false, List, ℕ};
+ghost use Rattle.std.specs.Prelude.{IfOk, IsTrue, None, OnErr, OnOk, cond, length, nat_eq};
 ghost use Rattle.std.specs.List.{list_any};
 ghost use Rattle.std.specs.List.Sorted.{IsStrictlySortedBy};
 ghost use Rattle.std.specs.Ordering.{eq_by_cmp};
 ghost use Rattle.mfotl_model.specs.Tables.{has_row, part};
 ghost use Rattle.mfotl_model.specs.Values.{row_cmp};
 ghost use Rattle.mfotl_model.specs.declared.value.Value.{Value};
-ghost use Rattle.relations.specs.KeptRows.{RowsDiffer, list_for};
+ghost use Rattle.relations.specs.KeptRows.{RowsAscend, RowsDiffer, kept_for, last_for, list_for};
 ghost use Rattle.until_rows.specs.ByKey.{Listed};
-ghost use Rattle.until_rows.specs.declared.entries.Entry.{Entry};
 ghost use Rattle.until_rows.specs.Entries.{from_place, met_by};
 ghost use Rattle.until_rows.specs.Rules.{NoneEmpty, all_before};
 ghost use Rattle.until_rows.specs.Starts.{start_of};
 
-use crate::by_key::RowsByKey;
-use crate::entries::{Entries, Entry};
-use crate::start_map::StartMap;
-use crate::starts::start_at;
+use crate::by_key::{RowsByKey, list_rows, rows_by_key};
+use crate::entries::Entries;
+use crate::entry_map::{add_rows, forget_rows, push_met, row_met};
+use crate::ordered::{hashed_rows, ordered_rows};
+use crate::run_starts::RunStarts;
 use mfotl_model::{Interval, Row};
-use relations::part_of;
 use std::alloc::{AllocError, Global};
-use std::collections::HashMap;
-use std::collections::hash_map::Entry as Slot;
+use std::collections::{BTreeMap, HashMap};
+use std::marker::Model;
 
-// the entries of a row, with one more
-fn add_entry(
-    alloc: Global,
-    rows: &mut HashMap<Row, Entries>,
-    row: Row,
-    entry: Entry,
-) -> Result<(), AllocError>
-    requires { IsTrue (all_before entry.place (list_for rows.old.entries row)) }
-    ensures entries { OnOk result ((u : List Value) → list_for rows.new.entries u
-        ≡ cond (is_at (row_cmp row) u) (list_for rows.old.entries u ++ entry ∷ [])
-        (list_for rows.old.entries u)) }
-    ensures some { OnOk result (NoneEmpty rows.old.entries → NoneEmpty rows.new.entries) }
-{
-    let entries = rows.entry(row)?.or_insert(Entries::new());
-    entries.push(alloc, entry)?;
-    Ok(())
+/// The entries of rows, and the rows that have some listed by their values in some columns, the keys. Where a call is
+/// told the columns of the rows, `right`, they are to be the same each time: the rows are listed by them.
+#[derive(Drop)]
+pub struct RowEntries {
+    rows: HashMap<Row, Entries>,
+    by_key: RowsByKey,
 }
 
-// where the run begins that a row's part at the left operand's columns has
-fn part_start(
-    alloc: Global,
-    starts: &StartMap,
-    right: &[u32],
-    left: &[u32],
-    negated: bool,
-    row: &Row,
-    place: u64,
-) -> Result<u64, AllocError>
-    ensures { IfOk result (λ start.
-        start ≡ start_of negated place starts.now (part right.now left.now row.now)) }
-{
-    let key = part_of(alloc, right, left, row.values())?;
-    Ok(start_at(starts, negated, place, &key))
+impl Model for RowEntries {
+    ghost use Rattle.until_rows.specs.RowsView.{RowsOf};
+
+    ghost Value = { RowsOf };
+
+    ghost view = { λ k. record { entries = k.rows.entries; keyed = k.by_key } };
 }
 
-// adds one row at the position `place`, as `add_rows` does
-fn add_row(
-    alloc: Global,
-    rows: &mut HashMap<Row, Entries>,
-    starts: &StartMap,
-    right: &[u32],
-    left: &[u32],
-    negated: bool,
-    row: &Row,
-    place: u64,
-    ts: u64,
-) -> Result<(), AllocError>
-    requires { IsTrue (all_before place (list_for rows.old.entries row.now)) }
-    ensures entries { OnOk result ((u : List Value) → list_for rows.new.entries u
-        ≡ cond (is_at (row_cmp row.now) u) (list_for rows.old.entries u ++ record {
-          place = place;
-          start = start_of negated place starts.now (part right.now left.now row.now);
-          ts = ts;
-        } ∷ [])
-        (list_for rows.old.entries u)) }
-    ensures some { OnOk result (NoneEmpty rows.old.entries → NoneEmpty rows.new.entries) }
-{
-    let start = part_start(alloc, starts, right, left, negated, row, place)?;
-    add_entry(alloc, rows, row.copy(alloc)?, Entry { place, start, ts })?;
-    Ok(())
-}
-
-/// Adds the rows of the right operand's table at the position `place`, which none of the entries
-/// reaches yet.
-pub fn add_rows(
-    alloc: Global,
-    rows: &mut HashMap<Row, Entries>,
-    starts: &StartMap,
-    right: &[u32],
-    left: &[u32],
-    negated: bool,
-    table: &[Row],
-    place: u64,
-    ts: u64,
-) -> Result<(), AllocError>
-    requires sorted { IsStrictlySortedBy row_cmp table.now }
-    requires before { (u : List Value) → IsTrue (all_before place (list_for rows.old.entries u)) }
-    ensures entries { OnOk result ((u : List Value) → list_for rows.new.entries u
-        ≡ cond (has_row table.now u) (list_for rows.old.entries u ++ record {
-          place = place;
-          start = start_of negated place starts.now (part right.now left.now u);
-          ts = ts;
-        } ∷ [])
-        (list_for rows.old.entries u)) }
-    ensures some { OnOk result (NoneEmpty rows.old.entries → NoneEmpty rows.new.entries) }
-{
-    for row in table {
-        add_row(alloc, rows, starts, right, left, negated, row, place, ts)?;
-    }
-    Ok(())
-}
-
-// forgets what stands before the position `next`, of one row, which is given where nothing is left of it
-fn forget_row(rows: &mut HashMap<Row, Entries>, row: Row, next: u64) -> Option<Row>
-    ensures entries { (u : List Value) → list_for rows.new.entries u
-        ≡ cond (is_at (row_cmp row) u) (from_place next (list_for rows.old.entries u))
-        (list_for rows.old.entries u) }
-    ensures some { NoneEmpty rows.old.entries → NoneEmpty rows.new.entries }
-    ensures gone { IfSome result (λ gone. list_for rows.new.entries gone ≡ []) }
-{
-    let slot = match rows.entry(row) {
-        Ok(slot) => slot,
-        Err(_absent) => return None,
-    };
-    match slot {
-        Slot::Occupied(mut kept) => {
-            let entries = kept.get_mut();
-            entries.forget(next);
-            if entries.is_empty() {
-                let (gone, _) = kept.remove_entry();
-                Some(gone)
-            } else {
-                None
-            }
-        }
-        Slot::Vacant(vacant) => {
-            drop(vacant.into_key());
-            None
+impl RowEntries {
+    /// No rows, and no keys.
+    pub fn new(alloc: Global) -> Self
+        ensures { result ≡ record { entries = []; keyed = record { columns = []; sets = [] } } }
+    {
+        RowEntries {
+            rows: HashMap::new(alloc),
+            by_key: RowsByKey::new(alloc, Vec::new(alloc)),
         }
     }
-}
 
-// A row of which nothing is left needn't be listed any more. Without memory it stays.
-fn unlist(alloc: Global, by_key: &mut RowsByKey, right: &[u32], gone: Option<Row>)
-    ensures { (rows : List (List Value × List Entry)) → IfSome gone (λ row. list_for rows row ≡ []) →
-        Listed right.now by_key.old rows → Listed right.now by_key.new rows }
-{
-    if let Some(row) = gone {
-        let _ = by_key.remove(alloc, right, &row);
+    /// These entries, and the rows by their values in the columns of `keys`.
+    pub fn from_ordered(
+        alloc: Global,
+        right: &[u32],
+        keys: &[u32],
+        rows: BTreeMap<Row, Entries>,
+    ) -> Result<Self, AllocError>
+        ensures found { IfOk result (λ kept. (u : List Value) →
+            kept_for kept.entries u ≡ last_for rows.entries u None) }
+        ensures ascend { IfOk result (λ _. RowsAscend rows.entries) }
+        ensures listed { IfOk result (λ kept. Listed right.now kept.keyed kept.entries) }
+    {
+        let rows = hashed_rows(alloc, rows)?;
+        let by_key = rows_by_key(alloc, right, keys, &rows)?;
+        Ok(RowEntries { rows, by_key })
     }
-}
 
-/// Forgets what stands before the position `next`, of these rows, and those of which nothing is left.
-pub fn forget_rows(
-    alloc: Global,
-    rows: &mut HashMap<Row, Entries>,
-    by_key: &mut RowsByKey,
-    right: &[u32],
-    table: Vec<Row>,
-    next: u64,
-)
-    ensures entries { (u : List Value) → list_for rows.new.entries u
-        ≡ cond (has_row table.items u) (from_place next (list_for rows.old.entries u))
-        (list_for rows.old.entries u) }
-    ensures some { NoneEmpty rows.old.entries → NoneEmpty rows.new.entries }
-    ensures listed { Listed right.now by_key.old rows.old.entries → Listed right.now by_key.new rows.new.entries }
-{
-    for row in table {
-        let gone = forget_row(rows, row, next);
-        unlist(alloc, by_key, right, gone);
+    /// Copies of the entries, by ascending rows.
+    pub fn in_order(&self, alloc: Global) -> Result<BTreeMap<Row, Entries>, AllocError>
+        ensures found { IfOk result (λ map. (u : List Value) →
+            kept_for map.entries u ≡ last_for self.now.entries u None) }
+        ensures ascend { IfOk result (λ map. RowsAscend map.entries) }
+        ensures differ { IfOk result (λ _. RowsDiffer self.now.entries) }
+    {
+        ordered_rows(alloc, &self.rows)
     }
-}
 
-/// Appends the rows of which some entry meets UNTIL at the position `i`, whose time is `x`.
-pub fn push_met(
-    alloc: Global,
-    rows: &HashMap<Row, Entries>,
-    out: &mut Vec<Row>,
-    interval: &Interval,
-    i: u64,
-    x: u64,
-) -> Result<(), AllocError>
-    ensures rows { OnOk result ((u : List Value) → has_row out.new.items u
-        ≡ (has_row out.old.items u
-        || list_any (λ e. eq_by_cmp row_cmp u e.0 && met_by interval.now i x e.1) rows.now.entries)) }
-    ensures differ { RowsDiffer rows.now.entries }
-{
-    for (row, entries) in rows {
-        if entries.met(interval, i, x) {
-            out.push(row.copy(alloc)?)?;
-        }
+    /// Finds rows by their values in these columns at once from now on.
+    pub fn find_by(&mut self, alloc: Global, right: &[u32], keys: &[u32]) -> Result<(), AllocError>
+        ensures entries { self.new.entries ≡ self.old.entries }
+        ensures listed { OnOk result (Listed right.now self.new.keyed self.new.entries) }
+        ensures old { OnErr result (self.new ≡ self.old) }
+    {
+        self.by_key = rows_by_key(alloc, right, keys, &self.rows)?;
+        Ok(())
     }
-    Ok(())
-}
 
-/// Whether some entry of a row meets UNTIL at the position `i`, whose time is `x`.
-pub fn row_met(rows: &HashMap<Row, Entries>, row: &Row, interval: &Interval, i: u64, x: u64) -> bool
-    ensures { result ≡ met_by interval.now i x (list_for rows.now.entries row.now) }
-{
-    match rows.get(row) {
-        Some(entries) => entries.met(interval, i, x),
-        None => false,
+    /// The columns of the keys.
+    pub fn keys(&self) -> &[u32]
+        ensures { result.now ≡ self.now.keyed.columns }
+    {
+        self.by_key.columns()
+    }
+
+    /// Whether rows are found at once by their values in these columns.
+    pub fn finds_by(&self, columns: &[u32]) -> bool
+        ensures some { IsTrue result → nat_eq (length self.now.keyed.columns) 0 ≡ false }
+        ensures same { IsTrue result → columns.now ≡ self.now.keyed.columns }
+    {
+        self.by_key.finds_by(columns)
+    }
+
+    /// Adds the rows of the right operand's table at the position `place`, which none of the entries
+    /// reaches yet. Each run begins where `starts` tells of the row's part at the columns `left`.
+    pub fn add(
+        &mut self,
+        alloc: Global,
+        starts: &RunStarts,
+        right: &[u32],
+        left: &[u32],
+        negated: bool,
+        table: &[Row],
+        place: u64,
+        ts: u64,
+    ) -> Result<(), AllocError>
+        requires sorted { IsStrictlySortedBy row_cmp table.now }
+        requires before { (u : List Value) → IsTrue (all_before place (list_for self.old.entries u)) }
+        requires some { NoneEmpty self.old.entries }
+        requires listed { Listed right.now self.old.keyed self.old.entries }
+        ensures entries { OnOk result ((u : List Value) → list_for self.new.entries u
+            ≡ cond (has_row table.now u) (list_for self.old.entries u ++ record {
+              place = place;
+              start = start_of negated place starts.now (part right.now left.now u);
+              ts = ts;
+            } ∷ [])
+            (list_for self.old.entries u)) }
+        ensures some { OnOk result (NoneEmpty self.new.entries) }
+        ensures listed { OnOk result (Listed right.now self.new.keyed self.new.entries) }
+    {
+        list_rows(alloc, &mut self.by_key, &self.rows, right, table)?;
+        add_rows(alloc, &mut self.rows, starts, right, left, negated, table, place, ts)?;
+        Ok(())
+    }
+
+    /// Forgets what stands before the position `next`, of these rows, and those of which nothing is left.
+    pub fn forget(&mut self, alloc: Global, right: &[u32], table: Vec<Row>, next: u64)
+        ensures entries { (u : List Value) → list_for self.new.entries u
+            ≡ cond (has_row table.items u) (from_place next (list_for self.old.entries u))
+            (list_for self.old.entries u) }
+        ensures some { NoneEmpty self.old.entries → NoneEmpty self.new.entries }
+        ensures listed { Listed right.now self.old.keyed self.old.entries →
+            Listed right.now self.new.keyed self.new.entries }
+    {
+        forget_rows(alloc, &mut self.rows, &mut self.by_key, right, table, next);
+    }
+
+    /// Whether some entry of a row meets UNTIL at the position `i`, whose time is `x`.
+    pub fn row_met(&self, row: &Row, interval: &Interval, i: u64, x: u64) -> bool
+        ensures { result ≡ met_by interval.now i x (list_for self.now.entries row.now) }
+    {
+        row_met(&self.rows, row, interval, i, x)
+    }
+
+    /// Appends the rows of which some entry meets UNTIL at the position `i`, whose time is `x`.
+    pub fn push_met(
+        &self,
+        alloc: Global,
+        out: &mut Vec<Row>,
+        interval: &Interval,
+        i: u64,
+        x: u64,
+    ) -> Result<(), AllocError>
+        ensures rows { OnOk result ((u : List Value) → has_row out.new.items u
+            ≡ (has_row out.old.items u
+            || list_any (λ e. eq_by_cmp row_cmp u e.0 && met_by interval.now i x e.1) self.now.entries)) }
+        ensures differ { RowsDiffer self.now.entries }
+    {
+        push_met(alloc, &self.rows, out, interval, i, x)
+    }
+
+    /// Appends the rows that are listed by these keys and of which some entry meets UNTIL at the position `i`,
+    /// whose time is `x`.
+    pub fn push_found(
+        &self,
+        alloc: Global,
+        out: &mut Vec<Row>,
+        keys: &[Row],
+        interval: &Interval,
+        i: u64,
+        x: u64,
+    ) -> Result<(), AllocError>
+        ensures { OnOk result ((u : List Value) → has_row out.new.items u ≡ (has_row out.old.items u
+            || list_any (λ k. has_row (list_for self.now.keyed.sets k) u
+            && met_by interval.now i x (list_for self.now.entries u)) keys.now)) }
+    {
+        self.by_key.push_found(alloc, &self.rows, out, keys, interval, i, x)
     }
 }

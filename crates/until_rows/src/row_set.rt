@@ -10,7 +10,7 @@ ghost use Rattle.until_rows.specs.Entries.{met_by};
 ghost use Rattle.until_rows.specs.HeldRows.{held_rows};
 
 use crate::entries::Entries;
-use crate::row_entries::row_met;
+use crate::entry_map::row_met;
 use mfotl_model::{Interval, Row};
 use std::alloc::{AllocError, Global};
 use std::collections::{HashMap, HashSet};

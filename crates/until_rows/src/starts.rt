@@ -7,38 +7,28 @@ ghost use Rattle.mfotl_model.specs.declared.value.Value.{Value};
 ghost use Rattle.relations.specs.KeptRows.{kept_for};
 ghost use Rattle.until_rows.specs.Starts.{later_start, start_of, start_taken};
 
-use crate::start_map::StartMap;
+use crate::run_starts::RunStarts;
 use mfotl_model::Row;
 use std::alloc::{AllocError, Global};
-
-/// Where the run of a row begins, of which the positions before `place` were taken.
-pub fn start_at(starts: &StartMap, negated: bool, place: u64, row: &Row) -> u64
-    ensures { result ≡ start_of negated place starts.now row.now }
-{
-    match starts.get(row) {
-        Some(start) => start,
-        None => { if negated { 0 } else { place } }
-    }
-}
 
 // the run of one row goes on, or begins at the position `place`, and no other does
 #[inline(never)]
 fn begin_alone(
     alloc: Global,
-    starts: &mut StartMap,
+    starts: &mut RunStarts,
     row: &Row,
     place: u64,
 ) -> Result<(), AllocError>
     ensures { OnOk result ((w : List Value) → kept_for starts.new w
         ≡ cond (is_at (row_cmp row.now) w) (Some (start_of false place starts.old w)) None) }
 {
-    let start = start_at(starts, false, place, row);
+    let start = starts.start_at(false, place, row);
     starts.put_alone(alloc, row.copy(alloc)?, start);
     Ok(())
 }
 
 // Where this row's run is the only one already, nothing changes.
-fn keep_alone(alloc: Global, starts: &mut StartMap, row: &Row, place: u64) -> Result<(), AllocError>
+fn keep_alone(alloc: Global, starts: &mut RunStarts, row: &Row, place: u64) -> Result<(), AllocError>
     ensures { OnOk result ((w : List Value) → kept_for starts.new w
         ≡ cond (is_at (row_cmp row.now) w) (Some (start_of false place starts.old w)) None) }
 {
@@ -50,15 +40,15 @@ fn keep_alone(alloc: Global, starts: &mut StartMap, row: &Row, place: u64) -> Re
 
 fn keep_start(
     alloc: Global,
-    kept: &mut StartMap,
-    starts: &StartMap,
+    kept: &mut RunStarts,
+    starts: &RunStarts,
     row: &Row,
     place: u64,
 ) -> Result<(), AllocError>
     ensures { OnOk result ((w : List Value) → kept_for kept.new w
         ≡ cond (is_at (row_cmp row.now) w) (Some (start_of false place starts.now row.now)) (kept_for kept.old w)) }
 {
-    kept.insert(row.copy(alloc)?, start_at(starts, false, place, row))?;
+    kept.insert(row.copy(alloc)?, starts.start_at(false, place, row))?;
     Ok(())
 }
 
@@ -66,14 +56,14 @@ fn keep_start(
 #[inline(never)]
 fn kept_starts(
     alloc: Global,
-    starts: &StartMap,
+    starts: &RunStarts,
     table: &[Row],
     place: u64,
-) -> Result<StartMap, AllocError>
+) -> Result<RunStarts, AllocError>
     ensures { IfOk result (λ kept. (w : List Value) → kept_for kept w
         ≡ cond (has_row table.now w) (Some (start_of false place starts.now w)) None) }
 {
-    let mut kept = StartMap::new(alloc);
+    let mut kept = RunStarts::new(alloc);
     for row in table {
         keep_start(alloc, &mut kept, starts, row, place)?;
     }
@@ -83,7 +73,7 @@ fn kept_starts(
 // only those runs are kept
 fn keep_starts(
     alloc: Global,
-    starts: &mut StartMap,
+    starts: &mut RunStarts,
     table: &[Row],
     place: u64,
 ) -> Result<(), AllocError>
@@ -102,7 +92,7 @@ fn keep_starts(
 #[inline(never)]
 fn break_starts(
     alloc: Global,
-    starts: &mut StartMap,
+    starts: &mut RunStarts,
     table: &[Row],
     behind: u64,
 ) -> Result<(), AllocError>
@@ -115,27 +105,8 @@ fn break_starts(
     Ok(())
 }
 
-/// Applies the rows of the left operand's table at the position `place`.
-pub fn apply_left(
-    alloc: Global,
-    starts: &mut StartMap,
-    negated: bool,
-    table: &[Row],
-    place: u64,
-) -> Result<(), AllocError>
-    requires { place < 2 ^ 63 }
-    ensures { OnOk result ((w : List Value) → kept_for starts.new w
-        ≡ start_taken negated place table.now starts.old w) }
-{
-    if negated {
-        break_starts(alloc, starts, table, place + 1)
-    } else {
-        keep_starts(alloc, starts, table, place)
-    }
-}
-
 // forgets the start of one row where it is not behind the position `next`
-fn forget_start(starts: &mut StartMap, row: &Row, next: u64)
+fn forget_start(starts: &mut RunStarts, row: &Row, next: u64)
     ensures { (w : List Value) → kept_for starts.new w
         ≡ cond (is_at (row_cmp row.now) w) (later_start next (kept_for starts.old w))
         (kept_for starts.old w) }
@@ -148,13 +119,43 @@ fn forget_start(starts: &mut StartMap, row: &Row, next: u64)
     }
 }
 
-/// Forgets the starts of these rows that are not behind the position `next`.
-pub fn forget_starts(starts: &mut StartMap, table: &[Row], next: u64)
-    ensures { (w : List Value) → kept_for starts.new w
-        ≡ cond (has_row table.now w) (later_start next (kept_for starts.old w))
-        (kept_for starts.old w) }
-{
-    for row in table {
-        forget_start(starts, row, next);
+impl RunStarts {
+    /// Where the run of a row begins, of which the positions before `place` were taken.
+    pub fn start_at(&self, negated: bool, place: u64, row: &Row) -> u64
+        ensures { result ≡ start_of negated place self.now row.now }
+    {
+        match self.get(row) {
+            Some(start) => start,
+            None => { if negated { 0 } else { place } }
+        }
+    }
+
+    /// Applies the rows of the left operand's table at the position `place`.
+    pub fn apply_left(
+        &mut self,
+        alloc: Global,
+        negated: bool,
+        table: &[Row],
+        place: u64,
+    ) -> Result<(), AllocError>
+        requires { place < 2 ^ 63 }
+        ensures { OnOk result ((w : List Value) → kept_for self.new w
+            ≡ start_taken negated place table.now self.old w) }
+    {
+        if negated {
+            break_starts(alloc, self, table, place + 1)
+        } else {
+            keep_starts(alloc, self, table, place)
+        }
+    }
+
+    /// Forgets the starts of these rows that are not behind the position `next`.
+    pub fn forget(&mut self, table: &[Row], next: u64)
+        ensures { (w : List Value) → kept_for self.new w
+            ≡ cond (has_row table.now w) (later_start next (kept_for self.old w)) (kept_for self.old w) }
+    {
+        for row in table {
+            forget_start(self, row, next);
+        }
     }
 }

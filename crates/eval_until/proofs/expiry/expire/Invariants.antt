@@ -9,7 +9,7 @@ abbrev pub invariant-loop-front : goal.invariant-loop-front
 invariant-loop-front l = record {
   rows : (u : List Value) → IsThinned l.next (list_for l.fn.rows.entries u) (list_for l.rows.entries u);
   some : NoneEmpty l.fn.rows.entries → NoneEmpty l.rows.entries;
-  listed : Listed l.right l.fn.by_key l.fn.rows.entries → Listed l.right l.by_key l.rows.entries;
+  listed : Listed l.right l.fn.rows.keyed l.fn.rows.entries → Listed l.right l.rows.keyed l.rows.entries;
   starts : (w : List Value) → IsLater l.negated l.next (kept_for l.fn.starts w)
       (kept_for l.starts w);
   covered : Covered l.queue.items l.rows.entries;
