@@ -281,7 +281,9 @@ impl Ahead {
             has_row table.rows u ≡ met self.now i x u) }
     {
         let mut rows = Vec::new(alloc);
-        self.contents.rows.push_met(alloc, &mut rows, &self.interval, i, x)?;
+        self.contents
+            .rows
+            .push_met(alloc, &mut rows, &self.interval, i, x)?;
         let columns = Columns::from_slice(alloc, self.right.as_slice())?;
         Ok(Table::from_rows(columns, rows))
     }

@@ -21,6 +21,7 @@ pub struct Entry {
     pub ts: u64,
 }
 
+/// The entries of one row, by ascending positions. Up to two stand in place.
 #[derive(Drop)]
 pub struct Entries {
     list: ShortQueue<Entry>,
@@ -55,7 +56,7 @@ fn mark_of(entry: Entry, pulled: u64, times: &VecDeque<u64>) -> Result<Mark, All
 impl Entries {
     ghost use Rattle.until_rows.specs.Entries.{from_place, met_by};
 
-    pub fn new() -> Self
+    pub(crate) fn new() -> Self
         ensures { result ≡ [] }
     {
         Entries {
@@ -64,7 +65,7 @@ impl Entries {
     }
 
     /// The entries of a list, by ascending positions.
-    pub fn from_vec(alloc: Global, list: Vec<Entry>) -> Result<Self, AllocError>
+    pub(crate) fn from_vec(alloc: Global, list: Vec<Entry>) -> Result<Self, AllocError>
         requires { PlacesAscend list.items }
         ensures { IfOk result (λ entries. entries ≡ list.items) }
     {
@@ -73,7 +74,7 @@ impl Entries {
     }
 
     /// The marks of the entries, where `times` are those of the positions from `pulled` on.
-    pub fn marks(
+    pub(crate) fn marks(
         &self,
         alloc: Global,
         pulled: u64,
@@ -89,7 +90,7 @@ impl Entries {
         Ok(marks)
     }
 
-    pub fn copy(&self, alloc: Global) -> Result<Self, AllocError>
+    pub(crate) fn copy(&self, alloc: Global) -> Result<Self, AllocError>
         ensures { IfOk result (λ copy. copy ≡ self.now) }
     {
         let items = self.list.to_vec(alloc)?;
@@ -97,12 +98,14 @@ impl Entries {
         Ok(Entries { list })
     }
 
+    /// How many entries there are.
     pub fn len(&self) -> usize
         ensures { result ≡ length self.now }
     {
         self.list.len()
     }
 
+    /// The entry at a place, the first being at 0.
     pub fn get(&self, place: usize) -> Entry
         requires { place < length self.now }
         ensures { result ≡ slice_index_or self.now place result }
@@ -110,14 +113,14 @@ impl Entries {
         self.list.get(place)
     }
 
-    pub fn is_empty(&self) -> bool
+    pub(crate) fn is_empty(&self) -> bool
         ensures { result ≡ (length self.now == 0) }
     {
         self.list.is_empty()
     }
 
     /// One entry more, behind the others.
-    pub fn push(&mut self, alloc: Global, entry: Entry) -> Result<(), AllocError>
+    pub(crate) fn push(&mut self, alloc: Global, entry: Entry) -> Result<(), AllocError>
         requires { IsTrue (all_before entry.place self.old) }
         ensures { OnOk result (self.new ≡ self.old ++ entry ∷ []) }
     {
@@ -126,7 +129,7 @@ impl Entries {
     }
 
     /// Forgets what stands before the position `next`.
-    pub fn forget(&mut self, next: u64)
+    pub(crate) fn forget(&mut self, next: u64)
         ensures { self.new ≡ from_place next self.old }
     {
         while let Some(first) = self.list.front() {
@@ -138,7 +141,7 @@ impl Entries {
     }
 
     /// Whether some entry meets UNTIL at the position `i`, whose time is `x`.
-    pub fn met(&self, interval: &Interval, i: u64, x: u64) -> bool
+    pub(crate) fn met(&self, interval: &Interval, i: u64, x: u64) -> bool
         ensures { result ≡ met_by interval.now i x self.now }
     {
         for k in 0..self.list.len() {

@@ -130,7 +130,17 @@ impl RowEntries {
         ensures listed { OnOk result (Listed right.now self.new.keyed self.new.entries) }
     {
         list_rows(alloc, &mut self.by_key, &self.rows, right, table)?;
-        add_rows(alloc, &mut self.rows, starts, right, left, negated, table, place, ts)?;
+        add_rows(
+            alloc,
+            &mut self.rows,
+            starts,
+            right,
+            left,
+            negated,
+            table,
+            place,
+            ts,
+        )?;
         Ok(())
     }
 
@@ -185,6 +195,7 @@ impl RowEntries {
             || list_any (λ k. has_row (list_for self.now.keyed.sets k) u
             && met_by interval.now i x (list_for self.now.entries u)) keys.now)) }
     {
-        self.by_key.push_found(alloc, &self.rows, out, keys, interval, i, x)
+        self.by_key
+            .push_found(alloc, &self.rows, out, keys, interval, i, x)
     }
 }

@@ -28,7 +28,12 @@ fn begin_alone(
 }
 
 // Where this row's run is the only one already, nothing changes.
-fn keep_alone(alloc: Global, starts: &mut RunStarts, row: &Row, place: u64) -> Result<(), AllocError>
+fn keep_alone(
+    alloc: Global,
+    starts: &mut RunStarts,
+    row: &Row,
+    place: u64,
+) -> Result<(), AllocError>
     ensures { OnOk result ((w : List Value) → kept_for starts.new w
         ≡ cond (is_at (row_cmp row.now) w) (Some (start_of false place starts.old w)) None) }
 {
