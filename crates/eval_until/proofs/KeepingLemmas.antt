@@ -8,11 +8,13 @@ use Rattle.mfotl_model.specs.declared.{interval.Interval.Interval, value.Value.V
 use Rattle.relations.specs.{KeptRows.kept_for, KeptRows.list_for, Pushed.turned}
 use Rattle.relations.proofs.{MapLemmas.either, TableRows.all_rows, TableRows.lacks_other, TestLemmas.all_push}
 use Rattle.relations.proofs.{TestLemmas.all_weaker}
-use Rattle.eval_until.specs.declared.{contents.Taken.Taken, entries.Entry.Entry}
-use Rattle.eval_until.specs.{Entries.meets, Entries.met_by, Starts.start_of, Starts.start_taken}
+use Rattle.eval_until.specs.declared.contents.Taken.{Taken}
+use Rattle.until_rows.specs.declared.entries.Entry.{Entry}
+use Rattle.until_rows.specs.{Entries.meets, Entries.met_by, Starts.start_of, Starts.start_taken}
 use Rattle.eval_until.specs.Keeping.{Below, IsLater, Keeps, Queues, Sized, breaks_before, names}
-use Rattle.eval_until.specs.Rules.{NoneEmpty, PlacesAscend, StartsAbove, Waiting, all_before}
-use Rattle.eval_until.proofs.EntriesLemmas.{ascend_push}
+use Rattle.until_rows.specs.Rules.{NoneEmpty, PlacesAscend, all_before}
+use Rattle.eval_until.specs.Rules.{StartsAbove, Waiting}
+use Rattle.until_rows.proofs.EntriesLemmas.{ascend_push}
 use Rattle.eval_until.proofs.QueueLemmas.{after_push, breaks_last, breaks_push, broken_fresh, entries_waiting, all_kept}
 use Rattle.eval_until.proofs.QueueLemmas.{covered_kept, fresh_push, names_last, names_push, rising_kept, rising_push}
 use Rattle.eval_until.proofs.QueueLemmas.{some_weaker, starts_kept}

@@ -1,14 +1,9 @@
 pub mod UntilLemmas
 pub mod NextLemmas
 pub mod DueLemmas
-pub mod EntriesLemmas
-pub mod RowsLemmas
-pub mod OrderLemmas
+pub mod ThinnedLemmas
 pub mod QueueLemmas
 pub mod KeepingLemmas
 pub mod FollowsLemmas
 pub mod TakingLemmas
 pub mod ResumeLemmas
-pub mod StartLemmas
-pub mod SetLemmas
-pub mod ByKeyLemmas

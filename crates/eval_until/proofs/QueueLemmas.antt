@@ -7,8 +7,9 @@ use Rattle.std.specs.{List.list_all, Option.IfSome}
 use Rattle.mfotl_model.specs.Tables.{has_row}
 use Rattle.mfotl_model.specs.declared.value.Value.{Value}
 use Rattle.relations.proofs.{QueueLemmas.rises_push, TestLemmas.all_push, TestLemmas.all_weaker}
-use Rattle.eval_until.specs.declared.{contents.Taken.Taken, entries.Entry.Entry}
-use Rattle.eval_until.specs.{Entries.from_place, Starts.later_start}
+use Rattle.eval_until.specs.declared.contents.Taken.{Taken}
+use Rattle.until_rows.specs.declared.entries.Entry.{Entry}
+use Rattle.until_rows.specs.{Entries.from_place, Starts.later_start}
 use Rattle.eval_until.specs.Keeping.{Fresh, IsLater, NotAfter, Rising, breaks_before, names}
 
 -- the entries that are left stand in the rest of the queue

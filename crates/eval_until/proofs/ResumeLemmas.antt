@@ -11,8 +11,10 @@ use Rattle.relations.specs.KeptRows.{RowsAscend, kept_for, list_for}
 use Rattle.relations.proofs.{KeptLemmas.each_kept, QueueLemmas.all_own, QueueLemmas.any_with, TestLemmas.all_weaker}
 use Rattle.eval_until.specs.Keeping.{Keeps, Rising, Sized, breaks_before, names}
 use Rattle.eval_until.specs.Recalled.{run_begins, is_recalled}
-use Rattle.eval_until.specs.Rules.{Ascending, NoneEmpty, PlacesAscend, StartsAbove, StartsBelow, Waiting}
-use Rattle.eval_until.specs.declared.{contents.Taken.Taken, entries.Entry.Entry}
+use Rattle.eval_until.specs.Rules.{Ascending, StartsAbove, StartsBelow, Waiting}
+use Rattle.until_rows.specs.Rules.{NoneEmpty, PlacesAscend}
+use Rattle.eval_until.specs.declared.contents.Taken.{Taken}
+use Rattle.until_rows.specs.declared.entries.Entry.{Entry}
 
 -- the rows name the position of each entry that is kept for a row
 named_own : (rows : List (List Value × List Entry)) (u : List Value)

@@ -3,9 +3,9 @@ use Rattle.std.specs.Prelude.{ℕ, Bool, List}
 use Rattle.mfotl_model.specs.declared.interval.Interval.{Interval}
 use Rattle.mfotl_model.specs.declared.value.Value.{Value}
 use Rattle.relations.specs.KeptRows.{list_for}
-use Rattle.eval_until.specs.declared.entries.Entry.{Entry}
-use Rattle.eval_until.specs.Entries.{met_by}
-use Rattle.eval_until.specs.Starts.{start_of}
+use Rattle.until_rows.specs.declared.entries.Entry.{Entry}
+use Rattle.until_rows.specs.Entries.{met_by}
+use Rattle.until_rows.specs.Starts.{start_of}
 
 -- the operands' columns, whether the left one is negated, how many positions were pulled, of how many the
 -- tables were taken, where the left operand's present runs begin, and for each row of the right operand its

@@ -1,6 +1,6 @@
 -- Worked examples: the times that the entries of marks have, in full.
 use Rattle.std.specs.Prelude.{◌≡◌, [], ◌∷◌}
-use Rattle.eval_until.specs.Recalled.{entry_at}
+use Rattle.until_rows.specs.Recalled.{entry_at}
 
 -- a mark at the second of the positions from 5 on has that one's time
 abbrev pub MarkHasItsTime : Type 0

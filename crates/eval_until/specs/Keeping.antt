@@ -8,10 +8,11 @@ use Rattle.mfotl_model.specs.declared.value.Value.{Value}
 use Rattle.relations.specs.KeptRows.{kept_for, list_for}
 use Rattle.relations.specs.Queues.{RisesBy}
 use Rattle.eval_until.specs.declared.contents.Taken.{Taken}
-use Rattle.eval_until.specs.declared.entries.Entry.{Entry}
-use Rattle.eval_until.specs.Entries.{from_place}
-use Rattle.eval_until.specs.Rules.{Ascending, NoneEmpty, StartsBelow}
-use Rattle.eval_until.specs.Starts.{later_start}
+use Rattle.until_rows.specs.declared.entries.Entry.{Entry}
+use Rattle.until_rows.specs.Entries.{from_place}
+use Rattle.eval_until.specs.Rules.{Ascending, StartsBelow}
+use Rattle.until_rows.specs.Rules.{NoneEmpty}
+use Rattle.until_rows.specs.Starts.{later_start}
 
 -- each row that entries are kept for has n values
 abbrev pub Sized : ℕ → List (List Value × List Entry) → Type 0

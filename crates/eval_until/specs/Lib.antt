@@ -1,14 +1,9 @@
 pub mod NextView
 pub mod UntilBefore
 pub mod UntilLaws
-pub mod Entries
-pub mod Starts
-pub mod InOrder
 pub mod AheadView
 pub mod Rules
 pub mod Keeping
-pub mod HeldRows
-pub mod ByKey
 pub mod UntilView
 pub mod NextData
 pub mod Recalled

@@ -1,10 +1,11 @@
 -- What is kept of positions, and no more.
-use Rattle.std.specs.Prelude.{◌≡◌, ℕ, ◌<◌, ◌≤◌, Bool, true, ◌&&◌, nat_le, nat_lt, List, [], ◌∷◌, length}
+use Rattle.std.specs.Prelude.{◌≡◌, ℕ, ◌<◌, ◌≤◌, true, ◌&&◌, nat_le, nat_lt, List}
 use Rattle.std.specs.List.{list_all}
 use Rattle.std.specs.Option.{IfSome}
 use Rattle.mfotl_model.specs.declared.value.Value.{Value}
 use Rattle.relations.specs.KeptRows.{kept_for, list_for}
-use Rattle.eval_until.specs.declared.entries.Entry.{Entry}
+use Rattle.until_rows.specs.Rules.{PlacesAscend}
+use Rattle.until_rows.specs.declared.entries.Entry.{Entry}
 
 -- each entry stands at a position that was taken and not pulled, and its run doesn't begin behind it
 abbrev pub Waiting : ℕ → ℕ → List (List Value × List Entry) → Type 0
@@ -12,22 +13,9 @@ Waiting pulled taken rows = (u : List Value)
     → list_all (λ e. nat_le pulled e.place && nat_lt e.place taken && nat_le e.start e.place) (list_for rows u)
     ≡ true
 
--- whether each of the entries stands before a position
-abbrev pub all_before : ℕ → List Entry → Bool
-all_before p entries = list_all (λ e. nat_lt e.place p) entries
-
--- the positions of entries ascend strictly
-abbrev pub PlacesAscend : List Entry → Type 0
-PlacesAscend [] = Unit {0}
-PlacesAscend (e ∷ es) = (list_all (λ f. nat_lt e.place f.place) es ≡ true) × PlacesAscend es
-
--- those of each row do
+-- the positions of the entries of each row ascend strictly
 abbrev pub Ascending : List (List Value × List Entry) → Type 0
 Ascending rows = (u : List Value) → PlacesAscend (list_for rows u)
-
--- each row that is kept has an entry
-abbrev pub NoneEmpty : List (List Value × List Entry) → Type 0
-NoneEmpty rows = (u : List Value) → IfSome (kept_for rows u) (λ entries. 0 < length entries)
 
 -- no kept start is behind the positions taken
 abbrev pub StartsBelow : ℕ → List (List Value × ℕ) → Type 0

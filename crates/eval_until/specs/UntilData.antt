@@ -5,7 +5,7 @@ use Rattle.mfotl_model.specs.declared.interval.Interval.{Interval}
 use Rattle.relations.specs.KeptRows.{RowsAscend}
 use Rattle.relations.specs.Pushed.{AreOver}
 use Rattle.eval_until.specs.Keeping.{Sized}
-use Rattle.eval_until.specs.Recalled.{entries_kept, starts_kept}
+use Rattle.until_rows.specs.Recalled.{entries_kept, starts_kept}
 use Rattle.eval_until.specs.Rules.{Ascending, StartsAbove, StartsBelow, Waiting}
 use Rattle.eval_until.specs.UntilView.{UntilOf}
 use Rattle.eval_until.specs.declared.recalled.UntilData.{UntilData}

@@ -4,30 +4,27 @@ ghost use Rattle.std.specs.Prelude.{IfOk, IsTrue, OnErr, OnOk, cond, if◌then�
 ghost use Rattle.std.specs.List.{AllByRecursion};
 ghost use Rattle.std.specs.List.Sorted.{IsStrictlySortedBy};
 ghost use Rattle.relations.specs.KeptRows.{RowsAscend};
-ghost use Rattle.eval_until.specs.Recalled.{entries_kept, starts_kept};
+ghost use Rattle.until_rows.specs.Recalled.{entries_kept, starts_kept};
 ghost use Rattle.mfotl_model.specs.Intervals.{in_interval};
 ghost use Rattle.mfotl_model.specs.Tables.{all_apart, has_row, part};
 ghost use Rattle.mfotl_model.specs.Values.{row_cmp};
 ghost use Rattle.mfotl_model.specs.declared.value.Value.{Value};
 ghost use Rattle.relations.specs.Pushed.{turned};
 ghost use Rattle.eval_until.specs.AheadView.{AheadOf, met, run_start};
-ghost use Rattle.eval_until.specs.ByKey.{Listed};
-ghost use Rattle.eval_until.specs.InOrder.{in_order};
+ghost use Rattle.until_rows.specs.ByKey.{Listed};
+ghost use Rattle.until_rows.specs.InOrder.{in_order};
 ghost use Rattle.eval_until.specs.Keeping.{Keeps, Sized};
-ghost use Rattle.eval_until.specs.Rules.{Ascending, NoneEmpty, StartsAbove, StartsBelow, Waiting};
+ghost use Rattle.eval_until.specs.Rules.{Ascending, StartsAbove, StartsBelow, Waiting};
+ghost use Rattle.until_rows.specs.Rules.{NoneEmpty};
 
-use crate::by_key::rows_by_key;
 use crate::contents::{Contents, take_position};
 use crate::expiry::expire;
-use crate::ordered::ordered_rows;
-use crate::rebuild::{kept_marks, kept_starts, rows_map, starts_map};
-use crate::recalled::{KeptMarks, KeptStart};
-use crate::row_entries::{push_met, row_met};
 use mfotl_model::{Interval, Row};
 use relations::{Columns, Table};
 use std::alloc::{AllocError, Global};
 use std::collections::VecDeque;
 use std::marker::Model;
+use until_rows::{KeptMarks, KeptStart, kept_marks, kept_starts, rows_map, starts_map};
 
 /// What UNTIL has seen from the next position on.
 #[derive(Drop)]
@@ -43,8 +40,8 @@ pub struct Ahead {
 
 impl Model for Ahead {
     ghost use Rattle.eval_until.specs.AheadView.{AheadOf};
-    ghost use Rattle.eval_until.specs.ByKey.{Listed};
-    ghost use Rattle.eval_until.specs.InOrder.{in_order};
+    ghost use Rattle.until_rows.specs.ByKey.{Listed};
+    ghost use Rattle.until_rows.specs.InOrder.{in_order};
     ghost use Rattle.eval_until.specs.Keeping.{Keeps};
 
     ghost Value = { AheadOf };
@@ -63,7 +60,7 @@ impl Model for Ahead {
     ghost invariant = { λ k. record {
       keeps : Keeps k.negated k.right.items k.pulled k.taken k.contents.starts k.contents.rows.entries
           k.contents.queue.items;
-      listed : Listed k.right.items k.contents.by_key k.contents.rows.entries;
+      listed : Listed k.right.items k.contents.rows.keyed k.contents.rows.entries;
     } };
 }
 
@@ -129,7 +126,7 @@ impl Ahead {
         let starts = starts_map(alloc, starts)?;
         let rows = rows_map(alloc, rows, pulled, times)?;
         let right = self.right.as_slice();
-        let keys = self.contents.by_key.columns();
+        let keys = self.contents.rows.keys();
         let contents = Contents::recalled(alloc, right, keys, self.negated, starts, rows)?;
         self.go_on(contents, pulled, taken);
         Ok(())
@@ -138,7 +135,7 @@ impl Ahead {
     fn go_on(&mut self, contents: Contents, pulled: u64, taken: u64)
         requires kept { Keeps self.old.negated self.old.right pulled taken contents.starts contents.rows.entries
             contents.queue.items }
-        requires listed { Listed self.old.right contents.by_key contents.rows.entries }
+        requires listed { Listed self.old.right contents.rows.keyed contents.rows.entries }
         ensures { self.new ≡ record self.old {
           pulled = pulled;
           taken = taken;
@@ -156,7 +153,7 @@ impl Ahead {
         ensures { self.new ≡ self.old }
     {
         let right = self.right.as_slice();
-        self.contents.by_key = rows_by_key(alloc, right, keys, &self.contents.rows)?;
+        self.contents.rows.find_by(alloc, right, keys)?;
         Ok(())
     }
 
@@ -191,7 +188,7 @@ impl Ahead {
     {
         self.is_bounded();
         self.is_sized();
-        let rows = ordered_rows(alloc, &self.contents.rows)?;
+        let rows = self.contents.rows.in_order(alloc)?;
         let kept = kept_marks(alloc, &rows, self.pulled, times)?;
         Ok(kept)
     }
@@ -264,19 +261,9 @@ impl Ahead {
         let Contents {
             starts,
             rows,
-            by_key,
             queue,
         } = &mut self.contents;
-        expire(
-            alloc,
-            right,
-            rows,
-            by_key,
-            starts,
-            queue,
-            self.negated,
-            next,
-        );
+        expire(alloc, right, rows, starts, queue, self.negated, next);
         self.pulled = next;
     }
 
@@ -284,7 +271,7 @@ impl Ahead {
     pub fn met(&self, row: &Row, i: u64, x: u64) -> bool
         ensures { result ≡ met self.now i x row.now }
     {
-        row_met(&self.contents.rows, row, &self.interval, i, x)
+        self.contents.rows.row_met(row, &self.interval, i, x)
     }
 
     /// The rows of which some entry meets UNTIL at the position `i`, whose time is `x`.
@@ -294,7 +281,9 @@ impl Ahead {
             has_row table.rows u ≡ met self.now i x u) }
     {
         let mut rows = Vec::new(alloc);
-        push_met(alloc, &self.contents.rows, &mut rows, &self.interval, i, x)?;
+        self.contents
+            .rows
+            .push_met(alloc, &mut rows, &self.interval, i, x)?;
         let columns = Columns::from_slice(alloc, self.right.as_slice())?;
         Ok(Table::from_rows(columns, rows))
     }
@@ -306,12 +295,12 @@ impl Ahead {
             IsTrue (has_row keys.now.rows (part self.now.right keys.now.columns u)) →
             has_row table.rows u ≡ met self.now i x u) }
     {
-        let Contents { rows, by_key, .. } = &self.contents;
-        if !by_key.finds_by(keys.columns()) {
+        let kept = &self.contents.rows;
+        if !kept.finds_by(keys.columns()) {
             return self.table(alloc, i, x);
         }
         let mut found = Vec::new(alloc);
-        by_key.push_found(alloc, rows, &mut found, keys.rows(), &self.interval, i, x)?;
+        kept.push_found(alloc, &mut found, keys.rows(), &self.interval, i, x)?;
         let columns = Columns::from_slice(alloc, self.right.as_slice())?;
         Ok(Table::from_rows(columns, found))
     }

@@ -6,23 +6,19 @@ ghost use Rattle.mfotl_model.specs.Tables.{all_apart, has_row, part};
 ghost use Rattle.mfotl_model.specs.Values.{row_cmp};
 ghost use Rattle.mfotl_model.specs.declared.value.Value.{Value};
 ghost use Rattle.relations.specs.KeptRows.{RowsAscend, kept_for, last_for, list_for};
-ghost use Rattle.eval_until.specs.ByKey.{Listed};
-ghost use Rattle.eval_until.specs.InOrder.{in_order};
+ghost use Rattle.until_rows.specs.ByKey.{Listed};
+ghost use Rattle.until_rows.specs.InOrder.{in_order};
 ghost use Rattle.eval_until.specs.Keeping.{Keeps, Queues, Sized};
-ghost use Rattle.eval_until.specs.Rules.{Ascending, NoneEmpty, StartsAbove, StartsBelow, Waiting, all_before};
-ghost use Rattle.eval_until.specs.Starts.{start_of, start_taken};
+ghost use Rattle.eval_until.specs.Rules.{Ascending, StartsAbove, StartsBelow, Waiting};
+ghost use Rattle.until_rows.specs.Rules.{NoneEmpty, all_before};
+ghost use Rattle.until_rows.specs.Starts.{start_of, start_taken};
 
-use crate::by_key::{RowsByKey, list_rows, rows_by_key};
-use crate::entries::Entries;
-use crate::ordered::{hashed_rows, hashed_starts};
 use crate::rebuild::queue_of;
-use crate::row_entries::add_rows;
-use crate::start_map::StartMap;
-use crate::starts::apply_left;
 use mfotl_model::Row;
 use relations::Table;
 use std::alloc::{AllocError, Global};
-use std::collections::{BTreeMap, HashMap, VecDeque};
+use std::collections::{BTreeMap, VecDeque};
+use until_rows::{Entries, RowEntries, RunStarts};
 
 /// The rows of the tables of one position: the right operand's, and those of a negated left one, whose
 /// runs break there.
@@ -33,14 +29,12 @@ pub struct Taken {
     pub breaks: Vec<Row>,
 }
 
-/// What is kept of the positions that were taken: where runs begin, the entries of rows, the rows that have some by
-/// their part at some columns, and by position the rows that came with it, so that those of a pulled position are
-/// found.
+/// What is kept of the positions that were taken: where runs begin, the entries of rows, and by position the rows that
+/// came with it, so that those of a pulled position are found.
 #[derive(Drop)]
 pub struct Contents {
-    pub starts: StartMap,
-    pub rows: HashMap<Row, Entries>,
-    pub by_key: RowsByKey,
+    pub starts: RunStarts,
+    pub rows: RowEntries,
     pub queue: VecDeque<Taken>,
 }
 
@@ -52,9 +46,8 @@ impl Contents {
         ensures queue { result.queue.items ≡ [] }
     {
         Contents {
-            starts: StartMap::new(alloc),
-            rows: HashMap::new(alloc),
-            by_key: RowsByKey::new(alloc, Vec::new(alloc)),
+            starts: RunStarts::new(alloc),
+            rows: RowEntries::new(alloc),
             queue: VecDeque::new(alloc),
         }
     }
@@ -78,36 +71,17 @@ impl Contents {
             Waiting pulled taken rows.entries → StartsBelow taken starts.entries →
             (negated ≡ true → StartsAbove pulled starts.entries) →
             Keeps negated right.now pulled taken contents.starts contents.rows.entries contents.queue.items) }
-        ensures listed { IfOk result (λ contents. Listed right.now contents.by_key contents.rows.entries) }
+        ensures listed { IfOk result (λ contents. Listed right.now contents.rows.keyed contents.rows.entries) }
     {
         let queue = queue_of(alloc, negated, &starts, &rows)?;
-        let starts = hashed_starts(alloc, starts)?;
-        let found = found_rows(alloc, right, keys, rows)?;
-        let (rows, by_key) = found;
+        let starts = RunStarts::from_ordered(alloc, starts)?;
+        let found = RowEntries::from_ordered(alloc, right, keys, rows)?;
         Ok(Contents {
             starts,
-            rows,
-            by_key,
+            rows: found,
             queue,
         })
     }
-}
-
-// these entries, found by their rows' hashes, and the rows by their values in the columns of `keys`
-fn found_rows(
-    alloc: Global,
-    right: &[u32],
-    keys: &[u32],
-    rows: BTreeMap<Row, Entries>,
-) -> Result<(HashMap<Row, Entries>, RowsByKey), AllocError>
-    ensures found { IfOk result (λ found. (u : List Value) →
-        kept_for found.0.entries u ≡ last_for rows.entries u None) }
-    ensures ascend { IfOk result (λ _. RowsAscend rows.entries) }
-    ensures listed { IfOk result (λ found. Listed right.now found.1 found.0.entries) }
-{
-    let rows = hashed_rows(alloc, rows)?;
-    let by_key = rows_by_key(alloc, right, keys, &rows)?;
-    Ok((rows, by_key))
 }
 
 // the rows of the left operand's table that the queue needs: none where it is not negated
@@ -147,7 +121,7 @@ fn take_rows(
     requires sorted { IsStrictlySortedBy row_cmp rights.now }
     requires before { (u : List Value) → IsTrue (all_before place (list_for contents.old.rows.entries u)) }
     requires some { NoneEmpty contents.old.rows.entries }
-    requires listed { Listed right.now contents.old.by_key contents.old.rows.entries }
+    requires listed { Listed right.now contents.old.rows.keyed contents.old.rows.entries }
     requires few { place < 2 ^ 63 }
     ensures rows { OnOk result ((u : List Value) → list_for contents.new.rows.entries u
         ≡ cond (has_row rights.now u) (list_for contents.old.rows.entries u ++ record {
@@ -159,18 +133,12 @@ fn take_rows(
     ensures some { OnOk result (NoneEmpty contents.new.rows.entries) }
     ensures starts { OnOk result ((w : List Value) → kept_for contents.new.starts w
         ≡ start_taken negated place lefts.now contents.old.starts w) }
-    ensures listed { OnOk result (Listed right.now contents.new.by_key contents.new.rows.entries) }
+    ensures listed { OnOk result (Listed right.now contents.new.rows.keyed contents.new.rows.entries) }
     ensures queue { contents.new.queue.items ≡ contents.old.queue.items }
 {
-    let Contents {
-        starts,
-        rows,
-        by_key,
-        ..
-    } = contents;
-    list_rows(alloc, by_key, rows, right, rights)?;
-    add_rows(alloc, rows, starts, right, left, negated, rights, place, ts)?;
-    apply_left(alloc, starts, negated, lefts, place)?;
+    let Contents { starts, rows, .. } = contents;
+    rows.add(alloc, starts, right, left, negated, rights, place, ts)?;
+    starts.apply_left(alloc, negated, lefts, place)?;
     Ok(())
 }
 
@@ -189,7 +157,7 @@ pub fn take_position(
 ) -> Result<(), AllocError>
     requires kept { Keeps negated right.now pulled place
         contents.old.starts contents.old.rows.entries contents.old.queue.items }
-    requires listed { Listed right.now contents.old.by_key contents.old.rows.entries }
+    requires listed { Listed right.now contents.old.rows.keyed contents.old.rows.entries }
     requires columns { rights.columns ≡ right.now }
     requires low { pulled ≤ place }
     requires few { place < 2 ^ 63 }
@@ -205,7 +173,7 @@ pub fn take_position(
     ensures kept { OnOk result (
         Keeps negated right.now pulled (place + 1)
         contents.new.starts contents.new.rows.entries contents.new.queue.items) }
-    ensures listed { OnOk result (Listed right.now contents.new.by_key contents.new.rows.entries) }
+    ensures listed { OnOk result (Listed right.now contents.new.rows.keyed contents.new.rows.entries) }
 {
     take_rows(
         alloc,

@@ -3,30 +3,26 @@ ghost use Rattle.std.specs.Prelude.{◌≡◌, ◌&&◌, ℕ, true, List, cond};
 ghost use Rattle.mfotl_model.specs.Tables.{has_row};
 ghost use Rattle.mfotl_model.specs.declared.value.Value.{Value};
 ghost use Rattle.relations.specs.KeptRows.{kept_for, list_for};
-ghost use Rattle.eval_until.specs.ByKey.{Listed};
+ghost use Rattle.until_rows.specs.ByKey.{Listed};
 ghost use Rattle.eval_until.specs.Keeping.{Covered, CoveredStarts, Fresh, IsLater, IsThinned, NotAfter, Rising};
-ghost use Rattle.eval_until.specs.Rules.{NoneEmpty};
-ghost use Rattle.eval_until.specs.Starts.{later_start};
+ghost use Rattle.until_rows.specs.Rules.{NoneEmpty};
+ghost use Rattle.until_rows.specs.Starts.{later_start};
 
-use crate::by_key::RowsByKey;
 use crate::contents::Taken;
-use crate::entries::Entries;
-use crate::row_entries::forget_rows;
-use crate::start_map::StartMap;
-use crate::starts::forget_starts;
 use mfotl_model::Row;
 use std::alloc::Global;
-use std::collections::{HashMap, VecDeque};
+use std::collections::VecDeque;
+use until_rows::{RowEntries, RunStarts};
 
 // a run that began with the position `next` or before tells nothing more; only those of a negated
 // operand may be forgotten, since they are taken to begin with the first position
-fn forget_breaks(starts: &mut StartMap, negated: bool, table: &[Row], next: u64)
+fn forget_breaks(starts: &mut RunStarts, negated: bool, table: &[Row], next: u64)
     ensures { (w : List Value) → kept_for starts.new w
         ≡ cond (negated && has_row table.now w) (later_start next (kept_for starts.old w))
         (kept_for starts.old w) }
 {
     if negated {
-        forget_starts(starts, table, next);
+        starts.forget(table, next);
     }
 }
 
@@ -34,9 +30,8 @@ fn forget_breaks(starts: &mut StartMap, negated: bool, table: &[Row], next: u64)
 pub fn expire(
     alloc: Global,
     right: &[u32],
-    rows: &mut HashMap<Row, Entries>,
-    by_key: &mut RowsByKey,
-    starts: &mut StartMap,
+    rows: &mut RowEntries,
+    starts: &mut RunStarts,
     queue: &mut VecDeque<Taken>,
     negated: bool,
     next: u64,
@@ -46,7 +41,8 @@ pub fn expire(
     ensures rows { (u : List Value) →
         IsThinned next (list_for rows.old.entries u) (list_for rows.new.entries u) }
     ensures some { NoneEmpty rows.old.entries → NoneEmpty rows.new.entries }
-    ensures listed { Listed right.now by_key.old rows.old.entries → Listed right.now by_key.new rows.new.entries }
+    ensures listed { Listed right.now rows.old.keyed rows.old.entries →
+        Listed right.now rows.new.keyed rows.new.entries }
     ensures starts { (w : List Value) →
         IsLater negated next (kept_for starts.old w) (kept_for starts.new w) }
     ensures covered { Covered queue.new.items rows.new.entries }
@@ -64,7 +60,7 @@ pub fn expire(
             return;
         };
         let Taken { rights, breaks, .. } = old;
-        forget_rows(alloc, rows, by_key, right, rights, next);
+        rows.forget(alloc, right, rights, next);
         forget_breaks(starts, negated, breaks.as_slice(), next);
     }
 }

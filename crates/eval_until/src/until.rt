@@ -5,9 +5,10 @@ ghost use Rattle.mfotl_model.specs.Satisfaction.{Valuation};
 ghost use Rattle.mfotl_model.specs.Tables.{all_among, all_apart, has};
 ghost use Rattle.mfotl_model.specs.declared.value.Value.{Value};
 ghost use Rattle.relations.specs.KeptRows.{kept_for};
-ghost use Rattle.eval_until.specs.Recalled.{entries_kept, starts_kept};
+ghost use Rattle.until_rows.specs.Recalled.{entries_kept, starts_kept};
 ghost use Rattle.eval_until.specs.UntilData.{UntilRule, setting_of, until_of};
-ghost use Rattle.eval_until.specs.Rules.{Ascending, NoneEmpty, StartsAbove, StartsBelow, Waiting};
+ghost use Rattle.eval_until.specs.Rules.{Ascending, StartsAbove, StartsBelow, Waiting};
+ghost use Rattle.until_rows.specs.Rules.{NoneEmpty};
 ghost use Rattle.eval_until.specs.UntilView.{Follows, FollowsLeft, UntilOf};
 
 use crate::ahead::Ahead;

@@ -6,8 +6,9 @@ use Rattle.std.proofs.lemmas.List.{drop-drop, get_or-drop}
 use Rattle.std.specs.List.{list_all, list_any}
 use Rattle.mfotl_model.specs.Satisfaction.{time_at}
 use Rattle.mfotl_model.specs.declared.{interval.Interval.Interval, value.Value.Value}
-use Rattle.eval_until.specs.{Entries.meets, Entries.met_by, Recalled.entries_kept, Recalled.entry_at, Rules.Waiting}
-use Rattle.eval_until.specs.declared.{entries.Entry.Entry, recalled.KeptMarks.KeptMarks, recalled.Mark.Mark}
+use Rattle.until_rows.specs.{Entries.meets, Entries.met_by, Recalled.entries_kept, Recalled.entry_at}
+use Rattle.eval_until.specs.Rules.{Waiting}
+use Rattle.until_rows.specs.declared.{entries.Entry.Entry, recalled.KeptMarks.KeptMarks, recalled.Mark.Mark}
 use Rattle.relations.specs.KeptRows.{list_for}
 use Rattle.monitor_state.specs.StateStands.{mark_meets, marks_for}
 

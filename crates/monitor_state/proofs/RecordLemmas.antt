@@ -9,7 +9,7 @@ use Rattle.row_times.specs.{KeptTimes.times_kept}
 use Rattle.eval_since.specs.{SinceBefore.since_before, SinceView.Follows, SinceView.SinceOf}
 use Rattle.row_times.specs.{Times.reaches}
 use Rattle.eval_since.specs.{WindowView.kept_times}
-use Rattle.eval_until.specs.{Entries.met_by, Recalled.entries_kept, Recalled.starts_kept, Starts.start_of}
+use Rattle.until_rows.specs.{Entries.met_by, Recalled.entries_kept, Recalled.starts_kept, Starts.start_of}
 use Rattle.eval_until.specs.{UntilBefore.until_before, UntilData.setting_of, UntilData.until_of}
 use Rattle.eval_until.specs.UntilView.{Follows as FollowsUntil, FollowsLeft, UntilOf}
 use Rattle.monitorable.specs.CoreForms.{CoreForm, meaning}

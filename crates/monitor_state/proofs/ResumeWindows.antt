@@ -10,7 +10,7 @@ use Rattle.eval_since.specs.{Recalled.recalls, SinceBefore.since_before, SinceDa
 use Rattle.row_times.specs.{KeptTimes.times_for}
 use Rattle.eval_since.specs.{SinceData.setting_of, SinceView.SinceOf}
 use Rattle.row_times.specs.{Times.reaches}
-use Rattle.eval_until.specs.{Entries.met_by, Recalled.entries_kept, Recalled.starts_kept, Starts.start_of}
+use Rattle.until_rows.specs.{Entries.met_by, Recalled.entries_kept, Recalled.starts_kept, Starts.start_of}
 use Rattle.eval_until.specs.{UntilBefore.until_before, UntilData.setting_of as until_setting_of, UntilData.until_of}
 use Rattle.eval_until.specs.UntilView.{Follows as FollowsUntil, FollowsLeft, UntilOf, took_all}
 use Rattle.monitorable.specs.CoreForms.{CoreForm, meaning, Since, Until}

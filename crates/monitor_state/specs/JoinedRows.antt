@@ -2,7 +2,7 @@
 -- of two marks for one place, the lesser start serves, and of the times each one does.
 use Rattle.std.specs.Prelude.{◌≡◌, ℕ, cond, min, nat_eq, nat_lt, Option, Some, None, List, [], ◌∷◌}
 use Rattle.mfotl_model.specs.declared.value.Value.{Value}
-use Rattle.eval_until.specs.declared.recalled.Mark.{Mark}
+use Rattle.until_rows.specs.declared.recalled.Mark.{Mark}
 use Rattle.relations.specs.KeptRows.{RowsAscend, kept_for}
 
 -- what is kept where both, one or none keep something

@@ -9,7 +9,7 @@ use Rattle.eval_bool.specs.declared.recalled.JoinData.{JoinData}
 use Rattle.eval_bool.specs.declared.recalled.OrData.{OrData}
 use Rattle.row_times.specs.KeptTimes.{times_kept}
 use Rattle.eval_since.specs.declared.recalled.PrevData.{PrevData}
-use Rattle.eval_until.specs.Recalled.{starts_kept}
+use Rattle.until_rows.specs.Recalled.{starts_kept}
 use Rattle.eval_until.specs.declared.recalled.NextData.{NextData}
 use Rattle.monitor_state.specs.StateStands.{marks_kept}
 use Rattle.monitor_state.specs.declared.state.NodeData.{NodeData}

@@ -8,7 +8,7 @@ use Rattle.mfotl_model.specs.Tables.{TableOf, has}
 use Rattle.mfotl_model.specs.declared.value.Value.{Value}
 use Rattle.eval_bool.specs.BoolData.{kept_tables}
 use Rattle.row_times.specs.KeptTimes.{times_kept}
-use Rattle.eval_until.specs.Recalled.{starts_kept}
+use Rattle.until_rows.specs.Recalled.{starts_kept}
 use Rattle.monitorable.specs.CoreForms.{CoreForm}
 use Rattle.relations.specs.KeptRows.{kept_for}
 use Rattle.monitor_state.specs.StateRules.{StateRule}

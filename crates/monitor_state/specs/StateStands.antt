@@ -20,11 +20,11 @@ use Rattle.eval_since.specs.SinceBefore.{since_before}
 use Rattle.row_times.specs.Times.{reaches}
 use Rattle.eval_since.specs.declared.recalled.PrevData.{PrevData}
 use Rattle.eval_since.specs.declared.recalled.SinceData.{SinceData}
-use Rattle.eval_until.specs.Recalled.{starts_kept}
-use Rattle.eval_until.specs.Starts.{start_of}
+use Rattle.until_rows.specs.Recalled.{starts_kept}
+use Rattle.until_rows.specs.Starts.{start_of}
 use Rattle.eval_until.specs.UntilBefore.{start, until_before}
-use Rattle.eval_until.specs.declared.recalled.KeptMarks.{KeptMarks}
-use Rattle.eval_until.specs.declared.recalled.Mark.{Mark}
+use Rattle.until_rows.specs.declared.recalled.KeptMarks.{KeptMarks}
+use Rattle.until_rows.specs.declared.recalled.Mark.{Mark}
 use Rattle.eval_until.specs.declared.recalled.NextData.{NextData}
 use Rattle.eval_until.specs.declared.recalled.UntilData.{UntilData}
 use Rattle.monitorable.specs.CoreForms.{CoreForm, meaning, Not, And, Or, Previous, Next, Since, Until}

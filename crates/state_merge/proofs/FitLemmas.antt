@@ -9,7 +9,7 @@ use Rattle.core_arranging.specs.Windows.{left_operand}
 use Rattle.eval_bool.specs.BoolData.{kept_tables}
 use Rattle.eval_bool.specs.declared.recalled.JoinData.{JoinData}
 use Rattle.eval_since.proofs.RestoredLemmas.{each_ascends as times_rise}
-use Rattle.eval_until.specs.declared.{recalled.KeptMarks.KeptMarks, recalled.Mark.Mark}
+use Rattle.until_rows.specs.declared.{recalled.KeptMarks.KeptMarks, recalled.Mark.Mark}
 use Rattle.monitorable.specs.{Conjuncts.conjuncts_of, NodeCount.nodes}
 use Rattle.monitorable.specs.CoreForms.{CoreForm, meaning, Not, And, Or, Previous, Next, Since, Until}
 use Rattle.relations.proofs.KeptLemmas.{each_kept}

@@ -7,7 +7,7 @@ use Rattle.std.specs.{List.list_any, Ordering.nat_cmp, Prelude.min}
 use Rattle.std.specs.declared.cmp.Ordering.TheVariants.{Equal}
 use Rattle.mfotl_model.specs.declared.interval.Interval.{Interval}
 use Rattle.row_times.specs.Times.{reaches}
-use Rattle.eval_until.specs.declared.recalled.Mark.{Mark}
+use Rattle.until_rows.specs.declared.recalled.Mark.{Mark}
 use Rattle.monitor_state.specs.JoinedRows.{either, least_time, marks_joined, times_joined, times_united}
 use Rattle.monitor_state.specs.StateStands.{mark_meets}
 use Rattle.state_merge.specs.Pairs.{lesser_mark}

@@ -9,7 +9,7 @@ use Rattle.relations.proofs.{KeptLemmas.each_kept, MapLemmas.same_row}
 use Rattle.eval_since.proofs.DatedLemmas.{past_all}
 use Rattle.eval_since.specs.{SinceData.KeepsTimes}
 use Rattle.row_times.specs.{Times.ArePast}
-use Rattle.eval_until.specs.declared.recalled.Mark.{Mark}
+use Rattle.until_rows.specs.declared.recalled.Mark.{Mark}
 use Rattle.monitor_state.specs.JoinedRows.{RowsUnion, either, least_time, marks_joined, times_joined, times_united}
 use Rattle.state_merge.specs.Pairs.{lesser_mark}
 use Rattle.state_merge.proofs.PutLemmas.{all_hold, all_some, marks_are, one_time, place_of, time_of, times_are}

@@ -11,7 +11,7 @@ use Rattle.std.specs.{Ordering.ordering_reverse}
 use Rattle.std.specs.declared.cmp.Ordering.{Ordering}
 use Rattle.std.specs.declared.cmp.Ordering.TheVariants.{Less, Equal, Greater}
 use Rattle.mfotl_model.proofs.LogicLemmas.{or_moved}
-use Rattle.eval_until.specs.declared.recalled.Mark.{Mark}
+use Rattle.until_rows.specs.declared.recalled.Mark.{Mark}
 use Rattle.monitor_state.specs.JoinedRows.{marks_joined, put_mark, put_time, times_united}
 use Rattle.state_merge.specs.Pairs.{MarksAscend, by_order, lesser_mark, walked}
 use Rattle.state_merge.proofs.PairLemmas.{by_first, chosen, further, turned, walk_ascends, walk_behind}

@@ -8,8 +8,8 @@ use Rattle.std.specs.{Prelude.min}
 use Rattle.std.specs.declared.cmp.Ordering.TheVariants.{Less}
 use Rattle.mfotl_model.specs.declared.value.Value.{Value}
 use Rattle.relations.specs.KeptRows.{list_for}
-use Rattle.eval_until.specs.{Recalled.entries_kept, Recalled.entry_at, Rules.PlacesAscend}
-use Rattle.eval_until.specs.declared.{entries.Entry.Entry, recalled.KeptMarks.KeptMarks, recalled.Mark.Mark}
+use Rattle.until_rows.specs.{Recalled.entries_kept, Recalled.entry_at, Rules.PlacesAscend}
+use Rattle.until_rows.specs.declared.{entries.Entry.Entry, recalled.KeptMarks.KeptMarks, recalled.Mark.Mark}
 use Rattle.monitor_state.specs.{StateStands.marks_kept, JoinedRows.RowsUnion, JoinedRows.marks_joined}
 use Rattle.state_merge.proofs.{KeepingLemmas.marks_all, PutLemmas.less_is, PutLemmas.marks_ascend}
 use Rattle.state_merge.specs.Pairs.{MarksAscend}

@@ -6,9 +6,10 @@ use Rattle.std.specs.{List.AllByRecursion, List.list_any, Option.unwrap_or, Prel
 use Rattle.mfotl_model.specs.{Exact.Covers, Exact.View, FreeVariables.fv, Regions.Region, Satisfaction.Valuation}
 use Rattle.mfotl_model.specs.declared.{interval.Interval.Interval, value.Value.Value}
 use Rattle.core_arranging.specs.{Windows.left_operand}
-use Rattle.eval_until.specs.{Recalled.entries_kept, Recalled.starts_kept, Starts.start_of, UntilBefore.start}
+use Rattle.until_rows.specs.{Recalled.entries_kept, Recalled.starts_kept, Starts.start_of}
+use Rattle.eval_until.specs.UntilBefore.{start}
 use Rattle.eval_until.specs.{UntilBefore.until_before, UntilData.UntilRule, UntilData.until_of}
-use Rattle.eval_until.specs.declared.{entries.Entry.Entry, recalled.Mark.Mark}
+use Rattle.until_rows.specs.declared.{entries.Entry.Entry, recalled.Mark.Mark}
 use Rattle.monitorable.specs.CoreForms.{CoreForm, meaning}
 use Rattle.relations.specs.KeptRows.{kept_for}
 use Rattle.monitor_nodes.specs.{Operands.is_negated, Views.Dates, Views.Tells}

@@ -7,8 +7,8 @@ use Rattle.eval_bool.specs.BoolData.{kept_tables}
 use Rattle.row_times.specs.KeptTimes.{times_kept}
 use Rattle.row_times.specs.declared.kept_row.KeptRow.{KeptRow}
 use Rattle.eval_since.specs.declared.recalled.SinceData.{SinceData}
-use Rattle.eval_until.specs.Recalled.{starts_kept}
-use Rattle.eval_until.specs.declared.recalled.KeptMarks.{KeptMarks}
+use Rattle.until_rows.specs.Recalled.{starts_kept}
+use Rattle.until_rows.specs.declared.recalled.KeptMarks.{KeptMarks}
 use Rattle.eval_until.specs.declared.recalled.UntilData.{UntilData}
 use Rattle.relations.specs.KeptRows.{RowsAscend}
 use Rattle.monitor_state.specs.StateStands.{marks_kept}

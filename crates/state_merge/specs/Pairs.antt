@@ -4,7 +4,7 @@ use Rattle.std.specs.List.Sorted.{IsStrictlySortedBy}
 use Rattle.std.specs.Ordering.{nat_cmp}
 use Rattle.std.specs.declared.cmp.Ordering.{Ordering}
 use Rattle.std.specs.declared.cmp.Ordering.TheVariants.{Less, Equal, Greater}
-use Rattle.eval_until.specs.declared.recalled.Mark.{Mark}
+use Rattle.until_rows.specs.declared.recalled.Mark.{Mark}
 
 -- the first, second or third value, by an ordering
 abbrev pub by_order : {A : Type 0} → Ordering → A → A → A → A

@@ -10,7 +10,7 @@ use std::cmp::Ordering;
 
 impl Keyed for Mark {
     ghost use Rattle.std.specs.Ordering.{nat_cmp};
-    ghost use Rattle.eval_until.specs.declared.recalled.Mark.{Mark};
+    ghost use Rattle.until_rows.specs.declared.recalled.Mark.{Mark};
     ghost use Rattle.state_merge.specs.Pairs.{lesser_mark};
 
     type Limit = ();

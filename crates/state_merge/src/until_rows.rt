@@ -3,7 +3,7 @@ ghost use Rattle.std.specs.Prelude.{◌≡◌, IfOk, min};
 ghost use Rattle.std.specs.List.{AllByRecursion};
 ghost use Rattle.mfotl_model.specs.Values.{row_cmp};
 ghost use Rattle.relations.specs.KeptRows.{RowsAscend};
-ghost use Rattle.eval_until.specs.Recalled.{starts_kept};
+ghost use Rattle.until_rows.specs.Recalled.{starts_kept};
 ghost use Rattle.monitor_state.specs.JoinedRows.{RowsUnion, marks_joined};
 ghost use Rattle.monitor_state.specs.StateStands.{marks_kept};
 ghost use Rattle.state_merge.specs.Pairs.{MarksAscend};
@@ -45,7 +45,7 @@ impl Keyed for KeptStart {
 impl Keyed for KeptMarks {
     ghost use Rattle.std.specs.Prelude.{List};
     ghost use Rattle.mfotl_model.specs.declared.value.Value.{Value};
-    ghost use Rattle.eval_until.specs.declared.recalled.Mark.{Mark};
+    ghost use Rattle.until_rows.specs.declared.recalled.Mark.{Mark};
 
     type Limit = ();
 

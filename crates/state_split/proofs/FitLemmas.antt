@@ -8,8 +8,9 @@ use Rattle.mfotl_model.specs.declared.value.Value.{Value}
 use Rattle.core_arranging.specs.{Windows.left_operand}
 use Rattle.row_times.specs.KeptTimes.{times_kept}
 use Rattle.row_times.specs.declared.kept_row.KeptRow.{KeptRow}
-use Rattle.eval_until.specs.{Keeping.Sized, Recalled.entries_kept, Recalled.starts_kept}
-use Rattle.eval_until.specs.declared.{entries.Entry.Entry, recalled.KeptMarks.KeptMarks}
+use Rattle.eval_until.specs.Keeping.{Sized}
+use Rattle.until_rows.specs.{Recalled.entries_kept, Recalled.starts_kept}
+use Rattle.until_rows.specs.declared.{entries.Entry.Entry, recalled.KeptMarks.KeptMarks}
 use Rattle.monitorable.specs.CoreForms.{CoreForm, meaning, And, Since, Until}
 use Rattle.relations.proofs.KeptLemmas.{each_kept, found_kept}
 use Rattle.relations.specs.KeptRows.{RowsAscend}

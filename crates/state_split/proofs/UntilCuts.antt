@@ -5,10 +5,11 @@ use Rattle.std.specs.{List.list_all, List.list_any, Option.IfSome, Option.unwrap
 use Rattle.mfotl_model.specs.{Exact.Covers, Exact.View, FreeVariables.fv, Regions.Passes, Satisfaction.Valuation}
 use Rattle.mfotl_model.specs.declared.{interval.Interval.Interval, value.Value.Value}
 use Rattle.core_arranging.specs.{Windows.left_operand}
-use Rattle.eval_until.specs.Recalled.{entries_kept, entry_at, starts_kept}
-use Rattle.eval_until.specs.{Rules.PlacesAscend, Starts.start_of, UntilBefore.start, UntilBefore.until_before}
+use Rattle.until_rows.specs.Recalled.{entries_kept, entry_at, starts_kept}
+use Rattle.until_rows.specs.{Rules.PlacesAscend, Starts.start_of}
+use Rattle.eval_until.specs.{UntilBefore.start, UntilBefore.until_before}
 use Rattle.eval_until.specs.{UntilData.UntilRule, UntilData.until_of}
-use Rattle.eval_until.specs.declared.{entries.Entry.Entry, recalled.KeptMarks.KeptMarks, recalled.Mark.Mark}
+use Rattle.until_rows.specs.declared.{entries.Entry.Entry, recalled.KeptMarks.KeptMarks, recalled.Mark.Mark}
 use Rattle.monitorable.specs.CoreForms.{CoreForm, meaning}
 use Rattle.relations.specs.KeptRows.{kept_for}
 use Rattle.monitor_nodes.specs.{Operands.is_negated, Views.Dates, Views.Tells}

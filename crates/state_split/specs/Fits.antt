@@ -3,7 +3,7 @@ use Rattle.std.specs.Prelude.{◌≡◌, ℕ, true, nat_eq, List, length}
 use Rattle.std.specs.List.{AllByRecursion}
 use Rattle.mfotl_model.specs.declared.value.Value.{Value}
 use Rattle.row_times.specs.KeptTimes.{times_kept}
-use Rattle.eval_until.specs.Recalled.{starts_kept}
+use Rattle.until_rows.specs.Recalled.{starts_kept}
 use Rattle.mfotl_model.specs.Regions.{Region}
 use Rattle.monitor_state.specs.StateCuts.{NodeCut, WindowCut}
 use Rattle.monitor_state.specs.StateStands.{marks_kept}

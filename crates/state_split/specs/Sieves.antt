@@ -2,7 +2,7 @@
 use Rattle.std.specs.Prelude.{◌≡◌, ℕ, Bool, ◌&&◌, nat_eq, List, filter, length}
 use Rattle.row_times.specs.KeptTimes.{times_kept}
 use Rattle.eval_since.specs.declared.recalled.SinceData.{SinceData}
-use Rattle.eval_until.specs.Recalled.{starts_kept}
+use Rattle.until_rows.specs.Recalled.{starts_kept}
 use Rattle.eval_until.specs.declared.recalled.UntilData.{UntilData}
 use Rattle.mfotl_model.specs.Regions.{Region}
 use Rattle.mfotl_model.specs.declared.value.Value.{Value}

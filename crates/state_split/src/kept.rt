@@ -92,7 +92,7 @@ impl Kept for KeptStart {
 impl Kept for KeptMarks {
     ghost use Rattle.std.specs.Prelude.{List};
     ghost use Rattle.mfotl_model.specs.declared.value.Value.{Value};
-    ghost use Rattle.eval_until.specs.declared.recalled.Mark.{Mark};
+    ghost use Rattle.until_rows.specs.declared.recalled.Mark.{Mark};
 
     ghost Told = { List Value × List Mark };
 

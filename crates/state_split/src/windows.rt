@@ -1,6 +1,6 @@
 //! The data of windows cut for workers: each gets the rows in its region, and all that is kept for them.
 ghost use Rattle.std.specs.Prelude.{◌≡◌, IfOk};
-ghost use Rattle.eval_until.specs.Recalled.{starts_kept};
+ghost use Rattle.until_rows.specs.Recalled.{starts_kept};
 ghost use Rattle.monitor_state.specs.StateStands.{marks_kept};
 ghost use Rattle.monitor_state.specs.declared.state.WindowData.TheVariants.{Since, Until};
 ghost use Rattle.state_split.specs.Fits.{CutWindows};

@@ -7,6 +7,7 @@ use Rattle.mfotl_model.specs.contracts as model
 use Rattle.relations.specs.contracts as relations
 use Rattle.row_times.specs.contracts as kept
 use Rattle.eval_since.specs.contracts as since
+use Rattle.until_rows.specs.contracts as rows
 use Rattle.eval_until.specs.contracts as until
 use Rattle.eval_bool.specs.contracts as bool
 use Rattle.monitorable.specs.contracts as monitorable
@@ -87,20 +88,23 @@ window_send = search (value_send, row_send, groups_send, interval_send, base) de
 pub since_send : IsSend (since.since.SinceState.the_field).row
 since_send = search (window_send, table_send, base) depth 30
 
-pub entries_send : IsSend (until.entries.Entries.the_field).row
+pub entries_send : IsSend (rows.entries.Entries.the_field).row
 entries_send = search base depth 30
 
-pub starts_send : IsSend (until.start_map.StartMap.the_field).row
+pub starts_send : IsSend (rows.run_starts.RunStarts.the_field).row
 starts_send = search (row_send, base) depth 30
 
-pub row_set_send : IsSend (until.row_set.RowSet.the_field).row
+pub row_set_send : IsSend (rows.row_set.RowSet.the_field).row
 row_set_send = search (row_send, base) depth 40
 
-pub by_key_send : IsSend (until.by_key.RowsByKey.the_field).row
+pub by_key_send : IsSend (rows.by_key.RowsByKey.the_field).row
 by_key_send = search (row_send, row_set_send, base) depth 30
 
+pub row_entries_send : IsSend (rows.row_entries.RowEntries.the_field).row
+row_entries_send = search (row_send, entries_send, by_key_send, base) depth 30
+
 pub contents_send : IsSend (until.contents.Contents.the_field).row
-contents_send = search (row_send, starts_send, entries_send, by_key_send, base) depth 30
+contents_send = search (row_send, starts_send, row_entries_send, base) depth 30
 
 pub ahead_send : IsSend (until.ahead.Ahead.the_field).row
 ahead_send = search (contents_send, interval_send, base) depth 30

@@ -2,7 +2,8 @@ use Rattle.std.proofs.Common.{◌≡◌, ℕ, Bool, ◌&&◌, ◌||◌, List}
 use Rattle.std.specs.List.{list_all}
 use Rattle.mfotl_model.specs.declared.value.Value.{Value}
 use Rattle.eval_until.specs.{Keeping.breaks_before, Keeping.names, Recalled.is_recalled}
-use Rattle.eval_until.specs.declared.{contents.Taken.Taken, entries.Entry.Entry}
+use Rattle.eval_until.specs.declared.contents.Taken.{Taken}
+use Rattle.until_rows.specs.declared.entries.Entry.{Entry}
 use Rattle.eval_until.proofs.rebuild.push_rows.Given as goal
 
 abbrev pub invariant-loop-row : goal.invariant-loop-row

@@ -1,4 +1,4 @@
-use Rattle.eval_until.specs.declared.recalled.KeptMarks.{KeptMarks}
+use Rattle.until_rows.specs.declared.recalled.KeptMarks.{KeptMarks}
 use Rattle.state_merge.proofs.PairLemmas.{rows_united}
 use Rattle.state_merge.proofs.until_rows.united_marks.Goals as goal
 

@@ -1,4 +1,4 @@
-use Rattle.eval_until.specs.declared.recalled.KeptStart.{KeptStart}
+use Rattle.until_rows.specs.declared.recalled.KeptStart.{KeptStart}
 use Rattle.state_merge.proofs.PairLemmas.{rows_united}
 use Rattle.state_merge.proofs.until_rows.united_starts.Goals as goal
 

@@ -1,5 +1,5 @@
 use Rattle.std.proofs.Common.{rules, ◌∙◌}
-use Rattle.eval_until.specs.Recalled.{starts_kept}
+use Rattle.until_rows.specs.Recalled.{starts_kept}
 use Rattle.monitor_state.specs.StateStands.{marks_kept}
 use Rattle.monitor_state.specs.declared.state.WindowData.TheVariants.{Until}
 use Rattle.state_split.proofs.{ShareLemmas.each_collected, ShareLemmas.each_paired, SieveLemmas.inside_is_cut}

@@ -1,4 +1,5 @@
-use Rattle.eval_until.proofs.{KeepingLemmas.above_is, KeepingLemmas.waiting_is, OrderLemmas.kept_in_order}
+use Rattle.eval_until.proofs.{KeepingLemmas.above_is, KeepingLemmas.waiting_is}
+use Rattle.until_rows.proofs.OrderLemmas.{kept_in_order}
 use Rattle.eval_until.proofs.ahead.Ahead.is_bounded.Goals as goal
 
 pub returns-clause-some : goal.returns-clause-some

@@ -1,4 +1,4 @@
-use Rattle.eval_until.proofs.OrderLemmas.{kept_in_order}
+use Rattle.until_rows.proofs.OrderLemmas.{kept_in_order}
 use Rattle.eval_until.proofs.ahead.Ahead.is_sized.Goals as goal
 
 pub returns : goal.returns

@@ -1,6 +1,6 @@
 use Rattle.std.proofs.Common.{◌∙◌}
-use Rattle.eval_until.specs.InOrder.{in_order}
-use Rattle.eval_until.proofs.OrderLemmas.{in_order_ascends, kept_in_order, ordered_is}
+use Rattle.until_rows.specs.InOrder.{in_order}
+use Rattle.until_rows.proofs.OrderLemmas.{in_order_ascends, kept_in_order, ordered_is}
 use Rattle.eval_until.proofs.ResumeLemmas.{each_some}
 use Rattle.eval_until.proofs.ahead.Ahead.kept_marks.Goals as goal
 

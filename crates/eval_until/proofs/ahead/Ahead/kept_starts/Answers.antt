@@ -1,7 +1,7 @@
 use Rattle.std.proofs.Common.{◌≡◌, List, length, ℕ, subst, ◌∙◌}
 use Rattle.std.specs.List.{AllByRecursion}
 use Rattle.mfotl_model.specs.declared.value.Value.{Value}
-use Rattle.eval_until.proofs.OrderLemmas.{in_order_ascends, ordered_is}
+use Rattle.until_rows.proofs.OrderLemmas.{in_order_ascends, ordered_is}
 use Rattle.eval_until.proofs.ahead.Ahead.kept_starts.Goals as goal
 
 pub returns-clause-starts : goal.returns-clause-starts

@@ -1,6 +1,6 @@
 use Rattle.std.proofs.Common.{sym, ap, ◌∙◌}
-use Rattle.eval_until.specs.Entries.{met_by}
-use Rattle.eval_until.proofs.OrderLemmas.{entries_in_order}
+use Rattle.until_rows.specs.Entries.{met_by}
+use Rattle.until_rows.proofs.OrderLemmas.{entries_in_order}
 use Rattle.eval_until.proofs.ahead.Ahead.met.Goals as goal
 
 pub returns : goal.returns

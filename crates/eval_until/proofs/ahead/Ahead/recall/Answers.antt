@@ -1,7 +1,10 @@
 use Rattle.std.proofs.Common.{◌≡◌, length, sym, subst, ◌∙◌}
-use Rattle.eval_until.specs.{Keeping.Sized, Recalled.entries_kept, Recalled.starts_kept}
-use Rattle.eval_until.specs.Rules.{Ascending, NoneEmpty, StartsAbove, StartsBelow, Waiting}
-use Rattle.eval_until.proofs.{OrderLemmas.ascending_is, ResumeLemmas.each_ascends, ResumeLemmas.some_found}
+use Rattle.eval_until.specs.Keeping.{Sized}
+use Rattle.until_rows.specs.{Recalled.entries_kept, Recalled.starts_kept}
+use Rattle.eval_until.specs.Rules.{Ascending, StartsAbove, StartsBelow, Waiting}
+use Rattle.until_rows.specs.Rules.{NoneEmpty}
+use Rattle.until_rows.proofs.OrderLemmas.{ascending_is}
+use Rattle.eval_until.proofs.{ResumeLemmas.each_ascends, ResumeLemmas.some_found}
 use Rattle.eval_until.proofs.ahead.Ahead.recall.Goals as goal
 
 pub rows_map-requires : goal.rows_map-requires

@@ -3,8 +3,9 @@ use Rattle.std.specs.{List.list_any, Ordering.eq_by_cmp}
 use Rattle.mfotl_model.specs.Tables.{all_apart, all_sized, has_row}
 use Rattle.mfotl_model.specs.Values.{row_cmp}
 use Rattle.relations.proofs.{AscendingRows.has_ascending, KeptLemmas.any_is}
-use Rattle.eval_until.specs.Entries.{met_by}
-use Rattle.eval_until.proofs.{KeepingLemmas.sized_met, OrderLemmas.entries_in_order}
+use Rattle.until_rows.specs.Entries.{met_by}
+use Rattle.eval_until.proofs.KeepingLemmas.{sized_met}
+use Rattle.until_rows.proofs.OrderLemmas.{entries_in_order}
 use Rattle.eval_until.proofs.ahead.Ahead.table.Goals as goal
 
 pub from_rows-requires-clause-apart : goal.from_rows-requires-clause-apart

@@ -4,9 +4,10 @@ use Rattle.std.specs.List.{list_any}
 use Rattle.mfotl_model.specs.Tables.{all_apart, all_sized, has_row, part}
 use Rattle.relations.specs.KeptRows.{list_for}
 use Rattle.relations.proofs.AscendingRows.{has_ascending}
-use Rattle.eval_until.specs.Entries.{met_by}
-use Rattle.eval_until.proofs.{ByKeyLemmas.found_meets, ByKeyLemmas.found_met, KeepingLemmas.sized_met}
-use Rattle.eval_until.proofs.{OrderLemmas.entries_in_order}
+use Rattle.until_rows.specs.Entries.{met_by}
+use Rattle.until_rows.proofs.{ByKeyLemmas.found_meets, ByKeyLemmas.found_met}
+use Rattle.eval_until.proofs.KeepingLemmas.{sized_met}
+use Rattle.until_rows.proofs.OrderLemmas.{entries_in_order}
 use Rattle.eval_until.proofs.ahead.Ahead.table_of.Goals as goal
 
 pub from_rows-requires-clause-apart : goal.from_rows-requires-clause-apart
@@ -20,10 +21,10 @@ from_rows-requires-clause-sized c =
     (c.in_ok-columns.ensures.ok ∙ c.as_slice.ensures.value)
     ∙ sized_met k.interval c.args.i c.args.x (length k.right.items) k.contents.rows.entries c.push_found.new.out.items
     c.self.invariant.keeps.sized
-    (λ u there. found_meets k.interval c.args.i c.args.x k.contents.by_key.sets k.contents.rows.entries
+    (λ u there. found_meets k.interval c.args.i c.args.x k.contents.rows.keyed.sets k.contents.rows.entries
     c.rows.result.now u
     (sym (c.in_ok-push_found.ensures u
-    ∙ ap (λ rows. has_row rows u || list_any (λ q. has_row (list_for k.contents.by_key.sets q) u
+    ∙ ap (λ rows. has_row rows u || list_any (λ q. has_row (list_for k.contents.rows.keyed.sets q) u
     && met_by k.interval c.args.i c.args.x (list_for k.contents.rows.entries u)) c.rows.result.now)
     c.new-found.ensures.items) ∙ there))
 
@@ -34,10 +35,10 @@ returns-clause-rows c = rw (← c.self.view_is) (
     λ u asked. ap (λ rows. has_row rows u) c.from_rows.ensures.rows
     ∙ has_ascending c.push_found.new.out.items u
     ∙ c.in_ok-push_found.ensures u
-    ∙ ap (λ rows. has_row rows u || list_any (λ q. has_row (list_for k.contents.by_key.sets q) u
+    ∙ ap (λ rows. has_row rows u || list_any (λ q. has_row (list_for k.contents.rows.keyed.sets q) u
     && met_by k.interval c.args.i c.args.x (list_for k.contents.rows.entries u)) c.rows.result.now)
     c.new-found.ensures.items
-    ∙ found_met k.interval c.args.i c.args.x k.right.items c.args.keys.now.columns k.contents.by_key
+    ∙ found_met k.interval c.args.i c.args.x k.right.items c.args.keys.now.columns k.contents.rows.keyed
     k.contents.rows.entries c.rows.result.now u c.self.invariant.listed
     (c.finds_by.ensures.some yes) (sym c.columns.ensures.columns ∙ c.finds_by.ensures.same yes)
     (ap (λ rows. has_row rows (part k.right.items c.args.keys.now.columns u)) c.rows.ensures.rows ∙ asked)

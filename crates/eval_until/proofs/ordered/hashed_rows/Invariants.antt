@@ -1,8 +1,0 @@
-use Rattle.std.proofs.Common.{◌≡◌, List, None}
-use Rattle.mfotl_model.specs.declared.value.Value.{Value}
-use Rattle.relations.specs.KeptRows.{kept_for, last_for}
-use Rattle.eval_until.proofs.ordered.hashed_rows.Given as goal
-
-abbrev pub invariant-loop-row : goal.invariant-loop-row
-invariant-loop-row l = (u : List Value) →
-    last_for l.row-iterator u (kept_for l.map.entries u) ≡ last_for l.fn.rows.entries u None

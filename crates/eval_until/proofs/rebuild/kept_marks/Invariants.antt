@@ -1,7 +1,0 @@
-use Rattle.std.proofs.Common.{◌≡◌, ◌++◌}
-use Rattle.eval_until.specs.Recalled.{entries_kept}
-use Rattle.eval_until.proofs.rebuild.kept_marks.Given as goal
-
--- what was copied, and what is left
-abbrev pub invariant-loop-row : goal.invariant-loop-row
-invariant-loop-row l = entries_kept l.pulled l.times.items l.kept.items ++ l.row-iterator ≡ l.rows.entries

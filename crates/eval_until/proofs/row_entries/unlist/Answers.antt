@@ -1,7 +1,0 @@
-use Rattle.eval_until.proofs.ByKeyLemmas.{listed_without}
-use Rattle.eval_until.proofs.row_entries.unlist.Goals as goal
-
-pub returns-in-Some : goal.returns-in-Some
-returns-in-Some c = λ rows none listed.
-    listed_without c.args.right.now c.args.by_key.now c.remove.new.self rows c.in-Some.row
-    (rw c.in-Some.is at none) c.remove.ensures.others listed

@@ -1,6 +1,0 @@
-use Rattle.std.proofs.Common.{sym, ◌∙◌}
-use Rattle.eval_until.proofs.SetLemmas.{same_twice}
-use Rattle.eval_until.proofs.row_set.next_row.Goals as goal
-
-pub returns-then-eq : goal.returns-then-eq
-returns-then-eq c = λ u. same_twice c.args.first c.args.row u (sym c.eq.ensures ∙ c.if-eq.true)

@@ -1,6 +1,0 @@
-use Rattle.eval_until.proofs.StartLemmas.{one_put}
-use Rattle.eval_until.proofs.start_map.StartMap.insert.Goals as goal
-
-pub returns-then-is_empty : goal.returns-then-is_empty
-returns-then-is_empty c = λ w.
-    one_put c.args.row w c.args.start c.args.self.now (c.is_empty.ensures c.if-is_empty.true)

@@ -1,5 +1,0 @@
-use Rattle.eval_until.proofs.StartLemmas.{one_differs}
-use Rattle.eval_until.proofs.start_map.one_start.Goals as goal
-
-pub returns-clause-differ : goal.returns-clause-differ
-returns-clause-differ c = one_differs c.args.row.now c.args.start

@@ -1,8 +1,0 @@
-use Rattle.std.proofs.Common.{sym, ◌∙◌}
-use Rattle.eval_until.proofs.StartLemmas.{one_put}
-use Rattle.eval_until.proofs.start_map.spread.Goals as goal
-
-pub returns-clause-many : goal.returns-clause-many
-returns-clause-many c = rw (← c.in-Some.ensures.value) (λ w.
-    c.in_ok-insert.ensures.updates.0 w
-    ∙ sym (one_put c.in-Some.row w c.in-Some.start c.clear.new.self.entries c.clear.ensures.empty))

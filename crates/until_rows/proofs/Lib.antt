@@ -1,0 +1,6 @@
+pub mod EntriesLemmas
+pub mod RowsLemmas
+pub mod StartLemmas
+pub mod SetLemmas
+pub mod ByKeyLemmas
+pub mod OrderLemmas

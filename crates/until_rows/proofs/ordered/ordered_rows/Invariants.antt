@@ -1,0 +1,11 @@
+use Rattle.std.proofs.Common.{◌≡◌, List, None}
+use Rattle.mfotl_model.specs.declared.value.Value.{Value}
+use Rattle.relations.specs.KeptRows.{RowsAscend, kept_for, last_for}
+use Rattle.until_rows.proofs.ordered.ordered_rows.Given as goal
+
+abbrev pub invariant-loop-row : goal.invariant-loop-row
+invariant-loop-row l = record {
+  found : (u : List Value) → last_for l.row-iterator u (kept_for l.map.entries u)
+      ≡ last_for l.rows.entries u None;
+  ascend : RowsAscend l.map.entries;
+}

@@ -1,0 +1,20 @@
+//! Rows with their entries, and where runs begin: what a window of UNTIL keeps.
+#![tactic(auto)]
+
+mod by_key;
+mod entries;
+mod entry_map;
+mod meeting;
+mod ordered;
+mod plain;
+mod recalled;
+mod row_entries;
+mod row_set;
+mod run_starts;
+mod starts;
+
+pub use entries::{Entries, Entry};
+pub use plain::{kept_marks, kept_starts, rows_map, starts_map};
+pub use recalled::{KeptMarks, KeptStart, Mark};
+pub use row_entries::RowEntries;
+pub use run_starts::RunStarts;
