@@ -8,14 +8,14 @@ ghost use Rattle.rescale_core.specs.Moving.{HandsOver, HasTurn, IsDriverOf, IsOp
 ghost use Rattle.rescale_core.specs.Moving.{Reaches, TakesBack, TurnsTo};
 ghost use Rattle.rescale_core.specs.Moving.StepKind.{Reads};
 ghost use Rattle.rescale_core.specs.Routing.{HasEnded, IsRouterOf};
-ghost use Rattle.rescale_core.specs.Workers.{IsFor};
+ghost use Rattle.rescale_worker.specs.Workers.{IsFor};
 ghost use Rattle.rescale_core.specs.Worlds.{World, Allowed, IsGathered, world_after, first_world, spot_in};
 ghost use Rattle.rescale_core.specs.Worlds.Step.{Emit};
-ghost use Rattle.rescale_core.specs.declared.item.Entry.TheVariants.{Change, Point};
+ghost use Rattle.rescale_worker.specs.declared.item.Entry.TheVariants.{Change, Point};
 
 use crate::router::Router;
-use crate::worker::Worker;
 use mfotl_model::TimePoint;
+use rescale_worker::Worker;
 use slice_strategy::Strategy;
 use std::alloc::{AllocError, Global};
 use turn_hub::{Hub, Main, Swap};
