@@ -6,9 +6,8 @@ use Rattle.mfotl_model.specs.Strategies.{Strategy, workers_of}
 use Rattle.mfotl_model.specs.declared.event.TimePoint.{TimePoint}
 use Rattle.monitorable.specs.CoreForms.{CoreForm}
 use Rattle.monitor_state.specs.{Verdicts.MayFollow}
-use Rattle.rescale_core.specs.{Moving.IsDriverOf, Moving.core_of, Worlds.World}
+use Rattle.rescale_core.specs.{Moving.IsDriverOf, Moving.core_of, Worlds.World, Worlds.spot_in}
 use Rattle.rescale_worker.specs.{Workers.IsFor}
-use Rattle.rescale_core.specs.{Worlds.spot_in}
 use Rattle.rescale_core.specs.declared.{driver.Driver.Driver}
 use Rattle.rescale_worker.specs.declared.{item.Entry.Entry, item.Entry.TheVariants.Point}
 use Rattle.rescale_worker.specs.declared.{item.Entry.TheVariants.Change as ToStrategy}

@@ -9,9 +9,8 @@ use Rattle.rescale_worker.specs.{Workers.IsFor}
 use Rattle.mfotl_model.specs.Strategies.{Strategy, workers_of}
 use Rattle.monitorable.specs.CoreForms.{CoreForm}
 use Rattle.verdict_merge.specs.Gathers.{workers_in}
-use Rattle.rescale_core.proofs.{Pieces.skips, ReadingLemmas.reads_on, Soundness.step_sound}
+use Rattle.rescale_core.proofs.{Pieces.skips, ReadingLemmas.reads_on, Soundness.step_sound, WorldLemmas.spot_more}
 use Rattle.rescale_worker.proofs.{Chains.some_workers}
-use Rattle.rescale_core.proofs.{WorldLemmas.spot_more}
 use Rattle.rescale_core.proofs.GatherLemmas.{gather_change, none_begun, spot_up}
 use Rattle.rescale_core.specs.Routing.{IsRouterOf, part_below, place_below}
 use Rattle.rescale_core.specs.Handing.{chance, for_place, standing}

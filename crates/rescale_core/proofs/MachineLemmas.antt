@@ -15,9 +15,8 @@ use Rattle.rescale_core.specs.Worlds.{pieces_in, rows_in, set_seat, spot_in, too
 use Rattle.rescale_core.specs.Worlds.Step.{Read, Feed, Take, Collect, Emit}
 use Rattle.rescale_core.specs.declared.{step.Applied.Applied, step.Applied.TheVariants.Did}
 use Rattle.rescale_core.specs.declared.{step.Applied.TheVariants.NotEnabled, cell.Cell.Cell}
-use Rattle.rescale_worker.specs.declared.{item.Entry.Entry}
+use Rattle.rescale_worker.specs.declared.{item.Entry.Entry, item.Item.Item, item.Out.Out}
 use Rattle.rescale_core.specs.declared.{router.Router.Router, machine.Machine.Machine}
-use Rattle.rescale_worker.specs.declared.{item.Item.Item, item.Out.Out}
 use Rattle.rescale_core.specs.declared.step.Step.TheVariants as step
 use Rattle.rescale_core.proofs.CellLemmas.{nth_here, nth_set, nth_else, line_none, seed_in, seat_else, same_cell}
 use Rattle.rescale_core.proofs.CellLemmas.{within_front, seat_here}

@@ -15,9 +15,8 @@ use Rattle.rescale_core.proofs.{WorldLemmas.AreChanges, WorldLemmas.line_changes
 use Rattle.rescale_worker.specs.Lines.{Due, Spot, ChangeOfStrategy, dues, first_spot, if_below, line, moved, place}
 use Rattle.rescale_worker.specs.Lines.{change_at}
 use Rattle.rescale_worker.specs.Lines.Due.{Slicing, Parting, Hole}
-use Rattle.rescale_core.specs.{Soundly.IsSound, Soundly.change_of}
+use Rattle.rescale_core.specs.{Soundly.IsSound, Soundly.change_of, Worlds.Step.Feed}
 use Rattle.rescale_worker.specs.{Phases.Answers, Phases.Parts, Workers.slice_for}
-use Rattle.rescale_core.specs.{Worlds.Step.Feed}
 use Rattle.rescale_core.specs.Handing.{for_place, item_of, nth, ready_items}
 use Rattle.rescale_core.specs.Worlds.{World, Allowed, line_in, pieces_in}
 use Rattle.rescale_worker.specs.declared.{item.Entry.Entry, item.Entry.TheVariants.Point, item.Entry.TheVariants.Change}

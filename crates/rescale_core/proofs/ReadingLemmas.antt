@@ -14,10 +14,8 @@ use Rattle.monitorable.specs.{Atoms.atoms_of, CoreForms.CoreForm, Cores.core_for
 use Rattle.rescale_core.proofs.{GatherLemmas.gather_point, Soundness.step_sound}
 use Rattle.rescale_core.proofs.WorldLemmas.{line_more, spot_more, supplies_length}
 use Rattle.rescale_core.specs.{Queues.chances, Queues.queue_at, Slots.chance_of, Slots.standing_of}
-use Rattle.rescale_worker.specs.{Lines.Due.Slicing}
-use Rattle.rescale_core.specs.{Soundly.IsSound, Handing.chance, Handing.standing}
-use Rattle.rescale_worker.specs.{Workers.slice_for}
-use Rattle.rescale_core.specs.{Worlds.Step.Read}
+use Rattle.rescale_worker.specs.{Lines.Due.Slicing, Workers.slice_for}
+use Rattle.rescale_core.specs.{Soundly.IsSound, Handing.chance, Handing.standing, Worlds.Step.Read}
 use Rattle.rescale_core.specs.Routing.{IsRouterOf, all_slices, slices_for}
 use Rattle.rescale_core.specs.Worlds.{World, world_after, line_in, spot_in}
 use Rattle.rescale_worker.specs.declared.{item.Entry.Entry, item.Entry.TheVariants.Point, item.Item.TheVariants.Slice}

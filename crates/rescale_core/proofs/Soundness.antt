@@ -1,8 +1,7 @@
 -- What holds in each world that steps reach.
 use Rattle.std.proofs.Common.{ℕ, List, [], ◌∷◌, ◌++◌, refl, arith}
-use Rattle.rescale_core.proofs.{Fitting.fits_of, WorldLemmas.line_changes}
+use Rattle.rescale_core.proofs.{Fitting.fits_of, WorldLemmas.line_changes, Collecting.collect_sound}
 use Rattle.rescale_worker.proofs.{Chains.chained, Leading.first_agrees}
-use Rattle.rescale_core.proofs.{Collecting.collect_sound}
 use Rattle.rescale_core.specs.{Soundly.IsSound}
 use Rattle.rescale_worker.specs.{Working.Has}
 use Rattle.rescale_core.specs.Worlds.{World, Step, world_after, Allowed, run_steps, AreAllowed}

@@ -12,8 +12,7 @@ use Rattle.rescale_core.specs.{Soundly.IsSound, Laws.EmitsVerdicts}
 use Rattle.rescale_worker.specs.{Lines.first_spot, Lines.moved}
 use Rattle.mfotl_model.specs.Strategies.{Strategy}
 use Rattle.monitorable.specs.CoreForms.{CoreForm}
-use Rattle.rescale_core.specs.Worlds.{World, first_world, Step, spot_in, Allowed, AreAllowed, world_after}
-use Rattle.rescale_core.specs.Worlds.{run_steps}
+use Rattle.rescale_core.specs.Worlds.{World, first_world, Step, spot_in, Allowed, AreAllowed, world_after, run_steps}
 use Rattle.rescale_worker.specs.declared.item.Entry.{Entry}
 use Rattle.rescale_core.specs.Worlds.Step.{Read, Feed, Take, Collect, Emit}
 

@@ -8,9 +8,8 @@ use Rattle.std.specs.List.{list_all, range_with_len}
 use Rattle.mfotl_model.specs.Strategies.{workers_of}
 use Rattle.rescale_core.proofs.WorldLemmas.{if_either, line_more, supplies_length}
 use Rattle.rescale_worker.specs.Lines.{Due, Spot, ChangeOfStrategy, line}
-use Rattle.rescale_core.specs.{Queues.queue_at, Chances.Standing, Slots.weight_of, Routing.IsRouterOf}
+use Rattle.rescale_core.specs.{Queues.queue_at, Chances.Standing, Slots.weight_of, Routing.IsRouterOf, Soundly.IsSound}
 use Rattle.rescale_worker.specs.{Lines.Due.Hole}
-use Rattle.rescale_core.specs.{Soundly.IsSound}
 use Rattle.rescale_core.specs.Chances.Standing.{Last, Outside, Within}
 use Rattle.rescale_core.specs.Waiting.{HasRoom, added_waiting, is_short, most_waiting, waiting_in, weight}
 use Rattle.rescale_core.specs.Worlds.{World, Allowed, Step, world_after}

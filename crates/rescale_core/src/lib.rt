@@ -1,6 +1,6 @@
-//! The router and the workers: what is read goes to workers, and their findings become verdicts. At a change of
-//! strategy the workers hand their states on in pieces, while reading goes on. A machine does all of it on one thread,
-//! step by step; a driver is main's part where workers run on threads.
+//! The router between the log and the workers: what is read goes to workers, and their findings become verdicts. At a
+//! change of strategy it hands the pieces of their states on, while reading goes on. A machine does all of it on one
+//! thread, step by step; a driver is main's part where workers run on threads.
 #![tactic(auto)]
 
 mod cell;
