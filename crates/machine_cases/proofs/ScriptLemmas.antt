@@ -7,9 +7,9 @@ use Rattle.mfotl_model.specs.{Log.times, Satisfaction.time_at, Strategies.Strate
 use Rattle.mfotl_model.specs.declared.event.TimePoint.{TimePoint}
 use Rattle.monitorable.specs.CoreForms.{CoreForm}
 use Rattle.rescale_core.proofs.WorldLemmas.{sound_more, spot_more}
-use Rattle.rescale_core.specs.Lines.{Spot, first_spot, spot_after}
-use Rattle.rescale_core.specs.Workers.{IsFor}
-use Rattle.rescale_core.specs.declared.{item.Entry.Entry, item.Entry.TheVariants.Point, item.Entry.TheVariants.Change}
+use Rattle.rescale_worker.specs.Lines.{Spot, first_spot, spot_after}
+use Rattle.rescale_worker.specs.Workers.{IsFor}
+use Rattle.rescale_worker.specs.declared.{item.Entry.Entry, item.Entry.TheVariants.Point, item.Entry.TheVariants.Change}
 use Rattle.machine_cases.specs.Scripts.{AreReadable}
 
 lowest : (least : ℕ) (ts : List ℕ) (last : ℕ) → Climbs least ts last → (j : ℕ) → j < length ts → least ≤ time_at ts j

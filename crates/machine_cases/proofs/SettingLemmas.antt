@@ -6,7 +6,7 @@ use Rattle.mfotl_model.specs.declared.policy.Var.{Var}
 use Rattle.mfotl_parse.specs.WellSorted.{IsWellSorted}
 use Rattle.mfotl_sig.specs.Preds.{PredOf}
 use Rattle.monitorable.specs.{CoreForms.CoreForm, CoreForms.meaning, Fragment.IsMonitorable, Renaming.binders}
-use Rattle.rescale_core.specs.Workers.{IsFor}
+use Rattle.rescale_worker.specs.Workers.{IsFor}
 use Rattle.slice_strategy.specs.Entries.{HasWorkers}
 
 -- the free variables of the core of a policy whose variables are in their columns

@@ -2,8 +2,8 @@
 use Rattle.std.proofs.Common.{List, Result, Ok, Err, IfOk, OnOk}
 use Rattle.rescale_core.specs.{Cells.Applies, Cells.IsMachineOf, Worlds.World}
 use Rattle.rescale_core.specs.declared.{step.Applied.Applied, step.Applied.TheVariants.Did}
-use Rattle.rescale_core.specs.declared.{step.Applied.TheVariants.NotEnabled, step.Step.Step, item.Entry.Entry}
-use Rattle.rescale_core.specs.declared.{machine.Machine.Machine}
+use Rattle.rescale_core.specs.declared.{step.Applied.TheVariants.NotEnabled, step.Step.Step, machine.Machine.Machine}
+use Rattle.rescale_worker.specs.declared.{item.Entry.Entry}
 use Rattle.machine_cases.specs.Machines.{IsMachine}
 
 -- it stands for this world

@@ -2,7 +2,7 @@
 use Rattle.std.specs.Prelude.{List}
 use Rattle.rescale_core.specs.Cells.{IsMachineOf}
 use Rattle.rescale_core.specs.Worlds.{World}
-use Rattle.rescale_core.specs.declared.item.Entry.{Entry}
+use Rattle.rescale_worker.specs.declared.item.Entry.{Entry}
 use Rattle.rescale_core.specs.declared.machine.Machine.{Machine}
 
 -- the machine stands for some world

@@ -4,8 +4,8 @@ use Rattle.mfotl_model.specs.Log.{times}
 use Rattle.mfotl_model.specs.Strategies.{Strategy}
 use Rattle.mfotl_model.specs.Times.{Climbs}
 use Rattle.monitorable.specs.CoreForms.{CoreForm}
-use Rattle.rescale_core.specs.Lines.{AreSound, first_spot, spot_after}
-use Rattle.rescale_core.specs.declared.item.Entry.{Entry}
+use Rattle.rescale_worker.specs.Lines.{AreSound, first_spot, spot_after}
+use Rattle.rescale_worker.specs.declared.item.Entry.{Entry}
 
 -- the entries may be read under each first strategy, and no time-point of them is later than `last`
 pub record AreReadable (core : CoreForm) (entries : List Entry) (last : ℕ) : Type 0 where

@@ -2,8 +2,8 @@
 ghost use Rattle.std.specs.Prelude.{IfOk};
 ghost use Rattle.mfotl_model.specs.Strategies.{Strategy as StrategyOf};
 ghost use Rattle.monitorable.specs.Cores.{core_form};
-ghost use Rattle.rescale_core.specs.Lines.{AreSound, first_spot};
-ghost use Rattle.rescale_core.specs.Workers.{IsFor};
+ghost use Rattle.rescale_worker.specs.Lines.{AreSound, first_spot};
+ghost use Rattle.rescale_worker.specs.Workers.{IsFor};
 ghost use Rattle.machine_cases.specs.Scripts.{AreReadable};
 
 use crate::setting::Setting;

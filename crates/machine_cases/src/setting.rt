@@ -6,7 +6,7 @@ ghost use Rattle.mfotl_model.specs.Formulas.{form};
 ghost use Rattle.mfotl_parse.specs.WellSorted.{IsWellSorted};
 ghost use Rattle.monitorable.specs.Cores.{core_form};
 ghost use Rattle.monitorable.specs.CoreForms.{meaning};
-ghost use Rattle.rescale_core.specs.Workers.{IsFor};
+ghost use Rattle.rescale_worker.specs.Workers.{IsFor};
 
 use crate::texts::Stop;
 use log_reader::{Limits, LogReader, Next};

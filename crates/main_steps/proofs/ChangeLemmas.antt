@@ -6,10 +6,11 @@ use Rattle.mfotl_model.specs.Strategies.{Strategy, workers_of}
 use Rattle.mfotl_model.specs.declared.event.TimePoint.{TimePoint}
 use Rattle.monitorable.specs.CoreForms.{CoreForm}
 use Rattle.monitor_state.specs.{Verdicts.MayFollow}
-use Rattle.rescale_core.specs.{Moving.IsDriverOf, Moving.core_of, Workers.IsFor, Worlds.World}
-use Rattle.rescale_core.specs.{Worlds.spot_in}
-use Rattle.rescale_core.specs.declared.{driver.Driver.Driver, item.Entry.Entry, item.Entry.TheVariants.Point}
-use Rattle.rescale_core.specs.declared.{item.Entry.TheVariants.Change as ToStrategy}
+use Rattle.rescale_core.specs.{Moving.IsDriverOf, Moving.core_of, Worlds.World, Worlds.spot_in}
+use Rattle.rescale_worker.specs.{Workers.IsFor}
+use Rattle.rescale_core.specs.declared.{driver.Driver.Driver}
+use Rattle.rescale_worker.specs.declared.{item.Entry.Entry, item.Entry.TheVariants.Point}
+use Rattle.rescale_worker.specs.declared.{item.Entry.TheVariants.Change as ToStrategy}
 use Rattle.slice_strategy.specs.declared.change.Change.{Change}
 use Rattle.lone_worker.specs.Verdicts.{Falls}
 use Rattle.lone_worker.specs.declared.tally.Tally.{Tally}

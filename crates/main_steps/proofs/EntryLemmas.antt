@@ -4,8 +4,8 @@ use Rattle.std.proofs.Common.{length, append_assoc, append-nil}
 use Rattle.std.proofs.lemmas.Bool.{le-leb, lt-leb}
 use Rattle.std.specs.Prelude.{nat_le}
 use Rattle.mfotl_model.specs.declared.event.TimePoint.{TimePoint}
-use Rattle.rescale_core.specs.declared.{item.Entry.Entry, item.Entry.TheVariants.Point}
-use Rattle.rescale_core.specs.declared.{item.Entry.TheVariants.Change as ToStrategy}
+use Rattle.rescale_worker.specs.declared.{item.Entry.Entry, item.Entry.TheVariants.Point}
+use Rattle.rescale_worker.specs.declared.{item.Entry.TheVariants.Change as ToStrategy}
 use Rattle.slice_strategy.specs.declared.change.Change.{Change}
 use Rattle.main_steps.specs.Changes.{changes_due, changes_later, entries_behind, left_behind, points_in}
 

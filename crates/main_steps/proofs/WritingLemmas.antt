@@ -11,11 +11,12 @@ use Rattle.rescale_core.proofs.{Ending.world_emitted, Keeping.by_steps, Keeping.
 use Rattle.rescale_core.proofs.{Verdicts.first_verdicts as none_emitted}
 use Rattle.rescale_core.specs.{Laws.EmitsVerdicts, Moving.StepKind.Emits, Moving.StepKind.Reads, Routing.HasEnded}
 use Rattle.rescale_core.specs.{Worlds.Step.Emit, Worlds.Step.Read}
-use Rattle.rescale_core.specs.Lines.{Spot, first_spot, moved, spot_after}
+use Rattle.rescale_worker.specs.Lines.{Spot, first_spot, moved, spot_after}
 use Rattle.rescale_core.specs.Moving.{IsDriverOf, Reaches, TurnsTo}
 use Rattle.rescale_core.specs.Worlds.{World, Allowed, world_after, first_world, spot_in}
-use Rattle.rescale_core.specs.declared.{driver.Driver.Driver, driver.Turn.Turn, item.Entry.Entry}
-use Rattle.rescale_core.specs.declared.{item.Entry.TheVariants.Point, item.Entry.TheVariants.Change as ToStrategy}
+use Rattle.rescale_core.specs.declared.{driver.Driver.Driver, driver.Turn.Turn}
+use Rattle.rescale_worker.specs.declared.{item.Entry.Entry}
+use Rattle.rescale_worker.specs.declared.{item.Entry.TheVariants.Point, item.Entry.TheVariants.Change as ToStrategy}
 use Rattle.verdict_merge.specs.declared.rows.Verdict.{Verdict}
 use Rattle.lone_worker.specs.{Texts.lines, Texts.tally_of}
 use Rattle.lone_worker.specs.Verdicts.{Falls, all_verdicts, first_verdicts, seen}

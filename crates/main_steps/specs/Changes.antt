@@ -7,10 +7,10 @@ use Rattle.mfotl_model.specs.declared.event.TimePoint.{TimePoint}
 use Rattle.monitorable.specs.CoreForms.{CoreForm}
 use Rattle.slice_strategy.specs.declared.change.Change.{Change}
 use Rattle.rescale_core.specs.Moving.{core_of}
-use Rattle.rescale_core.specs.Workers.{IsFor}
+use Rattle.rescale_worker.specs.Workers.{IsFor}
 use Rattle.rescale_core.specs.declared.driver.Driver.{Driver}
-use Rattle.rescale_core.specs.declared.item.Entry.{Entry}
-use Rattle.rescale_core.specs.declared.item.Entry.TheVariants.{Point, Change as ToStrategy}
+use Rattle.rescale_worker.specs.declared.item.Entry.{Entry}
+use Rattle.rescale_worker.specs.declared.item.Entry.TheVariants.{Point, Change as ToStrategy}
 use Rattle.main_steps.specs.declared.schedule.Schedule.{Schedule}
 
 -- each change is to a strategy for the core

@@ -3,8 +3,8 @@ use Rattle.std.specs.Prelude.{◌≡◌, ◌+◌, ◌≤◌, ◌<◌, ℕ, List,
 use Rattle.std.specs.List.{AllByRecursion}
 use Rattle.mfotl_model.specs.Strategies.{Strategy}
 use Rattle.mfotl_model.specs.declared.event.TimePoint.{TimePoint}
-use Rattle.rescale_core.specs.declared.item.Entry.{Entry}
-use Rattle.rescale_core.specs.declared.item.Entry.TheVariants.{Point, Change as ToStrategy}
+use Rattle.rescale_worker.specs.declared.item.Entry.{Entry}
+use Rattle.rescale_worker.specs.declared.item.Entry.TheVariants.{Point, Change as ToStrategy}
 use Rattle.slice_strategy.specs.declared.change.Change.{Change}
 use Rattle.main_steps.specs.Changes.{IsDue, NoneDue, entries_by, left_by, points_in, strategies_in}
 use Rattle.main_steps.specs.declared.schedule.Schedule.{Schedule}

@@ -9,11 +9,11 @@ use Rattle.rescale_core.specs.Laws.{EmitsVerdicts}
 use Rattle.rescale_core.specs.Moving.{IsDriverOf, Reaches}
 use Rattle.rescale_core.specs.Moving.StepKind.{Reads}
 use Rattle.rescale_core.specs.Waiting.{HasRoom}
-use Rattle.rescale_core.specs.Workers.{IsFor}
+use Rattle.rescale_worker.specs.Workers.{IsFor}
 use Rattle.rescale_core.specs.Worlds.{World, first_world, spot_in}
 use Rattle.rescale_core.specs.declared.driver.Driver.{Driver}
-use Rattle.rescale_core.specs.declared.item.Entry.{Entry}
-use Rattle.rescale_core.specs.declared.item.Entry.TheVariants.{Point, Change as ToStrategy}
+use Rattle.rescale_worker.specs.declared.item.Entry.{Entry}
+use Rattle.rescale_worker.specs.declared.item.Entry.TheVariants.{Point, Change as ToStrategy}
 use Rattle.lone_worker.specs.Verdicts.{Falls, all_verdicts, seen}
 use Rattle.lone_worker.specs.Texts.{lines, tally_of}
 use Rattle.lone_worker.specs.declared.tally.Tally.{Tally}

@@ -3,10 +3,10 @@ ghost use Rattle.std.specs.Prelude.{◌≡◌, ◌+◌, ◌≤◌, ◌<◌, ◌^
 ghost use Rattle.mfotl_model.specs.Strategies.{workers_of};
 ghost use Rattle.monitor_state.specs.Verdicts.{MayFollow};
 ghost use Rattle.rescale_core.specs.Moving.{IsDriverOf, core_of};
-ghost use Rattle.rescale_core.specs.Workers.{IsFor};
+ghost use Rattle.rescale_worker.specs.Workers.{IsFor};
 ghost use Rattle.rescale_core.specs.Worlds.{World, spot_in};
 ghost use Rattle.turn_hub.specs.Ends.{IsMainOf, cell_count};
-ghost use Rattle.rescale_core.specs.declared.item.Entry.TheVariants.{Change as ToStrategy};
+ghost use Rattle.rescale_worker.specs.declared.item.Entry.TheVariants.{Change as ToStrategy};
 ghost use Rattle.hub_threads.specs.Hands.{AreHandsOf};
 ghost use Rattle.lone_worker.specs.Verdicts.{IsOutputStop};
 ghost use Rattle.main_steps.specs.Changes.{HaveCells, NoneDue, Suits, changes_due, changes_later};

@@ -5,7 +5,7 @@ use Rattle.std.specs.{List.AllByRecursion, Prelude.Result, Prelude.Ok}
 use Rattle.mfotl_model.specs.{Strategies.Strategy, Formulas.Form}
 use Rattle.mfotl_model.specs.declared.policy.Var.{Var}
 use Rattle.monitorable.specs.{CoreForms.CoreForm, Cores.core_form}
-use Rattle.rescale_core.specs.Workers.{IsFor}
+use Rattle.rescale_worker.specs.Workers.{IsFor}
 use Rattle.slice_strategy.specs.ChangeGrammar.{Script, NoChange, Change}
 use Rattle.slice_strategy.specs.{ChangeRules.IsValue, ChangeRules.changes_of, Entries.HasWorkers}
 use Rattle.slice_strategy.specs.declared.change.Change.{Change as ChangeOf}

@@ -1,6 +1,6 @@
 -- When a task can be monitored.
 use Rattle.monitorable.specs.Cores.{core_form}
-use Rattle.rescale_core.specs.Workers.{IsFor}
+use Rattle.rescale_worker.specs.Workers.{IsFor}
 use Rattle.main_steps.specs.Changes.{AllSuit}
 use Rattle.lone_worker.specs.Policies.{IsCoreOf}
 use Rattle.monitor_main.specs.declared.task.Task.{Task}

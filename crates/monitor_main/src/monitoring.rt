@@ -4,7 +4,7 @@ ghost use Rattle.log_reader.specs.Limits.{standard};
 ghost use Rattle.log_reader.specs.Progress.{nothing_fed};
 ghost use Rattle.log_reader.specs.Readers.{Reads, progress};
 ghost use Rattle.monitorable.specs.Cores.{core_form};
-ghost use Rattle.rescale_core.specs.Workers.{IsFor};
+ghost use Rattle.rescale_worker.specs.Workers.{IsFor};
 ghost use Rattle.main_steps.specs.Changes.{AllSuit};
 ghost use Rattle.lone_worker.specs.Effects.{effect};
 ghost use Rattle.lone_worker.specs.Endings.{FollowsLog};

@@ -4,14 +4,17 @@ use Rattle.std.proofs.Common.{set, sym, refl, ap, ◌∙◌, inl, inr, append_as
 use Rattle.std.proofs.lemmas.Bool.Decides.{nat_tests}
 use Rattle.mfotl_model.specs.Strategies.{workers_of}
 use Rattle.turn_hub.specs.Work.{Leads}
-use Rattle.rescale_core.proofs.{Leading.has_front, Chains.left_out, Soundness.has_of}
-use Rattle.rescale_core.specs.{Cells.AreWithin, Cells.IsCellOf, Seeds.SeedOf, Soundly.IsSound, Handing.nth}
+use Rattle.rescale_core.proofs.{Soundness.has_of}
+use Rattle.rescale_worker.proofs.{Leading.has_front, Chains.left_out}
+use Rattle.rescale_core.specs.{Cells.AreWithin, Cells.IsCellOf, Soundly.IsSound, Handing.nth}
+use Rattle.rescale_worker.specs.{Seeds.SeedOf}
 use Rattle.rescale_core.specs.{Worlds.Step.Feed, Worlds.Step.Take}
-use Rattle.rescale_core.specs.Lines.{Spot, line, moved}
-use Rattle.rescale_core.specs.Working.{Has, May, StandsFor}
+use Rattle.rescale_worker.specs.Lines.{Spot, line, moved}
+use Rattle.rescale_worker.specs.Working.{Has, May, StandsFor}
 use Rattle.rescale_core.specs.Worlds.{World, Allowed, Seat, world_after, set_seat, took_one}
-use Rattle.rescale_core.specs.declared.{cell.Cell.Cell, item.Entry.Entry, item.Entry.TheVariants.Point}
-use Rattle.rescale_core.specs.declared.{item.Entry.TheVariants.Change, item.Item.Item, item.Out.Out}
+use Rattle.rescale_core.specs.declared.{cell.Cell.Cell}
+use Rattle.rescale_worker.specs.declared.{item.Entry.Entry, item.Entry.TheVariants.Point}
+use Rattle.rescale_worker.specs.declared.{item.Entry.TheVariants.Change, item.Item.Item, item.Out.Out}
 
 -- ---- places among cells
 

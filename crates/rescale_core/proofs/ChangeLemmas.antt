@@ -2,19 +2,20 @@
 use Rattle.std.proofs.Common.{◌≡◌, ℕ, ◌+◌, ◌<◌, ◌≤◌, Option, Some, List, [], ◌∷◌, ◌++◌, length, map, get_or, refl}
 use Rattle.std.proofs.Common.{append-nil, append_assoc, arith}
 use Rattle.std.specs.List.{AllByRecursion}
-use Rattle.rescale_core.specs.Lines.{AreSound, Spot, ChangeOfStrategy, first_spot, moved, spot_after}
+use Rattle.rescale_worker.specs.Lines.{AreSound, Spot, ChangeOfStrategy, first_spot, moved, spot_after}
 use Rattle.rescale_core.specs.{Slots.chance_of, Slots.standing_of, Queues.queue_at, Soundly.Known, Soundly.change_of}
-use Rattle.rescale_core.specs.{Workers.IsFor, Worlds.Step.Read}
+use Rattle.rescale_core.specs.{Worlds.Step.Read}
+use Rattle.rescale_worker.specs.{Workers.IsFor}
 use Rattle.mfotl_model.specs.Strategies.{Strategy, workers_of}
 use Rattle.monitorable.specs.CoreForms.{CoreForm}
 use Rattle.verdict_merge.specs.Gathers.{workers_in}
-use Rattle.rescale_core.proofs.{Chains.some_workers, Pieces.skips, ReadingLemmas.reads_on, Soundness.step_sound}
-use Rattle.rescale_core.proofs.{WorldLemmas.spot_more}
+use Rattle.rescale_core.proofs.{Pieces.skips, ReadingLemmas.reads_on, Soundness.step_sound, WorldLemmas.spot_more}
+use Rattle.rescale_worker.proofs.{Chains.some_workers}
 use Rattle.rescale_core.proofs.GatherLemmas.{gather_change, none_begun, spot_up}
 use Rattle.rescale_core.specs.Routing.{IsRouterOf, part_below, place_below}
 use Rattle.rescale_core.specs.Handing.{chance, for_place, standing}
 use Rattle.rescale_core.specs.Worlds.{World, world_after, spot_in}
-use Rattle.rescale_core.specs.declared.{item.Entry.Entry, item.Entry.TheVariants.Point, item.Entry.TheVariants.Change}
+use Rattle.rescale_worker.specs.declared.{item.Entry.Entry, item.Entry.TheVariants.Point, item.Entry.TheVariants.Change}
 use Rattle.rescale_core.specs.declared.{router.Router.Router, slot.Slot.Slot}
 use Rattle.monitor_state.specs.declared.state.Piece.{Piece}
 

@@ -13,15 +13,16 @@ use Rattle.rescale_core.proofs.Pieces.{pieces_more, rises_apart}
 use Rattle.rescale_core.proofs.Rowing.{Ascends, ascends_apart, ascends_weak, CameRow, IsSliceFrom, last_ascends}
 use Rattle.rescale_core.proofs.Rowing.{last_level_more, line_ascends, line_slices, rows_came, rows_lone, rows_more}
 use Rattle.rescale_core.proofs.WorldLemmas.{supplies_pieces, AreChanges, Rises, line_rises, line_changes}
-use Rattle.rescale_core.specs.Lines.{ChangeOfStrategy, Due, first_spot}
+use Rattle.rescale_worker.specs.Lines.{ChangeOfStrategy, Due, first_spot}
 use Rattle.rescale_core.specs.Soundly.{change_of, last_part, last_level, IsSeated, IsSound}
-use Rattle.rescale_core.specs.{Phases.Answers, Handing.for_place, Worlds.Step.Collect}
+use Rattle.rescale_core.specs.{Handing.for_place, Worlds.Step.Collect}
+use Rattle.rescale_worker.specs.{Phases.Answers}
 use Rattle.rescale_core.specs.Worlds.{pieces_in, World, Seat, line_in, set_seat, all_collected, world_after, slice_at}
 use Rattle.rescale_core.specs.Worlds.{rows_in}
 use Rattle.std.specs.List.{AllByRecursion}
 use Rattle.mfotl_model.specs.Numbers.{Apart}
 use Rattle.verdict_merge.specs.Gathers.{rows_at}
-use Rattle.rescale_core.specs.declared.item.Out.{Out}
+use Rattle.rescale_worker.specs.declared.item.Out.{Out}
 use Rattle.verdict_merge.specs.declared.rows.Rows.{Rows}
 
 -- ---- what workers give

@@ -9,10 +9,11 @@ use Rattle.turn_hub.specs.{Answers.MayHand, Ends.main_view}
 use Rattle.turn_hub.proofs.Keeps.{there}
 use Rattle.rescale_core.proofs.{CellLemmas.seed_in, Pieces.answers_cut, Soundness.has_of}
 use Rattle.rescale_core.specs.Moving.{CellLine, IsDriverOf, IsLineOf, lines_of}
-use Rattle.rescale_core.specs.{Routing.HasEnded, Routing.IsRouterOf, Seeds.SeedOf, Soundly.IsSound, Phases.Answers}
-use Rattle.rescale_core.specs.{Working.May, Working.Told, Works.MayBy, Works.ToldBy, Worlds.Step.Emit}
+use Rattle.rescale_core.specs.{Routing.HasEnded, Routing.IsRouterOf, Soundly.IsSound, Worlds.Step.Emit}
+use Rattle.rescale_worker.specs.{Seeds.SeedOf, Phases.Answers, Working.May, Working.Told, Works.MayBy, Works.ToldBy}
 use Rattle.rescale_core.specs.Worlds.{World, Allowed, world_after, line_in}
-use Rattle.rescale_core.specs.declared.{driver.Driver.Driver, item.Item.Item, item.Out.Out}
+use Rattle.rescale_core.specs.declared.{driver.Driver.Driver}
+use Rattle.rescale_worker.specs.declared.{item.Item.Item, item.Out.Out}
 
 -- ---- places among lines
 

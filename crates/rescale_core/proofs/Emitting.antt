@@ -17,10 +17,11 @@ use Rattle.verdict_merge.specs.declared.{rows.Rows.Rows, rows.Verdict.Verdict}
 use Rattle.monitor_state.specs.Verdicts.{settled_in, verdict_on, violations_at}
 use Rattle.rescale_core.proofs.Fitting.{every_filter, every_map}
 use Rattle.rescale_core.proofs.Settling.{head_or_tail, one_slice_settles, slice_final}
-use Rattle.rescale_core.specs.Lines.{AreSound, Due, Spot, first_spot, moved}
-use Rattle.rescale_core.specs.{Lines.Due.Slicing, Soundly.IsSound, Soundly.KnownRow}
-use Rattle.rescale_core.specs.Workers.{IsFor, owned_by, owner}
-use Rattle.rescale_core.specs.declared.{item.Entry.Entry, item.Entry.TheVariants.Point, item.Entry.TheVariants.Change}
+use Rattle.rescale_worker.specs.Lines.{AreSound, Due, Spot, first_spot, moved}
+use Rattle.rescale_core.specs.{Soundly.IsSound, Soundly.KnownRow}
+use Rattle.rescale_worker.specs.{Lines.Due.Slicing}
+use Rattle.rescale_worker.specs.Workers.{IsFor, owned_by, owner}
+use Rattle.rescale_worker.specs.declared.{item.Entry.Entry, item.Entry.TheVariants.Point, item.Entry.TheVariants.Change}
 use Rattle.rescale_core.specs.Worlds.{World, IsGathered, slice_at, spot_in}
 
 -- ---- when a Gather is complete

@@ -12,10 +12,12 @@ use Rattle.monitor_state.specs.{Verdicts.settled_in}
 use Rattle.rescale_core.proofs.Emitting.{DueRow, below_of, due_all}
 use Rattle.rescale_core.proofs.{Fitting.every_map, Progress.all_handed}
 use Rattle.rescale_core.proofs.Given.{given_there, is_of, on_line, settling, worker_there}
-use Rattle.rescale_core.specs.{Cells.Enabled, Cells.IsMachineOf, Laws.EmitsVerdicts, Routing.HasEnded, Lines.first_spot}
-use Rattle.rescale_core.specs.{Soundly.IsSound, Phases.Answers, Handing.chance}
+use Rattle.rescale_core.specs.{Cells.Enabled, Cells.IsMachineOf, Laws.EmitsVerdicts, Routing.HasEnded}
+use Rattle.rescale_worker.specs.{Lines.first_spot, Phases.Answers}
+use Rattle.rescale_core.specs.{Soundly.IsSound, Handing.chance}
 use Rattle.rescale_core.specs.Worlds.{World, IsGathered, line_in, spot_in}
-use Rattle.rescale_core.specs.declared.{step.Step.Step as MachineStep, item.Entry.Entry, machine.Machine.Machine}
+use Rattle.rescale_core.specs.declared.{step.Step.Step as MachineStep, machine.Machine.Machine}
+use Rattle.rescale_worker.specs.declared.{item.Entry.Entry}
 use Rattle.rescale_core.specs.declared.step.Step.TheVariants as step
 
 nothing_in : {A : Type 0} (xs : List A) → ((x : A) (rest : List A) → xs ≡ x ∷ rest → ⊥) → xs ≡ []

@@ -7,11 +7,13 @@ use native.Mathlib.Decide.{ℕ_discrete}
 use Rattle.monitorable.specs.CoreForms.{CoreForm}
 use Rattle.rescale_core.proofs.{CellLemmas.seat_else, CellLemmas.seat_here, QueueLemmas.front_length}
 use Rattle.rescale_core.proofs.{QueueLemmas.front_mapped, ReadyLemmas.queue_ready, Soundness.run_sound}
-use Rattle.rescale_core.specs.{Chances.Chance, Chances.Chance.Sure, Lines.Due, Queues.chances, Queues.queue_at}
+use Rattle.rescale_core.specs.{Chances.Chance, Chances.Chance.Sure, Queues.chances, Queues.queue_at}
+use Rattle.rescale_worker.specs.{Lines.Due}
 use Rattle.rescale_core.specs.{Routing.IsRouterOf, Routing.feeds, Slots.chance_of, Slots.standing_of, Handing.chance}
 use Rattle.rescale_core.specs.{Handing.standing, Worlds.Step.Feed}
 use Rattle.rescale_core.specs.Worlds.{World, AreAllowed, Seat, fed_more, line_in, queue_in, run_steps, world_after}
-use Rattle.rescale_core.specs.declared.{item.Item.Item, router.Router.Router, slot.Slot.Slot}
+use Rattle.rescale_core.specs.declared.{router.Router.Router, slot.Slot.Slot}
+use Rattle.rescale_worker.specs.declared.{item.Item.Item}
 
 -- the seat with these items handed over more
 abbrev pub fed_all : Seat → List Item → Seat

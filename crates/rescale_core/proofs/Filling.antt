@@ -10,11 +10,11 @@ use Rattle.monitorable.specs.CoreForms.{CoreForm}
 use Rattle.rescale_core.proofs.SlotLemmas.{filling, fillings}
 use Rattle.rescale_core.proofs.WorldLemmas.{Above, before_change, before_point, holes_before, line_above, mapped}
 use Rattle.rescale_core.specs.{Chances.Chance, Soundly.Supplies, Soundly.IsSound, Worlds.World, Worlds.line_in}
-use Rattle.rescale_core.specs.Lines.{ChangeOfStrategy, Spot, Due, change_at, moved, first_spot, line, place}
-use Rattle.rescale_core.specs.Lines.Due.{Slicing, Parting, Hole}
+use Rattle.rescale_worker.specs.Lines.{ChangeOfStrategy, Spot, Due, change_at, moved, first_spot, line, place}
+use Rattle.rescale_worker.specs.Lines.Due.{Slicing, Parting, Hole}
 use Rattle.rescale_core.specs.Handing.{nth, for_place, chance, chance_from}
-use Rattle.rescale_core.specs.declared.{item.Entry.Entry, item.Entry.TheVariants.Point, item.Entry.TheVariants.Change}
-use Rattle.rescale_core.specs.declared.{item.Item.Item, item.Item.TheVariants.Adopt}
+use Rattle.rescale_worker.specs.declared.{item.Entry.Entry, item.Entry.TheVariants.Point, item.Entry.TheVariants.Change}
+use Rattle.rescale_worker.specs.declared.{item.Item.Item, item.Item.TheVariants.Adopt}
 use Rattle.monitor_state.specs.declared.state.Piece.{Piece}
 
 -- the pieces of generation g that are due: the j-th, then the next

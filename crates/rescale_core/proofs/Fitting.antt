@@ -3,16 +3,18 @@ use Rattle.std.proofs.Common.{◌≡◌, ℕ, zero, suc, Bool, true, ◌&&◌, O
 use Rattle.std.proofs.Common.{sym, ap, subst, arith}
 use Rattle.std.proofs.{lemmas.Bool.and_parts, lemmas.Bool.cond_both, lemmas.Bool.Decides.nat_tests}
 use Rattle.mfotl_model.specs.{Numbers.Apart, Numbers.NotIn, Strategies.Strategy}
-use Rattle.rescale_core.proofs.{Chains.Chain, WorldLemmas.mapped, WorldLemmas.AreChanges}
-use Rattle.rescale_core.specs.{Lines.ChangeOfStrategy, Lines.Due, Soundly.Supplies, Soundly.Known}
-use Rattle.rescale_core.specs.Phases.{PhaseOf, froms_of, Meets, phase_after, AllMeet, FitsPhase}
+use Rattle.rescale_core.proofs.{WorldLemmas.mapped, WorldLemmas.AreChanges}
+use Rattle.rescale_worker.proofs.{Chains.Chain}
+use Rattle.rescale_core.specs.{Soundly.Supplies, Soundly.Known}
+use Rattle.rescale_worker.specs.{Lines.ChangeOfStrategy, Lines.Due}
+use Rattle.rescale_worker.specs.Phases.{PhaseOf, froms_of, Meets, phase_after, AllMeet, FitsPhase}
 use Rattle.rescale_core.specs.Handing.{nth, for_place, item_of}
 use Rattle.std.specs.List.{AllByRecursion}
 use Rattle.monitorable.specs.CoreForms.{CoreForm}
 use Rattle.monitor_state.specs.declared.state.Piece.{Piece}
-use Rattle.rescale_core.specs.declared.{item.Item.Item, item.Item.TheVariants.Adopt}
-use Rattle.rescale_core.specs.Lines.Due.{Slicing, Parting, Hole}
-use Rattle.rescale_core.specs.Phases.PhaseOf.{Active, Vacant, Waiting}
+use Rattle.rescale_worker.specs.declared.{item.Item.Item, item.Item.TheVariants.Adopt}
+use Rattle.rescale_worker.specs.Lines.Due.{Slicing, Parting, Hole}
+use Rattle.rescale_worker.specs.Phases.PhaseOf.{Active, Vacant, Waiting}
 
 pub every_map : {A : Type 0} (P Q : A → Type 0) (xs : List A) → ((x : A) → P x → Q x) → AllByRecursion P xs
     → AllByRecursion Q xs

@@ -6,18 +6,20 @@ use Rattle.std.proofs.{lemmas.List.Elements.filter-append, lemmas.Bool.cases_Boo
 use Rattle.std.proofs.{lemmas.Bool.Decides.nat_tests, Permutation.every_append}
 use Rattle.mfotl_model.specs.{Strategies.Strategy, Strategies.workers_of, Ascending.ascending, Numbers.Apart}
 use Rattle.mfotl_model.specs.{Numbers.NotIn, Values.row_cmp}
-use Rattle.rescale_core.proofs.{Chains.some_workers, Fitting.every_map, Collecting.collect_sound, Gathered.none_more}
+use Rattle.rescale_core.proofs.{Fitting.every_map, Collecting.collect_sound, Gathered.none_more}
+use Rattle.rescale_worker.proofs.{Chains.some_workers}
 use Rattle.rescale_core.proofs.{Gathered.step_gathered, Pieces.all_pass, Pieces.every_behind, Settling.head_or_tail}
 use Rattle.rescale_core.proofs.{WorldLemmas.spot_more}
 use Rattle.rescale_core.proofs.Emitting.{DueRow, complete_some, complete_with, due_all, merged_due, slice_strategy}
-use Rattle.rescale_core.specs.Lines.{Spot, Due, moved, spot_after, first_spot}
-use Rattle.rescale_core.specs.{Routing.IsGatherOf, Routing.MayAdd, Soundly.IsSound, Soundly.KnownRow, Lines.Due.Slicing}
+use Rattle.rescale_worker.specs.Lines.{Spot, Due, moved, spot_after, first_spot}
+use Rattle.rescale_core.specs.{Routing.IsGatherOf, Routing.MayAdd, Soundly.IsSound, Soundly.KnownRow}
+use Rattle.rescale_worker.specs.{Lines.Due.Slicing}
 use Rattle.rescale_core.specs.Worlds.{World, IsGathered, not_back, slice_at, spot_in, rows_in, Allowed, world_after}
 use Rattle.std.specs.List.{AllByRecursion, list_any}
 use Rattle.verdict_merge.specs.Emitted.{Emits}
 use Rattle.verdict_merge.specs.Gathers.{GatherOf, gathered_rows, complete_ts, is_from, rows_at, workers_in}
 use Rattle.mfotl_model.specs.declared.event.TimePoint.{TimePoint}
-use Rattle.rescale_core.specs.declared.{item.Entry.Entry, item.Entry.TheVariants.Point, item.Entry.TheVariants.Change}
+use Rattle.rescale_worker.specs.declared.{item.Entry.Entry, item.Entry.TheVariants.Point, item.Entry.TheVariants.Change}
 use Rattle.verdict_merge.specs.declared.{rows.Begun.Begun, rows.Rows.Rows, rows.Verdict.Verdict}
 use Rattle.rescale_core.specs.Worlds.Step.{Read, Collect, Emit}
 

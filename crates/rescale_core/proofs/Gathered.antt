@@ -7,7 +7,8 @@ use Rattle.mfotl_model.proofs.NumberLemmas.{at_most}
 use Rattle.mfotl_model.specs.Strategies.{workers_of}
 use Rattle.rescale_core.proofs.{Emitting.below_of, Emitting.due_all, Fitting.every_map, Settling.slice_more}
 use Rattle.rescale_core.proofs.{Collecting.collect_sound}
-use Rattle.rescale_core.specs.{Lines.first_spot, Soundly.IsSound, Lines.Due.Slicing}
+use Rattle.rescale_core.specs.{Soundly.IsSound}
+use Rattle.rescale_worker.specs.{Lines.first_spot, Lines.Due.Slicing}
 use Rattle.rescale_core.specs.Worlds.{World, Step, not_back, rows_in, Allowed, IsGathered, world_after}
 use Rattle.verdict_merge.specs.Gathers.{rows_at}
 use Rattle.verdict_merge.specs.declared.rows.Rows.{Rows}

@@ -10,12 +10,13 @@ use Rattle.monitorable.specs.CoreForms.{CoreForm}
 use Rattle.verdict_merge.specs.Gathers.{rows_at}
 use Rattle.verdict_merge.specs.declared.rows.Rows.{Rows}
 use Rattle.monitor_state.specs.{Verdicts.settled_in}
-use Rattle.rescale_core.proofs.{Chains.taken_if, Rowing.rows_more, Rowing.rows_of_slice}
-use Rattle.rescale_core.specs.Lines.{Due, Spot, dues, line, moved, spot_after}
-use Rattle.rescale_core.specs.{Lines.Due.Slicing, Phases.Answers, Phases.row_for, Workers.newly}
+use Rattle.rescale_core.proofs.{Rowing.rows_more, Rowing.rows_of_slice}
+use Rattle.rescale_worker.proofs.{Chains.taken_if}
+use Rattle.rescale_worker.specs.Lines.{Due, Spot, dues, line, moved, spot_after}
+use Rattle.rescale_worker.specs.{Lines.Due.Slicing, Phases.Answers, Phases.row_for, Workers.newly}
 use Rattle.rescale_core.specs.{Worlds.rows_in, Worlds.slice_at}
-use Rattle.rescale_core.specs.declared.{item.Entry.Entry, item.Entry.TheVariants.Point, item.Entry.TheVariants.Change}
-use Rattle.rescale_core.specs.declared.{item.Out.Out}
+use Rattle.rescale_worker.specs.declared.{item.Entry.Entry, item.Entry.TheVariants.Point, item.Entry.TheVariants.Change}
+use Rattle.rescale_worker.specs.declared.{item.Out.Out}
 
 slice_up : (es : List Entry) (a : Spot) (n g : ℕ) (s : Strategy) (log : List TimePoint) (p : TimePoint)
     → slice_at a es n ≡ Some (Slicing g s log p) → length a.points ≤ length log

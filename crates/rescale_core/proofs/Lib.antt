@@ -1,17 +1,13 @@
-pub mod OwnedLemmas
-pub mod Chains
 pub mod WorldLemmas
 pub mod Fitting
 pub mod Settling
 pub mod Pieces
 pub mod Rowing
-pub mod Leading
 pub mod ReadyLemmas
 pub mod SeatLemmas
 pub mod Collecting
 pub mod Soundness
 pub mod Verdicts
-pub mod SliceLemmas
 pub mod Emitting
 pub mod Gathered
 pub mod GatherLemmas
@@ -24,8 +20,6 @@ pub mod Filling
 pub mod ChangeLemmas
 pub mod CellLemmas
 pub mod FeedLemmas
-pub mod MergeLemmas
-pub mod PieceLemmas
 pub mod RouterLemmas
 pub mod RouterEnds
 pub mod MachineLemmas

@@ -9,13 +9,14 @@ use Rattle.rescale_core.proofs.{Soundness.step_sound, Verdicts.step_verdicts, Wo
 use Rattle.rescale_core.proofs.{WorldLemmas.supplies_length}
 use Rattle.rescale_core.specs.Cells.{Applies, AreWithin, IsCellAt, IsCellOf, IsMachineOf, CellTakes}
 use Rattle.rescale_core.specs.{Laws.EmitsVerdicts, Routing.HasTaken, Routing.IsRouterOf, Handing.nth}
-use Rattle.rescale_core.specs.Lines.{AreSound, MayRead, first_spot, moved}
+use Rattle.rescale_worker.specs.Lines.{AreSound, MayRead, first_spot, moved}
 use Rattle.rescale_core.specs.Worlds.{World, Allowed, Seat, world_after, all_collected, fed_more, line_in, not_back}
 use Rattle.rescale_core.specs.Worlds.{pieces_in, rows_in, set_seat, spot_in, took_one}
 use Rattle.rescale_core.specs.Worlds.Step.{Read, Feed, Take, Collect, Emit}
 use Rattle.rescale_core.specs.declared.{step.Applied.Applied, step.Applied.TheVariants.Did}
-use Rattle.rescale_core.specs.declared.{step.Applied.TheVariants.NotEnabled, cell.Cell.Cell, item.Entry.Entry}
-use Rattle.rescale_core.specs.declared.{item.Item.Item, item.Out.Out, router.Router.Router, machine.Machine.Machine}
+use Rattle.rescale_core.specs.declared.{step.Applied.TheVariants.NotEnabled, cell.Cell.Cell}
+use Rattle.rescale_worker.specs.declared.{item.Entry.Entry, item.Item.Item, item.Out.Out}
+use Rattle.rescale_core.specs.declared.{router.Router.Router, machine.Machine.Machine}
 use Rattle.rescale_core.specs.declared.step.Step.TheVariants as step
 use Rattle.rescale_core.proofs.CellLemmas.{nth_here, nth_set, nth_else, line_none, seed_in, seat_else, same_cell}
 use Rattle.rescale_core.proofs.CellLemmas.{within_front, seat_here}

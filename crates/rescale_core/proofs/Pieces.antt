@@ -6,15 +6,15 @@ use Rattle.std.proofs.{lemmas.Bool.cases_eq, lemmas.Bool.Decides.nat_tests, lemm
 use Rattle.std.proofs.{lemmas.List.length-map, Math.Seq.drop-append_seam, Permutation.every_append}
 use Rattle.mfotl_model.specs.{Numbers.Apart, Numbers.NotIn, Strategies.Strategy, Strategies.workers_of}
 use Rattle.rescale_core.proofs.{Fitting.every_map, WorldLemmas.AreChanges, WorldLemmas.Rises}
-use Rattle.rescale_core.specs.{Lines.ChangeOfStrategy, Lines.Due, Soundly.Known, Soundly.last_part, Workers.newly}
-use Rattle.rescale_core.specs.{Handing.for_place, Worlds.pieces_in}
-use Rattle.rescale_core.specs.Phases.{IsPieceFor, AnswersOne, Parts, Answers, rows_for}
+use Rattle.rescale_core.specs.{Soundly.Known, Soundly.last_part, Handing.for_place, Worlds.pieces_in}
+use Rattle.rescale_worker.specs.{Lines.ChangeOfStrategy, Lines.Due, Workers.newly}
+use Rattle.rescale_worker.specs.Phases.{IsPieceFor, AnswersOne, Parts, Answers, rows_for}
 use Rattle.std.specs.List.{AllByRecursion}
 use Rattle.monitorable.specs.CoreForms.{CoreForm}
 use Rattle.monitor_state.specs.declared.state.Piece.{Piece}
-use Rattle.rescale_core.specs.declared.{item.Out.Out, item.Out.TheVariants.Rows as OfRows}
-use Rattle.rescale_core.specs.declared.{item.Out.TheVariants.Piece as OfPiece}
-use Rattle.rescale_core.specs.Lines.Due.{Slicing, Parting, Hole}
+use Rattle.rescale_worker.specs.declared.{item.Out.Out, item.Out.TheVariants.Rows as OfRows}
+use Rattle.rescale_worker.specs.declared.{item.Out.TheVariants.Piece as OfPiece}
+use Rattle.rescale_worker.specs.Lines.Due.{Slicing, Parting, Hole}
 
 -- ---- lists
 

@@ -12,17 +12,17 @@ use Rattle.monitorable.specs.CoreForms.{CoreForm}
 use Rattle.rescale_core.proofs.Pieces.{changes_apart, every_behind, first_piece, pieces_more}
 use Rattle.rescale_core.proofs.{ReadyLemmas.ready_first, Rowing.change_every, Rowing.point_every}
 use Rattle.rescale_core.proofs.{WorldLemmas.AreChanges, WorldLemmas.line_changes}
-use Rattle.rescale_core.specs.Lines.{Due, Spot, ChangeOfStrategy, dues, first_spot, if_below, line, moved, place}
-use Rattle.rescale_core.specs.Lines.{change_at}
-use Rattle.rescale_core.specs.Lines.Due.{Slicing, Parting, Hole}
-use Rattle.rescale_core.specs.{Soundly.IsSound, Soundly.change_of, Phases.Answers, Phases.Parts, Workers.slice_for}
-use Rattle.rescale_core.specs.{Worlds.Step.Feed}
+use Rattle.rescale_worker.specs.Lines.{Due, Spot, ChangeOfStrategy, dues, first_spot, if_below, line, moved, place}
+use Rattle.rescale_worker.specs.Lines.{change_at}
+use Rattle.rescale_worker.specs.Lines.Due.{Slicing, Parting, Hole}
+use Rattle.rescale_core.specs.{Soundly.IsSound, Soundly.change_of, Worlds.Step.Feed}
+use Rattle.rescale_worker.specs.{Phases.Answers, Phases.Parts, Workers.slice_for}
 use Rattle.rescale_core.specs.Handing.{for_place, item_of, nth, ready_items}
 use Rattle.rescale_core.specs.Worlds.{World, Allowed, line_in, pieces_in}
-use Rattle.rescale_core.specs.declared.{item.Entry.Entry, item.Entry.TheVariants.Point, item.Entry.TheVariants.Change}
-use Rattle.rescale_core.specs.declared.{item.Item.Item, item.Out.Out, item.Out.TheVariants.Piece as OfPiece}
-use Rattle.rescale_core.specs.declared.{item.Out.TheVariants.Rows as OfRows}
-use Rattle.rescale_core.specs.declared.item.Item.TheVariants.{Adopt, Part, Slice}
+use Rattle.rescale_worker.specs.declared.{item.Entry.Entry, item.Entry.TheVariants.Point, item.Entry.TheVariants.Change}
+use Rattle.rescale_worker.specs.declared.{item.Item.Item, item.Out.Out, item.Out.TheVariants.Piece as OfPiece}
+use Rattle.rescale_worker.specs.declared.{item.Out.TheVariants.Rows as OfRows}
+use Rattle.rescale_worker.specs.declared.item.Item.TheVariants.{Adopt, Part, Slice}
 use Rattle.monitor_state.specs.declared.state.Piece.{Piece}
 
 -- ---- what comes before a part

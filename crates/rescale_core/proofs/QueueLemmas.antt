@@ -6,8 +6,8 @@ use Rattle.std.proofs.{Math.Seq.drop-append_seam, lemmas.Grind.common_steps}
 use Rattle.mfotl_model.specs.declared.event.TimePoint.{TimePoint}
 use Rattle.rescale_core.specs.{Chances.Chance.Sure, Queues.chances, Queues.queue_at, Routing.slices_for}
 use Rattle.rescale_core.specs.{Slots.chance_of}
-use Rattle.rescale_core.specs.declared.{item.Item.Item, item.Item.TheVariants.Slice, slot.Slot.Slot}
-use Rattle.rescale_core.specs.declared.{slot.Slot.TheVariants.Ready}
+use Rattle.rescale_core.specs.declared.{slot.Slot.Slot, slot.Slot.TheVariants.Ready}
+use Rattle.rescale_worker.specs.declared.{item.Item.Item, item.Item.TheVariants.Slice}
 
 abbrev pub Queues : Type 0
 Queues = List (List Slot)

@@ -5,7 +5,7 @@ use Rattle.std.proofs.{lemmas.List.drop-append-le, lemmas.List.map-append, lemma
 use Rattle.std.proofs.{lemmas.Bool.Decides.nat_tests, lemmas.Grind.common_steps}
 use Rattle.monitor_state.specs.{Verdicts.MayFollow}
 use Rattle.monitor_state.specs.declared.state.Piece.{Piece}
-use Rattle.rescale_core.specs.Lines.{Due, Spot, dues, if_below, moved}
+use Rattle.rescale_worker.specs.Lines.{Due, Spot, dues, if_below, moved}
 use Rattle.std.specs.List.{range_with_len}
 use Rattle.event_splitter.specs.Parts.{parts_for}
 use Rattle.mfotl_model.specs.{Regions.near_of, Strategies.Strategy, Strategies.workers_of}
@@ -13,12 +13,12 @@ use Rattle.mfotl_model.specs.declared.event.TimePoint.{TimePoint}
 use Rattle.monitorable.specs.{Atoms.atoms_of, CoreForms.CoreForm, Cores.core_form}
 use Rattle.rescale_core.proofs.{GatherLemmas.gather_point, Soundness.step_sound}
 use Rattle.rescale_core.proofs.WorldLemmas.{line_more, spot_more, supplies_length}
-use Rattle.rescale_core.specs.{Lines.Due.Slicing, Queues.chances, Queues.queue_at, Slots.chance_of, Slots.standing_of}
-use Rattle.rescale_core.specs.{Soundly.IsSound, Handing.chance, Handing.standing, Workers.slice_for}
-use Rattle.rescale_core.specs.{Worlds.Step.Read}
+use Rattle.rescale_core.specs.{Queues.chances, Queues.queue_at, Slots.chance_of, Slots.standing_of}
+use Rattle.rescale_worker.specs.{Lines.Due.Slicing, Workers.slice_for}
+use Rattle.rescale_core.specs.{Soundly.IsSound, Handing.chance, Handing.standing, Worlds.Step.Read}
 use Rattle.rescale_core.specs.Routing.{IsRouterOf, all_slices, slices_for}
 use Rattle.rescale_core.specs.Worlds.{World, world_after, line_in, spot_in}
-use Rattle.rescale_core.specs.declared.{item.Entry.Entry, item.Entry.TheVariants.Point, item.Item.TheVariants.Slice}
+use Rattle.rescale_worker.specs.declared.{item.Entry.Entry, item.Entry.TheVariants.Point, item.Item.TheVariants.Slice}
 use Rattle.rescale_core.specs.declared.{router.Router.Router, slot.Slot.Slot, slot.Slot.TheVariants.Ready}
 
 -- ---- slices

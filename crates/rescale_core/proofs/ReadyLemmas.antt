@@ -2,10 +2,11 @@
 use Rattle.std.proofs.Common.{◌≡◌, ℕ, zero, suc, Some, option_map, List, [], ◌∷◌, map, drop, refl, arith}
 use Rattle.monitorable.specs.CoreForms.{CoreForm}
 use Rattle.monitor_state.specs.declared.state.Piece.{Piece}
-use Rattle.rescale_core.specs.{Chances.Chance, Chances.Chance.Sure, Lines.Due}
+use Rattle.rescale_core.specs.{Chances.Chance, Chances.Chance.Sure}
+use Rattle.rescale_worker.specs.{Lines.Due}
 use Rattle.rescale_core.specs.Handing.{chance, for_place, item_of, nth, ready_items}
-use Rattle.rescale_core.specs.Lines.Due.{Slicing, Parting, Hole}
-use Rattle.rescale_core.specs.declared.{item.Item.Item, item.Item.TheVariants.Adopt}
+use Rattle.rescale_worker.specs.Lines.Due.{Slicing, Parting, Hole}
+use Rattle.rescale_worker.specs.declared.{item.Item.Item, item.Item.TheVariants.Adopt}
 
 -- what is left behind the first j begins with the j-th
 nth_first : {A B : Type 0} (f : A → B) (xs : List A) (j : ℕ) (y : B) (rest : List B)

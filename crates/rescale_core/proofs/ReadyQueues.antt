@@ -14,17 +14,18 @@ use Rattle.state_split.proofs.RowCuts.{all_mapped}
 use Rattle.rescale_core.proofs.WorldLemmas.{AreChanges, before_change, before_point, line_changes}
 use Rattle.rescale_core.specs.{Chances.Chance, Chances.Standing, Chances.Chance.Open, Chances.Chance.Sure}
 use Rattle.rescale_core.specs.{Queues.chances, Queues.queue_at, Routing.IsRouterOf, Slots.ready_of, Slots.standing_of}
-use Rattle.rescale_core.specs.{Workers.slice_for}
+use Rattle.rescale_worker.specs.{Workers.slice_for}
 use Rattle.rescale_core.specs.Chances.Standing.{Last, Outside, Within}
 use Rattle.rescale_core.specs.Handing.{chance, chance_from, for_place, nth, ready_items, standing}
-use Rattle.rescale_core.specs.Lines.{Due, Spot, ChangeOfStrategy, first_spot, line, moved, change_at}
-use Rattle.rescale_core.specs.Lines.Due.{Slicing, Parting, Hole}
+use Rattle.rescale_worker.specs.Lines.{Due, Spot, ChangeOfStrategy, first_spot, line, moved, change_at}
+use Rattle.rescale_worker.specs.Lines.Due.{Slicing, Parting, Hole}
 use Rattle.rescale_core.specs.Soundly.{IsSound, Known, change_of}
 use Rattle.rescale_core.specs.Worlds.{World, line_in, ready_in}
-use Rattle.rescale_core.specs.declared.{item.Entry.Entry, item.Entry.TheVariants.Change, item.Entry.TheVariants.Point}
-use Rattle.rescale_core.specs.declared.{item.Item.Item, router.Router.Router, slot.Slot.Slot}
+use Rattle.rescale_worker.specs.declared.{item.Entry.Entry, item.Entry.TheVariants.Change, item.Entry.TheVariants.Point}
+use Rattle.rescale_core.specs.declared.{router.Router.Router, slot.Slot.Slot}
+use Rattle.rescale_worker.specs.declared.{item.Item.Item}
 use Rattle.rescale_core.specs.declared.{slot.Slot.TheVariants.Ready, slot.Slot.TheVariants.Awaited}
-use Rattle.rescale_core.specs.declared.item.Item.TheVariants.{Adopt, Part, Slice}
+use Rattle.rescale_worker.specs.declared.item.Item.TheVariants.{Adopt, Part, Slice}
 
 -- ---- queues
 

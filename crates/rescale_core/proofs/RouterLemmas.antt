@@ -12,7 +12,8 @@ use Rattle.rescale_core.specs.{Queues.all_put, Queues.queue_at, Worlds.Step.Coll
 use Rattle.rescale_core.specs.Routing.{HasTaken, IsRouterOf, MayAdd}
 use Rattle.rescale_core.specs.Worlds.{World, set_seat, Allowed, IsGathered, world_after, all_collected, line_in}
 use Rattle.rescale_core.specs.Worlds.{not_back, pieces_in, rows_in}
-use Rattle.rescale_core.specs.declared.{item.Out.Out, router.Router.Router}
+use Rattle.rescale_core.specs.declared.{router.Router.Router}
+use Rattle.rescale_worker.specs.declared.{item.Out.Out}
 
 -- ---- collecting
 

@@ -8,21 +8,20 @@ use Rattle.std.proofs.{lemmas.Bool.Decides.nat_tests, Permutation.every_append}
 use Rattle.mfotl_model.specs.Strategies.{Strategy, workers_of}
 use Rattle.monitor_state.proofs.{LogLemmas.settled_more}
 use Rattle.monitor_state.specs.{Verdicts.settled_in}
-use Rattle.rescale_core.proofs.{Fitting.every_map, Pieces.none_pass, WorldLemmas.if_either}
-use Rattle.rescale_core.proofs.{WorldLemmas.behind_change}
-use Rattle.rescale_core.specs.Lines.{ChangeOfStrategy, Spot, Due, change_at, dues, if_below, moved, line, place}
-use Rattle.rescale_core.specs.Lines.{AreSound}
-use Rattle.rescale_core.specs.Phases.{Parts, Answers, row_for, rows_for}
-use Rattle.rescale_core.specs.{Soundly.KnownRow, Soundly.last_level, Workers.newly, Worlds.slice_at}
-use Rattle.rescale_core.specs.{Worlds.rows_in}
+use Rattle.rescale_core.proofs.{Fitting.every_map, Pieces.none_pass, WorldLemmas.if_either, WorldLemmas.behind_change}
+use Rattle.rescale_worker.specs.Lines.{ChangeOfStrategy, Spot, Due, change_at, dues, if_below, moved, line, place}
+use Rattle.rescale_worker.specs.Lines.{AreSound}
+use Rattle.rescale_worker.specs.Phases.{Parts, Answers, row_for, rows_for}
+use Rattle.rescale_core.specs.{Soundly.KnownRow, Soundly.last_level, Worlds.slice_at, Worlds.rows_in}
+use Rattle.rescale_worker.specs.{Workers.newly}
 use Rattle.verdict_merge.specs.Gathers.{rows_at}
 use Rattle.monitorable.specs.CoreForms.{CoreForm}
 use Rattle.mfotl_model.specs.declared.event.TimePoint.{TimePoint}
-use Rattle.rescale_core.specs.declared.{item.Entry.Entry, item.Entry.TheVariants.Point, item.Entry.TheVariants.Change}
-use Rattle.rescale_core.specs.declared.{item.Out.Out, item.Out.TheVariants.Rows as OfRows}
-use Rattle.rescale_core.specs.declared.{item.Out.TheVariants.Piece as OfPiece}
+use Rattle.rescale_worker.specs.declared.{item.Entry.Entry, item.Entry.TheVariants.Point, item.Entry.TheVariants.Change}
+use Rattle.rescale_worker.specs.declared.{item.Out.Out, item.Out.TheVariants.Rows as OfRows}
+use Rattle.rescale_worker.specs.declared.{item.Out.TheVariants.Piece as OfPiece}
 use Rattle.verdict_merge.specs.declared.rows.Rows.{Rows}
-use Rattle.rescale_core.specs.Lines.Due.{Slicing, Parting, Hole}
+use Rattle.rescale_worker.specs.Lines.Due.{Slicing, Parting, Hole}
 
 -- what may be due by a change is what is, where the worker is below the strategies' numbers
 below_every : (P : Due → Type 0) (k n : ℕ) (ds : List Due) → (k < n → AllByRecursion P ds)

@@ -6,12 +6,13 @@ use Rattle.mfotl_model.specs.Strategies.{Strategy}
 use Rattle.rescale_core.proofs.{Fitting.every_map, ReadyLemmas.first_due, Settling.slice_more}
 use Rattle.rescale_core.proofs.WorldLemmas.{line_more, sound_more, supplies_line, supplies_length, supplies_next}
 use Rattle.rescale_core.proofs.WorldLemmas.{change_more}
-use Rattle.rescale_core.specs.Lines.{first_spot, line, MayRead}
-use Rattle.rescale_core.specs.{Soundly.IsSeated, Soundly.IsSound, Phases.Answers, Workers.IsFor, Lines.Due.Slicing}
+use Rattle.rescale_worker.specs.Lines.{first_spot, line, MayRead}
+use Rattle.rescale_core.specs.{Soundly.IsSeated, Soundly.IsSound}
+use Rattle.rescale_worker.specs.{Phases.Answers, Workers.IsFor, Lines.Due.Slicing}
 use Rattle.rescale_core.specs.Worlds.{first_world, World, Seat, line_in, spot_in, set_seat, fed_more, took_one}
 use Rattle.rescale_core.specs.Worlds.{world_after, ready_in}
 use Rattle.monitorable.specs.CoreForms.{CoreForm}
-use Rattle.rescale_core.specs.declared.{item.Item.Item, item.Entry.Entry, item.Out.Out}
+use Rattle.rescale_worker.specs.declared.{item.Item.Item, item.Entry.Entry, item.Out.Out}
 use Rattle.verdict_merge.specs.declared.rows.Verdict.{Verdict}
 use Rattle.rescale_core.specs.Worlds.Step.{Read, Feed, Take}
 

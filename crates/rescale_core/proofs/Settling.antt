@@ -5,11 +5,12 @@ use Rattle.std.proofs.lemmas.Bool.Decides.{nat_tests}
 use Rattle.mfotl_model.specs.{Log.times, Strategies.Strategy}
 use Rattle.monitor_state.proofs.LogLemmas.{settled_more, settled_within, viol_final}
 use Rattle.monitor_state.specs.{Verdicts.violations_at, Verdicts.settled_in}
-use Rattle.rescale_core.specs.Lines.{Spot, Due, moved, spot_after, AreSound}
+use Rattle.rescale_worker.specs.Lines.{Spot, Due, moved, spot_after, AreSound}
 use Rattle.monitorable.specs.{Fragment.IsMonitorable, CoreForms.CoreForm}
-use Rattle.rescale_core.specs.{Worlds.slice_at, Lines.Due.Slicing}
+use Rattle.rescale_core.specs.{Worlds.slice_at}
+use Rattle.rescale_worker.specs.{Lines.Due.Slicing}
 use Rattle.mfotl_model.specs.declared.event.TimePoint.{TimePoint}
-use Rattle.rescale_core.specs.declared.{item.Entry.Entry, item.Entry.TheVariants.Point, item.Entry.TheVariants.Change}
+use Rattle.rescale_worker.specs.declared.{item.Entry.Entry, item.Entry.TheVariants.Point, item.Entry.TheVariants.Change}
 
 -- what is settled at a stays settled
 pub level_rises : (c : CoreForm) (es : List Entry) (a : Spot) → AreSound c a es

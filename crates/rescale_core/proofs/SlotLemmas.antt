@@ -12,8 +12,8 @@ use Rattle.rescale_core.specs.Chances.Standing.{Last, Outside, Within}
 use Rattle.rescale_core.specs.Queues.{all_put, chances, queue_filled}
 use Rattle.rescale_core.specs.Slots.{chance_of, ends_place, first_ends, first_awaited, is_there, lacks, slot_filled}
 use Rattle.rescale_core.specs.Slots.{ready_of, standing_of, weight_of}
-use Rattle.rescale_core.specs.declared.{item.Item.Item, item.Item.TheVariants.Adopt, slot.Slot.Slot}
-use Rattle.rescale_core.specs.declared.{slot.Slot.TheVariants.Ready, slot.Slot.TheVariants.Awaited}
+use Rattle.rescale_core.specs.declared.{slot.Slot.Slot, slot.Slot.TheVariants.Ready, slot.Slot.TheVariants.Awaited}
+use Rattle.rescale_worker.specs.declared.{item.Item.Item, item.Item.TheVariants.Adopt}
 use Rattle.monitor_state.specs.declared.state.Piece.{Piece}
 
 -- ---- what counts

@@ -1,8 +1,9 @@
 -- What holds in each world that steps reach.
 use Rattle.std.proofs.Common.{ℕ, List, [], ◌∷◌, ◌++◌, refl, arith}
-use Rattle.rescale_core.proofs.{Chains.chained, Fitting.fits_of, Leading.first_agrees, WorldLemmas.line_changes}
-use Rattle.rescale_core.proofs.{Collecting.collect_sound}
-use Rattle.rescale_core.specs.{Soundly.IsSound, Working.Has}
+use Rattle.rescale_core.proofs.{Fitting.fits_of, WorldLemmas.line_changes, Collecting.collect_sound}
+use Rattle.rescale_worker.proofs.{Chains.chained, Leading.first_agrees}
+use Rattle.rescale_core.specs.{Soundly.IsSound}
+use Rattle.rescale_worker.specs.{Working.Has}
 use Rattle.rescale_core.specs.Worlds.{World, Step, world_after, Allowed, run_steps, AreAllowed}
 use Rattle.rescale_core.specs.Worlds.Step.{Read, Feed, Take, Collect, Emit}
 use Rattle.rescale_core.proofs.SeatLemmas.{read_sound, feed_sound, sound_moved, take_sound}

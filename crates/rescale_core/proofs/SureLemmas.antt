@@ -3,7 +3,8 @@ use Rattle.std.proofs.Common.{◌≡◌, ◌+◌, ◌<◌, false, List, [], ◌�
 use Rattle.std.proofs.lemmas.List.Sums.{sum_by-cons}
 use Rattle.rescale_core.specs.{Chances.Chance.Sure, Queues.chances, Queues.queue_filled}
 use Rattle.rescale_core.specs.Slots.{first_ends, ready_of, sure, weight_of}
-use Rattle.rescale_core.specs.declared.{item.Item.Item, slot.Slot.Slot, slot.Slot.TheVariants.Ready}
+use Rattle.rescale_core.specs.declared.{slot.Slot.Slot, slot.Slot.TheVariants.Ready}
+use Rattle.rescale_worker.specs.declared.{item.Item.Item}
 use Rattle.monitor_state.specs.declared.state.Piece.{Piece}
 
 pub sure_chances : (is : List Item) → chances (sure is) ≡ map (λ i. Sure i) is

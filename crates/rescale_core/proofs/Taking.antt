@@ -3,12 +3,14 @@ use Rattle.std.proofs.Common.{◌≡◌, ◌≢◌, ℕ, zero, suc, ◌+◌, ◌
 use Rattle.std.proofs.Common.{refl, ap, ◌∙◌, append_assoc, append-nil, arith, take-add, suc-add}
 use Rattle.std.proofs.Math.Nat.{add-zero}
 use Rattle.rescale_core.proofs.CellLemmas.{seat_here, seat_else, seat_same}
-use Rattle.rescale_core.proofs.{DriverLemmas.driver_on, Leading.answers_more, Soundness.step_sound}
-use Rattle.rescale_core.proofs.{WorldLemmas.supplies_length}
+use Rattle.rescale_core.proofs.{DriverLemmas.driver_on, Soundness.step_sound, WorldLemmas.supplies_length}
+use Rattle.rescale_worker.proofs.{Leading.answers_more}
 use Rattle.rescale_core.specs.Moving.{StepKind, DriverMoves, Reaches, lines_of}
-use Rattle.rescale_core.specs.{Moving.StepKind.Takes, Soundly.IsSound, Phases.Answers, Worlds.Step.Take}
+use Rattle.rescale_core.specs.{Moving.StepKind.Takes, Soundly.IsSound, Worlds.Step.Take}
+use Rattle.rescale_worker.specs.{Phases.Answers}
 use Rattle.rescale_core.specs.Worlds.{World, Allowed, Seat, world_after, line_in, took_one}
-use Rattle.rescale_core.specs.declared.{driver.Driver.Driver, item.Out.Out}
+use Rattle.rescale_core.specs.declared.{driver.Driver.Driver}
+use Rattle.rescale_worker.specs.declared.{item.Out.Out}
 
 -- ---- steps, one after the other
 

@@ -11,10 +11,11 @@ use Rattle.rescale_core.proofs.Taking.{Took, reaches_on, takes_all}
 use Rattle.rescale_core.specs.Moving.{CellLine, HasTurn, IsDriverOf, DriverMoves, Reaches, collects, lines_of}
 use Rattle.rescale_core.specs.Moving.StepKind.{Collects, Feeds, Takes}
 use Rattle.rescale_core.specs.Routing.{HasTaken, IsRouterOf, feeds}
-use Rattle.rescale_core.specs.{Seeds.SeedOf, Soundly.IsSound, Working.May, Works.MayBy, Works.ToldBy}
-use Rattle.rescale_core.specs.{Worlds.Step.Collect, Worlds.Step.Feed}
+use Rattle.rescale_core.specs.{Soundly.IsSound, Worlds.Step.Collect, Worlds.Step.Feed}
+use Rattle.rescale_worker.specs.{Seeds.SeedOf, Working.May, Works.MayBy, Works.ToldBy}
 use Rattle.rescale_core.specs.Worlds.{World, Allowed, AreAllowed, Seat, all_collected, run_steps, world_after}
-use Rattle.rescale_core.specs.declared.{driver.Driver.Driver, item.Item.Item, item.Out.Out, router.Router.Router}
+use Rattle.rescale_core.specs.declared.{driver.Driver.Driver, router.Router.Router}
+use Rattle.rescale_worker.specs.declared.{item.Item.Item, item.Out.Out}
 
 reaches_feeds : (items : List Item) (w : World) (k : ℕ) → AreAllowed w (feeds k items)
     → Reaches w (replicate (length items) (Feeds k)) (run_steps w (feeds k items))

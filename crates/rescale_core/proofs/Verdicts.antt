@@ -8,12 +8,12 @@ use Rattle.monitor_state.specs.{Verdicts.violations_at, Verdicts.settled_in}
 use Rattle.monitor_state.specs.Verdicts.{verdict_on}
 use Rattle.rescale_core.proofs.{Soundness.step_sound, WorldLemmas.spot_more}
 use Rattle.rescale_core.proofs.Settling.{level_rises, viol_stays, time_stays, slice_below}
-use Rattle.rescale_core.specs.{Lines.first_spot, Lines.moved, Soundly.IsSound, Laws.EmitsVerdicts}
+use Rattle.rescale_core.specs.{Soundly.IsSound, Laws.EmitsVerdicts}
+use Rattle.rescale_worker.specs.{Lines.first_spot, Lines.moved}
 use Rattle.mfotl_model.specs.Strategies.{Strategy}
 use Rattle.monitorable.specs.CoreForms.{CoreForm}
-use Rattle.rescale_core.specs.Worlds.{World, first_world, Step, spot_in, Allowed, AreAllowed, world_after}
-use Rattle.rescale_core.specs.Worlds.{run_steps}
-use Rattle.rescale_core.specs.declared.item.Entry.{Entry}
+use Rattle.rescale_core.specs.Worlds.{World, first_world, Step, spot_in, Allowed, AreAllowed, world_after, run_steps}
+use Rattle.rescale_worker.specs.declared.item.Entry.{Entry}
 use Rattle.rescale_core.specs.Worlds.Step.{Read, Feed, Take, Collect, Emit}
 
 map_same : {A : Type 0} (f g : ℕ → A) (j n : ℕ) → ((i : ℕ) → i < j + n → f i ≡ g i)

@@ -7,14 +7,15 @@ use Rattle.std.proofs.lemmas.List.Sums.{sum_by-append, sum_by-cons, sum_by-take-
 use Rattle.std.specs.List.{list_all, range_with_len}
 use Rattle.mfotl_model.specs.Strategies.{workers_of}
 use Rattle.rescale_core.proofs.WorldLemmas.{if_either, line_more, supplies_length}
-use Rattle.rescale_core.specs.Lines.{Due, Spot, ChangeOfStrategy, line}
-use Rattle.rescale_core.specs.{Lines.Due.Hole, Queues.queue_at, Chances.Standing, Slots.weight_of, Routing.IsRouterOf}
-use Rattle.rescale_core.specs.{Soundly.IsSound}
+use Rattle.rescale_worker.specs.Lines.{Due, Spot, ChangeOfStrategy, line}
+use Rattle.rescale_core.specs.{Queues.queue_at, Chances.Standing, Slots.weight_of, Routing.IsRouterOf, Soundly.IsSound}
+use Rattle.rescale_worker.specs.{Lines.Due.Hole}
 use Rattle.rescale_core.specs.Chances.Standing.{Last, Outside, Within}
 use Rattle.rescale_core.specs.Waiting.{HasRoom, added_waiting, is_short, most_waiting, waiting_in, weight}
 use Rattle.rescale_core.specs.Worlds.{World, Allowed, Step, world_after}
 use Rattle.rescale_core.specs.Worlds.Step.{Read, Feed, Take, Collect, Emit}
-use Rattle.rescale_core.specs.declared.{item.Entry.Entry, slot.Slot.Slot, router.Router.Router}
+use Rattle.rescale_core.specs.declared.{slot.Slot.Slot, router.Router.Router}
+use Rattle.rescale_worker.specs.declared.{item.Entry.Entry}
 
 -- ---- queues
 

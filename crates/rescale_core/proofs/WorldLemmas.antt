@@ -5,14 +5,14 @@ use Rattle.std.proofs.{lemmas.Bool.cond_both, lemmas.List.Elements.filter-append
 use Rattle.std.specs.List.{range_with_len}
 use Rattle.mfotl_model.specs.declared.event.TimePoint.{TimePoint}
 use Rattle.mfotl_model.specs.Strategies.{Strategy, workers_of}
-use Rattle.rescale_core.specs.Lines.{ChangeOfStrategy, Spot, Due, change_at, moved, spot_after, line, dues, place}
-use Rattle.rescale_core.specs.Lines.{MayRead, AreSound}
+use Rattle.rescale_worker.specs.Lines.{ChangeOfStrategy, Spot, Due, change_at, moved, spot_after, line, dues, place}
+use Rattle.rescale_worker.specs.Lines.{MayRead, AreSound}
 use Rattle.rescale_core.specs.{Soundly.Supplies, Soundly.change_of, Handing.nth, Handing.item_of}
 use Rattle.monitorable.specs.CoreForms.{CoreForm}
 use Rattle.monitor_state.specs.declared.state.Piece.{Piece}
-use Rattle.rescale_core.specs.declared.{item.Entry.Entry, item.Entry.TheVariants.Point, item.Entry.TheVariants.Change}
-use Rattle.rescale_core.specs.declared.{item.Item.Item}
-use Rattle.rescale_core.specs.Lines.Due.{Slicing, Parting, Hole}
+use Rattle.rescale_worker.specs.declared.{item.Entry.Entry, item.Entry.TheVariants.Point, item.Entry.TheVariants.Change}
+use Rattle.rescale_worker.specs.declared.{item.Item.Item}
+use Rattle.rescale_worker.specs.Lines.Due.{Slicing, Parting, Hole}
 
 pub line_more : (k : ℕ) (a : Spot) (es more : List Entry)
     → line k a (es ++ more) ≡ line k a es ++ line k (spot_after a es) more

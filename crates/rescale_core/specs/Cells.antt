@@ -3,11 +3,11 @@ use Rattle.std.specs.Prelude.{◌≡◌, ℕ, ◌+◌, ◌<◌, ◌≤◌, List,
 use Rattle.std.specs.List.{AllByRecursion}
 use Rattle.mfotl_model.specs.Strategies.{workers_of}
 use Rattle.rescale_core.specs.Laws.{EmitsVerdicts}
-use Rattle.rescale_core.specs.Lines.{AreSound}
+use Rattle.rescale_worker.specs.Lines.{AreSound}
 use Rattle.rescale_core.specs.Routing.{IsRouterOf}
-use Rattle.rescale_core.specs.Seeds.{SeedOf}
+use Rattle.rescale_worker.specs.Seeds.{SeedOf}
 use Rattle.rescale_core.specs.Soundly.{IsSound}
-use Rattle.rescale_core.specs.Working.{StandsFor}
+use Rattle.rescale_worker.specs.Working.{StandsFor}
 use Rattle.rescale_core.specs.Handing.{nth}
 use Rattle.rescale_core.specs.Worlds.{World, Allowed, IsGathered, Seat, world_after, spot_in}
 use Rattle.rescale_core.specs.Worlds.Step.{Read, Feed, Take, Collect, Emit}
@@ -16,10 +16,10 @@ use Rattle.rescale_core.specs.declared.step.Applied.TheVariants.{Did, NotEnabled
 use Rattle.rescale_core.specs.declared.cell.Cell.{Cell}
 use Rattle.rescale_core.specs.declared.step.Step.{Step as MachineStep}
 use Rattle.rescale_core.specs.declared.step.Step.TheVariants as step
-use Rattle.rescale_core.specs.declared.item.Entry.{Entry}
-use Rattle.rescale_core.specs.declared.item.Entry.TheVariants.{Point, Change}
-use Rattle.rescale_core.specs.declared.item.Item.{Item}
-use Rattle.rescale_core.specs.declared.item.Out.{Out}
+use Rattle.rescale_worker.specs.declared.item.Entry.{Entry}
+use Rattle.rescale_worker.specs.declared.item.Entry.TheVariants.{Point, Change}
+use Rattle.rescale_worker.specs.declared.item.Item.{Item}
+use Rattle.rescale_worker.specs.declared.item.Out.{Out}
 use Rattle.verdict_merge.specs.declared.rows.Verdict.{Verdict}
 use Rattle.rescale_core.specs.declared.machine.Machine.{Machine}
 

@@ -1,7 +1,7 @@
 -- What may be handed over, or is still missing.
 use Rattle.std.specs.Prelude.{ℕ}
 use Rattle.mfotl_model.specs.Strategies.{Strategy}
-use Rattle.rescale_core.specs.declared.item.Item.{Item}
+use Rattle.rescale_worker.specs.declared.item.Item.{Item}
 
 -- what stands in a worker's queue: an item that is there, or room for a piece of a generation, whose strategy
 -- is told

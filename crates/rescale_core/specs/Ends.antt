@@ -17,19 +17,19 @@ use Rattle.rescale_core.specs.Moving.{IsDriverOf, IsOpened, StepKind, Reaches, T
 use Rattle.rescale_core.specs.Routing.{HasEnded}
 use Rattle.rescale_core.specs.Soundly.{IsSound}
 use Rattle.rescale_core.specs.Waiting.{waiting_in}
-use Rattle.rescale_core.specs.Workers.{owner}
-use Rattle.rescale_core.specs.Working.{StandsFor, seed_of}
-use Rattle.rescale_core.specs.Works.{StandsBy, begun}
+use Rattle.rescale_worker.specs.Workers.{owner}
+use Rattle.rescale_worker.specs.Working.{StandsFor, seed_of}
+use Rattle.rescale_worker.specs.Works.{StandsBy, begun}
 use Rattle.rescale_core.specs.Worlds.{World, IsGathered, spot_in}
 use Rattle.rescale_core.specs.declared.driver.Driver.{Driver}
 use Rattle.rescale_core.specs.declared.driver.Turn.{Turn}
-use Rattle.rescale_core.specs.declared.item.Entry.{Entry}
-use Rattle.rescale_core.specs.declared.item.Item.{Item}
-use Rattle.rescale_core.specs.declared.item.Out.{Out}
+use Rattle.rescale_worker.specs.declared.item.Entry.{Entry}
+use Rattle.rescale_worker.specs.declared.item.Item.{Item}
+use Rattle.rescale_worker.specs.declared.item.Out.{Out}
 use Rattle.rescale_core.specs.declared.machine.Machine.{Machine}
-use Rattle.rescale_core.specs.declared.seed.Seed.{Seed}
+use Rattle.rescale_worker.specs.declared.seed.Seed.{Seed}
 use Rattle.rescale_core.specs.declared.step.Step.{Step as MachineStep}
-use Rattle.rescale_core.specs.declared.worker.Worker.{Worker}
+use Rattle.rescale_worker.specs.declared.worker.Worker.{Worker}
 
 -- in each world that a machine stands for, what workers were handed fits, what they gave answers it, and what was
 -- emitted are the first verdicts

@@ -7,13 +7,13 @@ use Rattle.monitorable.specs.CoreForms.{CoreForm}
 use Rattle.monitor_state.specs.declared.state.Piece.{Piece}
 use Rattle.monitor_state.specs.declared.state.State.{State}
 use Rattle.rescale_core.specs.Waiting.{is_short}
-use Rattle.rescale_core.specs.Workers.{slice_for}
+use Rattle.rescale_worker.specs.Workers.{slice_for}
 use Rattle.rescale_core.specs.Worlds.{Step, first_world, ready_in, run_steps}
 use Rattle.rescale_core.specs.Worlds.Step.{Collect, Feed, Read, Take}
-use Rattle.rescale_core.specs.declared.item.Entry.TheVariants.{Change, Point}
-use Rattle.rescale_core.specs.declared.item.Item.{Item}
-use Rattle.rescale_core.specs.declared.item.Item.TheVariants.{Adopt, Part, Slice}
-use Rattle.rescale_core.specs.declared.item.Out.TheVariants.{Piece as OfPiece}
+use Rattle.rescale_worker.specs.declared.item.Entry.TheVariants.{Change, Point}
+use Rattle.rescale_worker.specs.declared.item.Item.{Item}
+use Rattle.rescale_worker.specs.declared.item.Item.TheVariants.{Adopt, Part, Slice}
+use Rattle.rescale_worker.specs.declared.item.Out.TheVariants.{Piece as OfPiece}
 use Rattle.rescale_core.specs.declared.slot.Slot.TheVariants.{Ready}
 
 -- two workers, by the variable x, numbered 0

@@ -7,11 +7,11 @@ use Rattle.monitor_state.specs.declared.state.Piece.{Piece}
 use Rattle.rescale_core.specs.Chances.{Chance, Standing}
 use Rattle.rescale_core.specs.Chances.Chance.{Sure, Open}
 use Rattle.rescale_core.specs.Chances.Standing.{Outside, Within, Last}
-use Rattle.rescale_core.specs.Lines.{Due}
-use Rattle.rescale_core.specs.Lines.Due.{Slicing, Parting, Hole}
-use Rattle.rescale_core.specs.Workers.{slice_for}
-use Rattle.rescale_core.specs.declared.item.Item.{Item}
-use Rattle.rescale_core.specs.declared.item.Item.TheVariants.{Slice, Part, Adopt}
+use Rattle.rescale_worker.specs.Lines.{Due}
+use Rattle.rescale_worker.specs.Lines.Due.{Slicing, Parting, Hole}
+use Rattle.rescale_worker.specs.Workers.{slice_for}
+use Rattle.rescale_worker.specs.declared.item.Item.{Item}
+use Rattle.rescale_worker.specs.declared.item.Item.TheVariants.{Slice, Part, Adopt}
 
 -- the member at a place, if there is one
 abbrev pub nth : {A : Type 0} → List A → ℕ → Option A

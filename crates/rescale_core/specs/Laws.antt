@@ -4,9 +4,9 @@ use Rattle.std.specs.List.{range_with_len}
 use Rattle.mfotl_model.specs.Strategies.{Strategy}
 use Rattle.monitorable.specs.CoreForms.{CoreForm}
 use Rattle.monitor_state.specs.Verdicts.{settled_in, verdict_on}
-use Rattle.rescale_core.specs.Workers.{IsFor}
-use Rattle.rescale_core.specs.Phases.{Answers}
-use Rattle.rescale_core.specs.Working.{Has}
+use Rattle.rescale_worker.specs.Workers.{IsFor}
+use Rattle.rescale_worker.specs.Phases.{Answers}
+use Rattle.rescale_worker.specs.Working.{Has}
 use Rattle.rescale_core.specs.Worlds.{World, Step, first_world, run_steps, AreAllowed, line_in, spot_in}
 
 -- what worker k was handed fits, and what it gave answers what it took

@@ -1,16 +1,7 @@
-pub mod Workers
-pub mod Monitors
-pub mod Lines
-pub mod Phases
 pub mod Chances
-pub mod States
 pub mod Slots
 pub mod Handing
 pub mod Worlds
-pub mod Seeds
-pub mod Settlings
-pub mod Working
-pub mod Works
 pub mod Soundly
 pub mod Queues
 pub mod Routing

@@ -12,14 +12,14 @@ use Rattle.turn_hub.specs.declared.hub.Main.{Main}
 use Rattle.turn_hub.specs.declared.view.Line.{Line}
 use Rattle.verdict_merge.specs.declared.rows.Verdict.{Verdict}
 use Rattle.rescale_core.specs.Routing.{IsRouterOf}
-use Rattle.rescale_core.specs.Works.{seen}
+use Rattle.rescale_worker.specs.Works.{seen}
 use Rattle.rescale_core.specs.Worlds.{World, Allowed, world_after, first_seat, ready_in}
 use Rattle.rescale_core.specs.Worlds.Step.{Read, Feed, Take, Collect, Emit}
-use Rattle.rescale_core.specs.declared.item.Entry.{Entry}
-use Rattle.rescale_core.specs.declared.item.Item.{Item}
-use Rattle.rescale_core.specs.declared.item.Out.{Out}
-use Rattle.rescale_core.specs.declared.worker.Worker.{Worker}
-use Rattle.rescale_core.specs.declared.seed.Seed.{Seed}
+use Rattle.rescale_worker.specs.declared.item.Entry.{Entry}
+use Rattle.rescale_worker.specs.declared.item.Item.{Item}
+use Rattle.rescale_worker.specs.declared.item.Out.{Out}
+use Rattle.rescale_worker.specs.declared.worker.Worker.{Worker}
+use Rattle.rescale_worker.specs.declared.seed.Seed.{Seed}
 use Rattle.rescale_core.specs.declared.driver.Driver.{Driver}
 use Rattle.rescale_core.specs.declared.driver.Turn.{Turn}
 use Rattle.rescale_core.specs.declared.driver.Turn.TheVariants.{Moved, NotYet, Broken}

@@ -10,19 +10,19 @@ use Rattle.verdict_merge.specs.Gathers.{GatherOf, is_from, workers_in}
 use Rattle.verdict_merge.specs.declared.rows.Begun.{Begun}
 use Rattle.verdict_merge.specs.declared.rows.Rows.{Rows}
 use Rattle.verdict_merge.specs.declared.rows.Verdict.{Verdict}
-use Rattle.rescale_core.specs.Workers.{slice_for}
-use Rattle.rescale_core.specs.Lines.{spot_after, first_spot}
-use Rattle.rescale_core.specs.Lines.Due.{Slicing}
+use Rattle.rescale_worker.specs.Workers.{slice_for}
+use Rattle.rescale_worker.specs.Lines.{spot_after, first_spot}
+use Rattle.rescale_worker.specs.Lines.Due.{Slicing}
 use Rattle.rescale_core.specs.Chances.Chance.{Sure}
 use Rattle.rescale_core.specs.Queues.{chances, queue_at}
 use Rattle.rescale_core.specs.Slots.{awaited, ready_of, standing_of}
 use Rattle.rescale_core.specs.Worlds.{World, Step, spot_in, queue_in, slice_at, standings_in, GatheredIn, IsGathered}
 use Rattle.rescale_core.specs.Worlds.Step.{Feed}
 use Rattle.rescale_core.specs.Soundly.{IsSound}
-use Rattle.rescale_core.specs.declared.item.Item.{Item}
-use Rattle.rescale_core.specs.declared.item.Entry.{Entry}
-use Rattle.rescale_core.specs.declared.item.Item.TheVariants.{Slice, Part}
-use Rattle.rescale_core.specs.declared.item.Out.{Out}
+use Rattle.rescale_worker.specs.declared.item.Item.{Item}
+use Rattle.rescale_worker.specs.declared.item.Entry.{Entry}
+use Rattle.rescale_worker.specs.declared.item.Item.TheVariants.{Slice, Part}
+use Rattle.rescale_worker.specs.declared.item.Out.{Out}
 use Rattle.rescale_core.specs.declared.router.Router.{Router}
 use Rattle.rescale_core.specs.declared.slot.Slot.{Slot}
 use Rattle.rescale_core.specs.declared.slot.Slot.TheVariants.{Ready}

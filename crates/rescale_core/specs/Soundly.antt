@@ -10,16 +10,16 @@ use Rattle.verdict_merge.specs.Gathers.{rows_at}
 use Rattle.verdict_merge.specs.declared.rows.Rows.{Rows}
 use Rattle.monitor_state.specs.Verdicts.{settled_in}
 use Rattle.monitor_state.specs.declared.state.Piece.{Piece}
-use Rattle.rescale_core.specs.Workers.{IsFor}
-use Rattle.rescale_core.specs.Lines.{ChangeOfStrategy, Spot, Due, change_at, moved, first_spot, AreSound}
-use Rattle.rescale_core.specs.Lines.Due.{Slicing, Parting, Hole}
-use Rattle.rescale_core.specs.Phases.{IsPieceFor, Answers, row_for}
+use Rattle.rescale_worker.specs.Workers.{IsFor}
+use Rattle.rescale_worker.specs.Lines.{ChangeOfStrategy, Spot, Due, change_at, moved, first_spot, AreSound}
+use Rattle.rescale_worker.specs.Lines.Due.{Slicing, Parting, Hole}
+use Rattle.rescale_worker.specs.Phases.{IsPieceFor, Answers, row_for}
 use Rattle.rescale_core.specs.Handing.{for_place, item_of}
 use Rattle.rescale_core.specs.Worlds.{World, Seat, line_in, pieces_in, rows_in, slice_at}
-use Rattle.rescale_core.specs.declared.item.Entry.{Entry}
-use Rattle.rescale_core.specs.declared.item.Entry.TheVariants.{Point, Change}
-use Rattle.rescale_core.specs.declared.item.Item.{Item}
-use Rattle.rescale_core.specs.declared.item.Out.{Out}
+use Rattle.rescale_worker.specs.declared.item.Entry.{Entry}
+use Rattle.rescale_worker.specs.declared.item.Entry.TheVariants.{Point, Change}
+use Rattle.rescale_worker.specs.declared.item.Item.{Item}
+use Rattle.rescale_worker.specs.declared.item.Out.{Out}
 
 -- the items are what is due, as far as they go
 abbrev pub Supplies : CoreForm → ℕ → List Piece → List Due → List Item → Type 0

@@ -1,13 +1,13 @@
 -- How much waits for a worker.
 use Rattle.std.specs.Prelude.{ℕ, ◌+◌, ◌<◌, ◌≤◌, Bool, cond, nat_eq, nat_lt, List, length, drop, sum_by}
 use Rattle.mfotl_model.specs.Strategies.{workers_of}
-use Rattle.rescale_core.specs.Lines.{Due}
-use Rattle.rescale_core.specs.Lines.Due.{Slicing, Parting, Hole}
+use Rattle.rescale_worker.specs.Lines.{Due}
+use Rattle.rescale_worker.specs.Lines.Due.{Slicing, Parting, Hole}
 use Rattle.rescale_core.specs.Slots.{weight_of}
 use Rattle.rescale_core.specs.Soundly.{IsSound}
 use Rattle.rescale_core.specs.Worlds.{World, Step, Allowed, world_after, line_in}
 use Rattle.rescale_core.specs.Worlds.Step.{Read, Feed, Take, Collect, Emit}
-use Rattle.rescale_core.specs.declared.item.Entry.TheVariants.{Point, Change}
+use Rattle.rescale_worker.specs.declared.item.Entry.TheVariants.{Point, Change}
 use Rattle.rescale_core.specs.declared.slot.Slot.{Slot}
 
 -- how much it is that waits by a due: a place is one, until its last piece is handed over

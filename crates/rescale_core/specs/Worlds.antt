@@ -9,16 +9,16 @@ use Rattle.verdict_merge.specs.declared.rows.Rows.{Rows}
 use Rattle.verdict_merge.specs.declared.rows.Verdict.{Verdict}
 use Rattle.monitor_state.specs.Verdicts.{settled_in, verdict_on}
 use Rattle.monitor_state.specs.declared.state.Piece.{Piece}
-use Rattle.rescale_core.specs.Lines.{Spot, Due, moved, spot_after, first_spot, line, MayRead}
-use Rattle.rescale_core.specs.Lines.Due.{Slicing}
-use Rattle.rescale_core.specs.Phases.{Answers}
+use Rattle.rescale_worker.specs.Lines.{Spot, Due, moved, spot_after, first_spot, line, MayRead}
+use Rattle.rescale_worker.specs.Lines.Due.{Slicing}
+use Rattle.rescale_worker.specs.Phases.{Answers}
 use Rattle.rescale_core.specs.Chances.{Chance, Standing}
 use Rattle.rescale_core.specs.Handing.{chance, ready_items, standing}
-use Rattle.rescale_core.specs.declared.item.Entry.{Entry}
-use Rattle.rescale_core.specs.declared.item.Entry.TheVariants.{Point, Change}
-use Rattle.rescale_core.specs.declared.item.Item.{Item}
-use Rattle.rescale_core.specs.declared.item.Out.{Out}
-use Rattle.rescale_core.specs.declared.item.Out.TheVariants.{Rows as OfRows, Piece as OfPiece}
+use Rattle.rescale_worker.specs.declared.item.Entry.{Entry}
+use Rattle.rescale_worker.specs.declared.item.Entry.TheVariants.{Point, Change}
+use Rattle.rescale_worker.specs.declared.item.Item.{Item}
+use Rattle.rescale_worker.specs.declared.item.Out.{Out}
+use Rattle.rescale_worker.specs.declared.item.Out.TheVariants.{Rows as OfRows, Piece as OfPiece}
 
 -- the slice of the n-th time-point
 abbrev pub slice_at : Spot → List Entry → ℕ → Option Due

@@ -2,9 +2,8 @@
 ghost use Rattle.std.specs.Prelude.{◌≡◌, ◌+◌, IfOk};
 ghost use Rattle.rescale_core.specs.Cells.{MayTake, CellTakes};
 
-use crate::item::{Item, Out};
 use crate::step::Applied;
-use crate::worker::Worker;
+use rescale_worker::{Item, Out, Worker};
 use std::alloc::{AllocError, Global};
 use std::collections::VecDeque;
 use turn_hub::Work;

@@ -2,12 +2,12 @@
 ghost use Rattle.std.specs.Prelude.{◌≡◌, IfOk, List, Some, length};
 ghost use Rattle.rescale_core.specs.Cells.{Applies, IsMachineOf};
 ghost use Rattle.rescale_core.specs.Worlds.{World, ready_in};
-ghost use Rattle.rescale_core.specs.declared.item.Entry.{Entry as OneEntry};
+ghost use Rattle.rescale_worker.specs.declared.item.Entry.{Entry as OneEntry};
 
 use crate::cell::Cell;
-use crate::item::Entry;
 use crate::router::Router;
 use crate::step::{Applied, Step};
+use rescale_worker::Entry;
 use std::alloc::{AllocError, Global};
 use std::collections::VecDeque;
 use std::mem;

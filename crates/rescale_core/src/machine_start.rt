@@ -2,20 +2,19 @@
 ghost use Rattle.std.specs.Prelude.{◌≡◌, ◌≤◌, IfOk, Some, length, ℕ};
 ghost use Rattle.monitorable.specs.Cores.{core_form};
 ghost use Rattle.rescale_core.specs.Cells.{AreWithin, IsCellOf, IsMachineOf, workers_for};
-ghost use Rattle.rescale_core.specs.Lines.{AreSound, first_spot};
+ghost use Rattle.rescale_worker.specs.Lines.{AreSound, first_spot};
 ghost use Rattle.rescale_core.specs.Routing.{IsRouterOf};
-ghost use Rattle.rescale_core.specs.Workers.{IsFor};
+ghost use Rattle.rescale_worker.specs.Workers.{IsFor};
 ghost use Rattle.rescale_core.specs.Handing.{nth};
 ghost use Rattle.rescale_core.specs.Worlds.{first_world};
 ghost use Rattle.mfotl_model.specs.Strategies.{workers_of};
 ghost use Rattle.rescale_core.specs.declared.cell.Cell.{Cell as OneCell};
 
 use crate::cell::Cell;
-use crate::item::Entry;
 use crate::machine::Machine;
 use crate::router::Router;
-use crate::worker::Worker;
 use monitorable::Core;
+use rescale_worker::{Entry, Worker};
 use slice_strategy::{Slicer, Strategy};
 use std::alloc::{AllocError, Global};
 use std::collections::VecDeque;

@@ -6,10 +6,9 @@ ghost use Rattle.rescale_core.specs.Slots.{TakesOut, awaited, first_ends, lacks,
 ghost use Rattle.rescale_core.specs.Waiting.{is_short};
 ghost use Rattle.rescale_core.specs.declared.slot.Slot.TheVariants.{Ready};
 
-use crate::boxed::{BoxedPiece, BoxedStrategy};
-use crate::item::Item;
 use crate::limits::MOST_WAITING;
 use crate::slot::Slot;
+use rescale_worker::{BoxedPiece, BoxedStrategy, Item};
 use slice_strategy::{Slicer, Strategy};
 use std::alloc::{AllocError, Global};
 use std::collections::VecDeque;

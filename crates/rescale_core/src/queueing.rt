@@ -5,12 +5,11 @@ ghost use Rattle.monitorable.specs.Cores.{core_form};
 ghost use Rattle.rescale_core.specs.Queues.{queue_at};
 ghost use Rattle.rescale_core.specs.Routing.{all_slices, part_below, place_below, slices_for};
 
-use crate::boxed::BoxedStrategy;
-use crate::item::Item;
 use crate::queue::Queue;
 use event_splitter::{only_part, split};
 use mfotl_model::TimePoint;
 use monitorable::Core;
+use rescale_worker::{BoxedStrategy, Item};
 use slice_strategy::{Slicer, Strategy};
 use std::alloc::{AllocError, Global};
 

@@ -3,20 +3,19 @@ ghost use Rattle.std.specs.Prelude.{◌≡◌, ◌++◌, ◌∷◌, [], ◌<◌,
 ghost use Rattle.monitor_state.specs.Verdicts.{MayFollow};
 ghost use Rattle.rescale_core.specs.Queues.{all_put, queue_at};
 ghost use Rattle.rescale_core.specs.Routing.{HasEnded, HasTaken, IsRouterOf, MayAdd, TakesFront, feeds};
-ghost use Rattle.rescale_core.specs.Workers.{IsFor};
+ghost use Rattle.rescale_worker.specs.Workers.{IsFor};
 ghost use Rattle.rescale_core.specs.Worlds.{World, Allowed, AreAllowed, IsGathered, world_after, run_steps, spot_in};
 ghost use Rattle.rescale_core.specs.Worlds.{pieces_in, ready_in, rows_in};
 ghost use Rattle.rescale_core.specs.Worlds.Step.{Read, Collect, Emit};
-ghost use Rattle.rescale_core.specs.declared.item.Entry.TheVariants.{Change, Point};
+ghost use Rattle.rescale_worker.specs.declared.item.Entry.TheVariants.{Change, Point};
 
-use crate::boxed::BoxedPiece;
 use crate::cell::one_more;
-use crate::item::{Item, Out};
 use crate::outstanding::{grow_counts, lower, none_outstanding, raise};
 use crate::queue::{Queue, none_wait};
 use crate::queueing::{push_change, push_point};
 use mfotl_model::TimePoint;
 use monitorable::Core;
+use rescale_worker::{BoxedPiece, Item, Out};
 use slice_strategy::{Slicer, Strategy};
 use std::alloc::{AllocError, Global};
 use verdict_merge::{Gather, Verdict};

@@ -3,7 +3,7 @@ ghost use Rattle.std.specs.Prelude.{◌≡◌, ◌∷◌, [], ◌<◌, IfOk, len
 ghost use Rattle.monitorable.specs.Cores.{core_form};
 ghost use Rattle.rescale_core.specs.Queues.{queue_at};
 ghost use Rattle.rescale_core.specs.Routing.{IsRouterOf};
-ghost use Rattle.rescale_core.specs.Workers.{IsFor};
+ghost use Rattle.rescale_worker.specs.Workers.{IsFor};
 ghost use Rattle.rescale_core.specs.Worlds.{first_world};
 
 use crate::queue::Queue;

@@ -2,8 +2,7 @@
 ghost use Rattle.std.specs.Prelude.{◌≡◌};
 ghost use Rattle.rescale_core.specs.Slots.{ends_place, is_there, item_in, lacks, slot_filled, weight_of};
 
-use crate::boxed::{BoxedPiece, BoxedStrategy};
-use crate::item::Item;
+use rescale_worker::{BoxedPiece, BoxedStrategy, Item};
 
 /// An item, or a piece that is awaited.
 #[derive(Drop)]

@@ -4,8 +4,8 @@ use mathlib.Core.Option.{some}
 use lib.ListN.{get_elem?}
 use Rattle.mfotl_model.specs.Strategies.{Strategy}
 use Rattle.monitorable.specs.CoreForms.{CoreForm}
-use Rattle.rescale_core.specs.Working.{StandsFor, seed_of}
-use Rattle.rescale_core.specs.declared.worker.Worker.{Worker}
+use Rattle.rescale_worker.specs.Working.{StandsFor, seed_of}
+use Rattle.rescale_worker.specs.declared.worker.Worker.{Worker}
 
 -- in each place is the worker of its number, which took nothing
 abbrev pub AreStarted : CoreForm → Strategy → List Worker → Type 0

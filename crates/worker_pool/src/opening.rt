@@ -2,7 +2,7 @@
 ghost use Rattle.std.specs.Prelude.{◌≡◌, ◌<◌, IfOk, length};
 ghost use Rattle.monitorable.specs.Cores.{core_form};
 ghost use Rattle.rescale_core.specs.Moving.{IsDriverOf};
-ghost use Rattle.rescale_core.specs.Workers.{IsFor};
+ghost use Rattle.rescale_worker.specs.Workers.{IsFor};
 ghost use Rattle.rescale_core.specs.Worlds.{first_world};
 ghost use Rattle.turn_hub.specs.Ends.{AreInOrder, IsMainOf, cell_count};
 ghost use Rattle.hub_threads.specs.Hands.{AreHandsOf};

@@ -3,7 +3,7 @@ ghost use Rattle.std.specs.Prelude.{◌≡◌, ◌<◌, ◌≤◌, All, IfOk};
 ghost use Rattle.std.specs.List.{range_with_len};
 ghost use Rattle.mfotl_model.specs.Strategies.{workers_of};
 ghost use Rattle.monitorable.specs.Cores.{core_form};
-ghost use Rattle.rescale_core.specs.Workers.{IsFor};
+ghost use Rattle.rescale_worker.specs.Workers.{IsFor};
 ghost use Rattle.turn_hub.specs.Ends.{IsMainOf, cell_count};
 ghost use Rattle.hub_threads.specs.Hands.{AreDealt, AreGroupsOf, AreHandsOf};
 ghost use Rattle.main_steps.specs.Changes.{AllSuit, HaveCells, Suits};

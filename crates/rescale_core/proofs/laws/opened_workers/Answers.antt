@@ -1,8 +1,8 @@
 use Rattle.std.proofs.Common.{refl}
 use Rattle.turn_hub.specs.Steps.{started}
 use Rattle.turn_hub.proofs.Opens.{from_map}
-use Rattle.rescale_core.specs.Works.{begun}
-use Rattle.rescale_core.specs.declared.worker.Worker.{Worker}
+use Rattle.rescale_worker.specs.Works.{begun}
+use Rattle.rescale_worker.specs.declared.worker.Worker.{Worker}
 use Rattle.rescale_core.proofs.laws.opened_workers.Goals as goal
 
 pub returns : goal.returns

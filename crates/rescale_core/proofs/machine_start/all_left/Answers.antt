@@ -1,7 +1,7 @@
 use Rattle.std.proofs.Common.{◌≡◌, ◌≤◌, ◌∷◌, ◌++◌, [], List, ap, sym, append_assoc, subst, ◌∙◌, arith}
 use Rattle.std.proofs.Permutation.{every_append}
 use Rattle.rescale_core.specs.Cells.{AreWithin, workers_for}
-use Rattle.rescale_core.specs.declared.item.Entry.{Entry}
+use Rattle.rescale_worker.specs.declared.item.Entry.{Entry}
 use Rattle.rescale_core.proofs.Fitting.{every_map}
 use Rattle.rescale_core.proofs.machine_start.all_left.Goals as goal
 

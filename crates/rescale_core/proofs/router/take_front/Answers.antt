@@ -2,7 +2,8 @@ use Rattle.std.proofs.Common.{◌≡◌, ◌≤◌, ◌+◌, ◌∷◌, ◌++◌
 use Rattle.std.proofs.Common.{length-append, map, ◌∙◌}
 use Rattle.rescale_core.specs.{Chances.Chance.Sure, Queues.chances}
 use Rattle.rescale_core.specs.Slots.{chance_of, ready_of, sure}
-use Rattle.rescale_core.specs.declared.{item.Item.Item, slot.Slot.Slot}
+use Rattle.rescale_core.specs.declared.{slot.Slot.Slot}
+use Rattle.rescale_worker.specs.declared.{item.Item.Item}
 use Rattle.rescale_core.proofs.{QueueLemmas.front_more, SureLemmas.sure_chances, SureLemmas.sure_ready}
 use Rattle.rescale_core.proofs.SlotLemmas.{all_first, most_first, taken_last, taken_on}
 use Rattle.rescale_core.proofs.router.take_front.Goals as goal

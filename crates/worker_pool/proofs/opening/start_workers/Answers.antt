@@ -2,8 +2,8 @@ use Rattle.std.proofs.Common.{◌≡◌, ◌∷◌, ◌++◌, [], ℕ, ◌+◌, 
 use lib.ListN.{get_elem?}
 use Rattle.monitorable.specs.Cores.{core_form}
 use Rattle.turn_hub.proofs.Opens.{at_end}
-use Rattle.rescale_core.specs.Working.{StandsFor, seed_of}
-use Rattle.rescale_core.specs.declared.worker.Worker.{Worker}
+use Rattle.rescale_worker.specs.Working.{StandsFor, seed_of}
+use Rattle.rescale_worker.specs.declared.worker.Worker.{Worker}
 use Rattle.worker_pool.proofs.opening.start_workers.Goals as goal
 
 -- the worker that was started stands behind the others

@@ -1,7 +1,7 @@
 use Rattle.std.proofs.Common.{◌≡◌, ◌++◌, ◌∷◌, [], length, arith, refl, sym, ap, ◌∙◌}
 use Rattle.std.proofs.lemmas.List.{nil_from_length}
 use Rattle.rescale_core.proofs.CellLemmas.{may_take, same_cell, took}
-use Rattle.rescale_core.proofs.Leading.{leads_seen, takes_by}
+use Rattle.rescale_worker.proofs.Leading.{leads_seen, takes_by}
 use Rattle.rescale_core.proofs.cell.Cell.take.Goals as goal
 
 pub returns-in_default : goal.returns-in_default

@@ -1,7 +1,7 @@
 use Rattle.std.proofs.Common.{◌≡◌, ℕ, List, [], ap, arith, length, refl, sym, ◌∙◌}
 use Rattle.std.proofs.{lemmas.Bool.eqb-true, lemmas.List.nil_from_length}
 use Rattle.rescale_core.specs.Worlds.{ready_in}
-use Rattle.rescale_core.specs.declared.item.Item.{Item}
+use Rattle.rescale_worker.specs.declared.item.Item.{Item}
 use Rattle.rescale_core.proofs.QueueLemmas.{all_taken}
 use Rattle.rescale_core.proofs.TurnLemmas.{hands_over, may_items, moves_idle}
 use Rattle.rescale_core.proofs.driver.Driver.hand_over.Goals as goal

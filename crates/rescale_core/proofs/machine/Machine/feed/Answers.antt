@@ -1,6 +1,6 @@
 use Rattle.std.proofs.Common.{◌≡◌, ℕ, List, [], ◌∷◌, refl, arith}
 use Rattle.rescale_core.specs.{Worlds.world_after, Worlds.Step.Feed}
-use Rattle.rescale_core.specs.declared.item.Item.{Item}
+use Rattle.rescale_worker.specs.declared.item.Item.{Item}
 use Rattle.rescale_core.proofs.CellLemmas.{fed_cell}
 use Rattle.rescale_core.proofs.MachineLemmas.{cell_at, machine_fed, no_feed, one_item}
 use Rattle.rescale_core.proofs.machine.Machine.feed.Goals as goal

@@ -1,6 +1,6 @@
 use Rattle.std.proofs.Common.{refl, ap, ◌∷◌, ◌∙◌}
 use Rattle.rescale_core.specs.{Worlds.world_after, Worlds.Step.Read}
-use Rattle.rescale_core.specs.declared.item.Entry.TheVariants.{Change, Point}
+use Rattle.rescale_worker.specs.declared.item.Entry.TheVariants.{Change, Point}
 use Rattle.rescale_core.proofs.MachineLemmas.{machine_read, next_may}
 use Rattle.rescale_core.proofs.machine.Machine.read.Goals as goal
 

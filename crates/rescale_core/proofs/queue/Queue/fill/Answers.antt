@@ -11,7 +11,7 @@ returns-in_default c =
     let slots = c.self.inside.slots.items in
     sym c.self.view_is
     ∙ ap (λ xs. sure front ++ xs) (unfilled c.args.piece slots
-    (ap (λ (p : Piece). position (lacks p.generation) slots) (sym c.get.ensures) ∙ sym c.in_default.ensures))
+    (ap (λ (p : Piece). position (lacks p.generation) slots) (sym c.get.ensures.same) ∙ sym c.in_default.ensures))
     ∙ sure_filled c.args.piece front slots
     ∙ ap (queue_filled c.args.piece) c.self.view_is
 
@@ -21,7 +21,7 @@ returns c =
     let slots = c.self.inside.slots.items in
     ap (λ xs. sure front ++ xs) (ap (set slots c.in-Some.at) c.put.ensures
     ∙ filled_at c.args.piece slots c.in-Some.at c.index_mut-slot.result.now
-    (ap (λ (p : Piece). position (lacks p.generation) slots) (sym c.get.ensures) ∙ sym c.in-Some.ensures)
+    (ap (λ (p : Piece). position (lacks p.generation) slots) (sym c.get.ensures.same) ∙ sym c.in-Some.ensures)
     c.index_mut-slot.ensures.value)
     ∙ sure_filled c.args.piece front slots
     ∙ ap (queue_filled c.args.piece) c.self.view_is

@@ -1,7 +1,8 @@
 use Rattle.std.proofs.Common.{◌<◌, refl, ap, ◌∙◌, arith}
 use Rattle.mfotl_model.specs.Strategies.{workers_of}
 use Rattle.verdict_merge.specs.Gathers.{workers_in}
-use Rattle.rescale_core.proofs.{ChangeLemmas.change_read, ChangeLemmas.not_begun, Chains.some_workers}
+use Rattle.rescale_core.proofs.{ChangeLemmas.change_read, ChangeLemmas.not_begun}
+use Rattle.rescale_worker.proofs.{Chains.some_workers}
 use Rattle.rescale_core.proofs.router.Router.read_change.Goals as goal
 
 pub begin-requires-clause-new : goal.begin-requires-clause-new

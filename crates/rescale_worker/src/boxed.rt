@@ -1,0 +1,73 @@
+//! What is large and comes rarely stands in a box, so that what is handed over is small. A contract sees what is in it.
+ghost use Rattle.std.specs.Prelude.{◌≡◌, IfOk};
+
+use monitor_state::Piece;
+use slice_strategy::Strategy;
+use std::alloc::{AllocError, Global};
+use std::marker::Model;
+
+/// A strategy in a box.
+#[derive(Drop)]
+pub struct BoxedStrategy {
+    inner: Box<Strategy>,
+}
+
+impl Model for BoxedStrategy {
+    ghost use Rattle.mfotl_model.specs.Strategies.{Strategy as StrategyOf};
+
+    ghost Value = { StrategyOf };
+
+    ghost view = { λ boxed. boxed.inner.value };
+}
+
+impl BoxedStrategy {
+    /// A copy of the strategy.
+    pub fn copied(alloc: Global, strategy: &Strategy) -> Result<Self, AllocError>
+        ensures same { IfOk result (λ boxed. boxed ≡ strategy.now) }
+    {
+        let inner = Box::new(alloc, strategy.copy(alloc)?)?;
+        Ok(BoxedStrategy { inner })
+    }
+
+    pub(crate) fn into_inner(self) -> Strategy
+        ensures { result ≡ self }
+    {
+        Box::into_inner(self.inner)
+    }
+}
+
+/// A piece in a box.
+#[derive(Drop)]
+pub struct BoxedPiece {
+    inner: Box<Piece>,
+}
+
+impl Model for BoxedPiece {
+    ghost use Rattle.monitor_state.specs.declared.state.Piece.{Piece as PieceOf};
+
+    ghost Value = { PieceOf };
+
+    ghost view = { λ boxed. boxed.inner.value };
+}
+
+impl BoxedPiece {
+    pub(crate) fn new(alloc: Global, piece: Piece) -> Result<Self, AllocError>
+        ensures { IfOk result (λ boxed. boxed ≡ piece) }
+    {
+        let inner = Box::new(alloc, piece)?;
+        Ok(BoxedPiece { inner })
+    }
+
+    /// The piece, which stays in its box.
+    pub fn get(&self) -> &Piece
+        ensures same { result.now ≡ self.now }
+    {
+        &self.inner
+    }
+
+    pub(crate) fn into_inner(self) -> Piece
+        ensures { result ≡ self }
+    {
+        Box::into_inner(self.inner)
+    }
+}

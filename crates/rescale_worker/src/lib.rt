@@ -1,0 +1,15 @@
+//! One worker: what it is handed, what it gives, and what it does at a change of strategy.
+#![tactic(auto)]
+
+mod boxed;
+mod item;
+mod phase;
+mod rescaling;
+mod seed;
+mod settled;
+mod worker;
+
+pub use boxed::{BoxedPiece, BoxedStrategy};
+pub use item::{Entry, Item, Out};
+pub use seed::Seed;
+pub use worker::Worker;
