@@ -20,7 +20,9 @@ use std::alloc::Global;
 /// Why no command was read.
 #[derive(Clone, Copy)]
 pub enum WordsFault {
+    /// The words are no command line.
     Usage,
+    /// Memory was refused.
     Memory,
 }
 
@@ -135,7 +137,8 @@ fn matches_of<'a>(alloc: Global, words: &'a [String]) -> Result<ArgMatches<'a>, 
     command.try_get_matches_from(words)
 }
 
-/// The command and the names of its files, as `clap` reads them from the words.
+/// The command and the names of its files, as `clap` reads them from the words, of which the first is the program's
+/// name. No clause says when memory is refused.
 #[tactic(auto, unfolding(crate::specs::Words::command_of, crate::specs::Words::command_given))]
 pub fn read_words<'a>(alloc: Global, words: &'a [String]) -> Result<Command<'a>, WordsFault>
     ensures given { IfOk result (λ r. command_of (texts_of words.now) ≡ Some (command_in r)) }
