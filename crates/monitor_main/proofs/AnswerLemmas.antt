@@ -3,7 +3,8 @@ use Rattle.std.proofs.Common.{◌≡◌, refl, arith}
 use Rattle.std.specs.Prelude.{Ok}
 use Rattle.mon_outside.specs.Files.{Files, content}
 use Rattle.monitor_main.specs.{Answer.answer, Answer.command_answer, AnswerLaws.CheckAccepts}
-use Rattle.monitor_main.specs.{AnswerLaws.StrategiesAgree, Words.RunOptions, Words.Sources}
+use Rattle.monitor_main.specs.{AnswerLaws.StrategiesAgree}
+use Rattle.command_line.specs.Words.{RunOptions, Sources}
 use Rattle.monitor_main.specs.Tasks.{CheckedPolicy, Division, divided_at, policy_at, task_at, task_on}
 
 pub check_accepts : CheckAccepts

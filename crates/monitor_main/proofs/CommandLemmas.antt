@@ -16,7 +16,7 @@ use Rattle.monitor_main.specs.{DemoRuns.IsDemoFault, FilesAsked.names_before_log
 use Rattle.monitor_main.specs.{Loading.LoadsSources, Loading.LoadsTask, LogRuns.IsOutputFault}
 use Rattle.monitor_main.specs.Tasks.{CheckedPolicy, task_at, task_on}
 use Rattle.monitor_main.specs.Unread.{bytes_of, seen_of, text_at_failure}
-use Rattle.monitor_main.specs.Words.{RunOptions, Sources, Run, Check, Demo}
+use Rattle.command_line.specs.Words.{RunOptions, Sources, Run, Check, Demo}
 use Rattle.monitor_main.proofs.DecideLemmas.{causes_as, comes_as, effect_by}
 use Rattle.monitor_main.proofs.StopLemmas.{policy_reached}
 use Rattle.monitor_main.proofs.ToldLemmas.{asked_none, asked_twice, told_all, told_at, told_both, told_map}

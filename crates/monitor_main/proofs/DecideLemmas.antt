@@ -5,13 +5,14 @@ use Rattle.std.specs.Prelude.{Result, Err, MatchOption, ◌≢◌}
 use Rattle.clap.specs.Words.{Text}
 use Rattle.mon_outside.specs.{Causes.Rose, Files.Files, Views.InputsView, Views.SinkView}
 use Rattle.monitor_main.specs.declared.{refusal.InputFile.InputFile, refusal.Refusal.Refusal}
-use Rattle.monitor_main.specs.declared.{words.WordsFault.WordsFault}
+use Rattle.command_line.specs.declared.words.WordsFault.{WordsFault}
 use Rattle.monitor_main.specs.declared.refusal.Refusal.TheVariants.{Usage, Write, Memory}
 use Rattle.monitor_main.specs.Answer.{Answer, answer, refused}
 use Rattle.monitor_main.specs.Decisions.{CarriesOut, ComesTo, Ends, FailsAt, HandsOn, HasCauses, Obeys, Refuses}
 use Rattle.lone_worker.specs.Effects.{Effect}
-use Rattle.monitor_main.specs.{FilesAsked.AsksInOrder, Refusals.words_refusal, Words.Command, Words.command_of}
-use Rattle.monitor_main.specs.declared.words.WordsFault.TheVariants as fault
+use Rattle.monitor_main.specs.{FilesAsked.AsksInOrder, Refusals.words_refusal}
+use Rattle.command_line.specs.Words.{Command, command_of}
+use Rattle.command_line.specs.declared.words.WordsFault.TheVariants as fault
 use Rattle.lone_worker.proofs.SinkLemmas.{no_front}
 use Rattle.monitor_main.proofs.ToldLemmas.{asked_none, told_all, told_map}
 

@@ -24,7 +24,7 @@ use Rattle.monitor_main.specs.DemoLaws.{DemoPolicyIsAccepted, DemoPolicyIsMonito
 use Rattle.monitor_main.specs.DemoLaws.{demo_changes, demo_checked, demo_points, demo_vars}
 use Rattle.monitor_main.specs.Tasks.{Task, changes_in, checked_over, demo_task, divided_texts, or_refuse_by, policy_at}
 use Rattle.monitor_main.specs.Tasks.{policy_in, signature_of, strategy_in, task_at, task_on}
-use Rattle.monitor_main.specs.Words.{RunOptions, Sources, Run}
+use Rattle.command_line.specs.Words.{RunOptions, Sources, Run}
 use Rattle.monitor_main.proofs.AnswerLemmas.{task_of}
 use Rattle.monitorable.specs.Fragment.{bound_by, needed_by, fault_in}
 use Rattle.monitorable.specs.{NodeCount.nodes, NormalForm.positive, NormalForm.negative}

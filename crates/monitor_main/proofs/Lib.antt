@@ -1,4 +1,3 @@
-pub mod WordsLemmas
 pub mod VerdictLemmas
 pub mod ToldLemmas
 pub mod LoadLemmas
@@ -8,7 +7,6 @@ pub mod StopLemmas
 pub mod CommandLemmas
 pub mod DemoLemmas
 pub mod DemoTexts
-pub mod DemoWords
 pub mod DivisionLemmas
 pub mod ReportLemmas
 pub mod UsageLemmas

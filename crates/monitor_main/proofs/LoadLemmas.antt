@@ -5,7 +5,8 @@ use Rattle.mon_outside.specs.Files.{Files, ToldFiles, content}
 use Rattle.mon_outside.specs.{Inputs.Name, Inputs.asked_more, Views.InputsView}
 use Rattle.mfotl_sig.specs.Preds.{PredOf}
 use Rattle.monitor_main.specs.Tasks.{CheckedPolicy, checked_over, policy_at, signature_of}
-use Rattle.monitor_main.specs.{Unread.source_bytes, FilesAsked.source_names, Words.Sources}
+use Rattle.monitor_main.specs.{Unread.source_bytes, FilesAsked.source_names}
+use Rattle.command_line.specs.Words.{Sources}
 use Rattle.monitor_main.specs.Loading.{HasNoPolicy, IsLoadFault, IsRefused, LoadsSources, NoPolicy, StopsInSources}
 use Rattle.monitor_main.specs.declared.{refusal.InputFile.InputFile, refusal.Refusal.Refusal}
 use Rattle.monitor_main.specs.declared.refusal.InputFile.TheVariants as file

@@ -18,7 +18,7 @@ use Rattle.monitor_main.specs.Loading.{StopsBeforeLog, StopsInSources}
 use Rattle.monitor_main.specs.Tasks.{CheckedPolicy, changes_at, changes_in, divided_at, policy_at, strategy_in, task_at}
 use Rattle.monitor_main.specs.Tasks.{task_on}
 use Rattle.monitor_main.specs.Unread.{bytes_of, changes_bytes, source_bytes, strategy_at, text_at_failure}
-use Rattle.monitor_main.specs.Words.{Command, RunOptions, Sources, Run, Check, name_if_any}
+use Rattle.command_line.specs.Words.{Command, RunOptions, Sources, Run, Check, name_if_any}
 use Rattle.monitor_main.proofs.{DecideLemmas.refuses_at, DecideLemmas.unwritten, LoadLemmas.fault_of}
 use Rattle.lone_worker.proofs.SinkLemmas.{no_front}
 use Rattle.monitor_main.proofs.ToldLemmas.{asked_twice, told_all, told_both, told_map}

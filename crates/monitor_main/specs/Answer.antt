@@ -16,7 +16,7 @@ use Rattle.monitor_main.specs.declared.status.Status.TheVariants as status
 use Rattle.monitor_main.specs.CheckLine.{monitorable_line}
 use Rattle.monitor_main.specs.Refusals.{line_of, status_of}
 use Rattle.monitor_main.specs.Tasks.{CheckedPolicy, Task, demo_task, policy_at, task_at}
-use Rattle.monitor_main.specs.Words.{Command, Run, Check, Demo, command_of}
+use Rattle.command_line.specs.Words.{Command, Run, Check, Demo, command_of}
 
 -- a status, and the bytes written to the output and to the errors
 pub record Answer : Type 0 where

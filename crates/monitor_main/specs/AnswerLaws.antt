@@ -7,7 +7,7 @@ use Rattle.monitor_main.specs.declared.status.Status.TheVariants.{Clean}
 use Rattle.monitor_main.specs.Answer.{answer, command_answer}
 use Rattle.monitor_main.specs.Tasks.{CheckedPolicy, Division, divided_at, policy_at}
 use Rattle.monitor_main.specs.CheckLine.{monitorable_line}
-use Rattle.monitor_main.specs.Words.{Sources, RunOptions, Run, Check, command_of}
+use Rattle.command_line.specs.Words.{Sources, RunOptions, Run, Check, command_of}
 
 -- `check` accepts whatever can be monitored, and tells its free variables
 abbrev pub CheckAccepts : Type 0

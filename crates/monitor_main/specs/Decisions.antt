@@ -19,7 +19,7 @@ use Rattle.monitor_main.specs.Tasks.{CheckedPolicy, Task, task_on}
 use Rattle.monitor_main.specs.Unread.{bytes_of, seen_of, text_at_failure}
 use Rattle.monitor_main.specs.FilesAsked.{AsksInOrder, names_to}
 use Rattle.monitor_main.specs.Refusals.{line_of, status_of}
-use Rattle.monitor_main.specs.Words.{Command, command_of}
+use Rattle.command_line.specs.Words.{Command, command_of}
 
 -- all was read to its end, and all lines are written
 pub record Finishes (a : Answer) (old new : Option (List ℕ)) (violated : Bool) : Type 0 where

@@ -20,7 +20,7 @@ use Rattle.lone_worker.specs.Texts.{tally_of}
 use Rattle.monitor_main.specs.declared.status.Status.TheVariants.{Clean}
 use Rattle.monitor_main.specs.Answer.{command_answer, demo_answer, demo_line}
 use Rattle.monitor_main.specs.AnswerLaws.{IsDividedBy}
-use Rattle.monitor_main.specs.Words.{RunOptions, Sources, Run}
+use Rattle.command_line.specs.Words.{RunOptions, Sources, Run}
 use Rattle.monitor_main.specs.Tasks.{CheckedPolicy, divided_texts, is_long, signature_of, policy_in}
 use Rattle.slice_strategy.specs.ChangeReading.{reading as changes_read}
 use Rattle.slice_strategy.specs.declared.change.Change.{Change}

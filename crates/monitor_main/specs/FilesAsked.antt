@@ -6,7 +6,7 @@ use Rattle.mon_outside.specs.Views.{InputsView}
 use Rattle.monitor_main.specs.declared.refusal.InputFile.{InputFile}
 use Rattle.monitor_main.specs.declared.refusal.InputFile.TheVariants as file
 use Rattle.monitor_main.specs.Unread.{bytes_of}
-use Rattle.monitor_main.specs.Words.{Sources, RunOptions, Command, Run, Check, Demo, name_if_any}
+use Rattle.command_line.specs.Words.{Sources, RunOptions, Command, Run, Check, Demo, name_if_any}
 
 -- the names of the signature and the policy, up to this file
 abbrev pub source_names : Sources → InputFile → List Name

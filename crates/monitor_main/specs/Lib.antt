@@ -1,10 +1,6 @@
 -- The definitions that the contracts cite, in reading order.
 pub mod Limits
-pub mod Words
-pub mod WordsLaw
-pub mod CommandViews
 pub mod Status
-pub mod Real
 pub mod Verdicts
 pub mod TextLaw
 pub mod FaultLines

@@ -1,18 +1,6 @@
--- How much the words and the files may ask for. A log's limits are log_reader's.
-use Rattle.std.specs.Prelude.{ℕ, ◌-◌, ◌^◌}
+-- How much the files may ask for. The words' limits are command_line's, and a log's are log_reader's.
+use Rattle.std.specs.Prelude.{ℕ, ◌^◌}
 
 -- the most bytes of a signature, of a policy, of a strategy's text, and of a change script
 abbrev pub max_file : ℕ
 max_file = 2 ^ 20
-
--- the most threads beside the one that reads and writes
-abbrev pub max_threads : ℕ
-max_threads = 64
-
--- so many threads serve the workers where the words say nothing of it, and those of a demo
-abbrev pub default_threads : ℕ
-default_threads = 4
-
--- the greatest seed of a demo
-abbrev pub max_seed : ℕ
-max_seed = 2 ^ 64 - 1

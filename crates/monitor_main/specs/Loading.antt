@@ -17,7 +17,7 @@ use Rattle.monitor_main.specs.Divisions.{AreChangesAt}
 use Rattle.monitor_main.specs.FilesAsked.{names_before_log, names_to, source_names}
 use Rattle.monitor_main.specs.Tasks.{CheckedPolicy, changes_in, policy_at, strategy_in, task_at, task_on}
 use Rattle.monitor_main.specs.Unread.{bytes_of, source_bytes}
-use Rattle.monitor_main.specs.Words.{Command, RunOptions, Sources, name_if_any}
+use Rattle.command_line.specs.Words.{Command, RunOptions, Sources, name_if_any}
 
 -- The call for a file failed: this one is told, the count has risen, and what is left of the file is known.
 pub record ReadFails (file told : InputFile) (name : Name) (before after : InputsView) : Type 0 where

@@ -26,8 +26,8 @@ use Rattle.slice_strategy.specs.declared.change.ChangeFault.{ChangeFault}
 use Rattle.slice_strategy.specs.declared.change.ChangeFault.TheVariants as change
 use Rattle.log_reader.specs.declared.fault.LogFault.{LogFault}
 use Rattle.log_reader.specs.declared.fault.LogFault.TheVariants as log
-use Rattle.monitor_main.specs.declared.words.WordsFault.{WordsFault}
-use Rattle.monitor_main.specs.declared.words.WordsFault.TheVariants as words
+use Rattle.command_line.specs.declared.words.WordsFault.{WordsFault}
+use Rattle.command_line.specs.declared.words.WordsFault.TheVariants as words
 
 -- the refusal for words
 abbrev pub words_refusal : WordsFault → Refusal

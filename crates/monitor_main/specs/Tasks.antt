@@ -16,7 +16,7 @@ use Rattle.log_reader.specs.DemoTexts.{changes_text, log_text, policy_text, sign
 use Rattle.monitor_main.specs.declared.refusal.Refusal.{Refusal}
 use Rattle.monitor_main.specs.declared.refusal.Refusal.TheVariants as refusal
 use Rattle.monitor_main.specs.Limits.{max_file}
-use Rattle.monitor_main.specs.Words.{Sources, RunOptions}
+use Rattle.command_line.specs.Words.{Sources, RunOptions}
 
 -- ---- the signature and the policy
 

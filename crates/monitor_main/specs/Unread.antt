@@ -10,7 +10,7 @@ use Rattle.monitor_main.specs.declared.refusal.InputFile.{InputFile}
 use Rattle.monitor_main.specs.declared.refusal.InputFile.TheVariants as file
 use Rattle.monitor_main.specs.declared.refusal.Refusal.{Refusal}
 use Rattle.monitor_main.specs.Tasks.{◌>>=◌, Task, policy_at, signature_of, strategy_in, task_at}
-use Rattle.monitor_main.specs.Words.{Sources, RunOptions, Command, Run, Check, Demo}
+use Rattle.command_line.specs.Words.{Sources, RunOptions, Command, Run, Check, Demo}
 
 -- the value, if there is one
 abbrev pub ok_value : {A : Type 0} → Result A Refusal → Option A

@@ -6,9 +6,9 @@ use Rattle.monitor_main.specs.declared.status.Status.TheVariants.{Signature, Pol
 use Rattle.monitor_main.specs.declared.status.Status.TheVariants.{Read, Write, Memory}
 use Rattle.monitor_main.specs.Answer.{verdict_status}
 use Rattle.monitor_main.specs.CheckLine.{monitorable_line}
-use Rattle.monitor_main.specs.Limits.{default_threads, max_file, max_threads}
+use Rattle.monitor_main.specs.Limits.{max_file}
+use Rattle.command_line.specs.Limits.{max_threads}
 use Rattle.monitor_main.specs.Status.{code_of}
-use Rattle.monitor_main.specs.Words.{threads_rule}
 
 -- the exit status of each end
 abbrev pub StatusNumbers : Type 0
@@ -31,7 +31,3 @@ ColumnsInFull =
 -- how many bytes a file may have, and how many threads a run
 abbrev pub LimitsInFull : Type 0
 LimitsInFull = (max_file ≡ 1048576) × (max_threads ≡ 64)
-
--- how many threads a run has where the words say nothing of it, and a demo
-abbrev pub ThreadsByDefault : Type 0
-ThreadsByDefault = (threads_rule.defaults ≡ codes "4" ∷ []) × (default_threads ≡ 4)

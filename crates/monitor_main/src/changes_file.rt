@@ -6,12 +6,12 @@ ghost use Rattle.mon_outside.specs.Inputs.{asked_more};
 ghost use Rattle.mon_outside.specs.Views.{inputs_view};
 ghost use Rattle.slice_strategy.specs.Entries.{HasWorkers};
 ghost use Rattle.monitor_main.specs.CheckedPolicies.{Divides, Gives, IsInside};
-ghost use Rattle.monitor_main.specs.CommandViews.{text_in};
+ghost use Rattle.command_line.specs.CommandViews.{text_in};
 ghost use Rattle.monitor_main.specs.Divisions.{AreChangesAt};
 ghost use Rattle.monitor_main.specs.Limits.{max_file};
 ghost use Rattle.monitor_main.specs.Loading.{AreRefused, IsRefused};
 ghost use Rattle.monitor_main.specs.Tasks.{changes_at, changes_in};
-ghost use Rattle.monitor_main.specs.Words.{name_if_any};
+ghost use Rattle.command_line.specs.Words.{name_if_any};
 
 use crate::limits::MAX_FILE;
 use crate::refusal::{InputFile, Refusal};

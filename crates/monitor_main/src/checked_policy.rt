@@ -7,13 +7,13 @@ ghost use Rattle.monitorable.specs.Cores.{core_form};
 ghost use Rattle.monitor_main.specs.Tasks.{checked_over, policy_of_texts, signature_of};
 ghost use Rattle.monitor_main.specs.CheckedPolicies.{Gives, HasVariables, IsInside, checked_in};
 ghost use Rattle.lone_worker.specs.Policies.{IsCoreOf};
-ghost use Rattle.monitor_main.specs.CommandViews.{sources_in};
+ghost use Rattle.command_line.specs.CommandViews.{sources_in};
 ghost use Rattle.monitor_main.specs.Limits.{max_file};
 ghost use Rattle.monitor_main.specs.Loading.{IsRefused, LoadsSources, StopsInSources};
 
-use crate::command::Sources;
 use crate::limits::MAX_FILE;
 use crate::refusal::{InputFile, Refusal};
+use command_line::Sources;
 use mfotl_model::Policy;
 use mfotl_parse::read_policy;
 use mfotl_sig::{Signature, read_signature};

@@ -1,17 +1,16 @@
 //! What is done at each command.
 ghost use Rattle.lone_worker.specs.Effects.{effect};
-ghost use Rattle.monitor_main.specs.CommandViews.{command_in, options_in, sources_in};
+ghost use Rattle.command_line.specs.CommandViews.{command_in, options_in, sources_in};
 ghost use Rattle.monitor_main.specs.Decisions.{CarriesOut};
-ghost use Rattle.monitor_main.specs.Words.{Check, Demo, Run};
+ghost use Rattle.command_line.specs.Words.{Check, Demo, Run};
 
 use crate::check::accept;
 use crate::checked_policy::load_sources;
-use crate::command::{Command, Sources};
 use crate::demo::answer_demo;
 use crate::loading::load_task;
 use crate::monitoring::monitor_task;
 use crate::refusal::Refusal;
-use crate::run_options::RunOptions;
+use command_line::{Command, RunOptions, Sources};
 use mon_outside::{Gate, Inputs, Sink};
 use std::alloc::Global;
 use std::sync::Wait;

@@ -6,16 +6,16 @@ ghost use Rattle.log_reader.specs.DemoTexts.{changes_text};
 ghost use Rattle.monitor_main.specs.CheckedPolicies.{Fails, Gives, IsInside, checked_in};
 ghost use Rattle.monitor_main.specs.DemoRuns.{EndsDemo, EndsOn};
 ghost use Rattle.monitor_main.specs.Divisions.{BeginsBy, ChangesBy};
-ghost use Rattle.monitor_main.specs.Limits.{default_threads};
+ghost use Rattle.command_line.specs.Limits.{default_threads};
 ghost use Rattle.monitor_main.specs.ReadyTasks.{IsReady};
 ghost use Rattle.monitor_main.specs.Tasks.{demo_task, divided_texts, task_on};
 
 use crate::checked_policy::check_texts;
 use crate::division::read_division;
-use crate::limits::DEFAULT_THREADS;
 use crate::monitoring::follow;
 use crate::refusal::Refusal;
 use crate::task::Task;
+use command_line::DEFAULT_THREADS;
 use log_reader::{Demo, generate};
 use mon_outside::{Gate, Inputs, NamedFile, SureInputs, SureSink};
 use std::alloc::{AllocError, Global};

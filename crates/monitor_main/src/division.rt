@@ -2,15 +2,15 @@
 ghost use Rattle.std.specs.Prelude.{◌≡◌, ◌≤◌, IfOk, IfErr};
 ghost use Rattle.mon_outside.specs.Views.{inputs_view};
 ghost use Rattle.monitor_main.specs.CheckedPolicies.{Gives, IsInside};
-ghost use Rattle.monitor_main.specs.CommandViews.{options_in};
+ghost use Rattle.command_line.specs.CommandViews.{options_in};
 ghost use Rattle.monitor_main.specs.Divisions.{AllDivide, division_in};
 ghost use Rattle.monitor_main.specs.Loading.{LoadsDivision, RefusesDivision};
 ghost use Rattle.monitor_main.specs.Tasks.{division_by};
 
 use crate::changes_file::{changes_in, load_changes};
 use crate::refusal::Refusal;
-use crate::run_options::RunOptions;
 use crate::strategy_text::read_strategy;
+use command_line::RunOptions;
 use mfotl_model::Policy;
 use mon_outside::Inputs;
 use slice_strategy::{Change, Strategy};

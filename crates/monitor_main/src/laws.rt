@@ -1,10 +1,10 @@
 //! Laws of the definitions, each the contract of a function.
 ghost use Rattle.monitor_main.specs.AnswerLaws.{CheckAccepts, StrategiesAgree};
 ghost use Rattle.monitor_main.specs.TextLaw.{VerdictsGrow};
-ghost use Rattle.monitor_main.specs.WorkedAnswers.{ColumnsInFull, LimitsInFull, StatusNumbers};
-ghost use Rattle.monitor_main.specs.WorkedAnswers.{ThreadsByDefault, VerdictStatuses};
-ghost use Rattle.monitor_main.specs.WordsLaw.{CheckIsTaken, DemoIsTaken, GreatestSeedIsTaken, InputIsNotShared};
-ghost use Rattle.monitor_main.specs.WordsLaw.{OptionsMayBeLeftOut, RunIsTaken, SeedsHaveAnEnd};
+ghost use Rattle.monitor_main.specs.WorkedAnswers.{ColumnsInFull, LimitsInFull, StatusNumbers, VerdictStatuses};
+ghost use Rattle.command_line.specs.LimitsLaw.{ThreadsByDefault};
+
+pub use command_line::laws::worked_words;
 
 /// `check` accepts each policy that can be monitored, and tells its free variables.
 pub fn check_accepts()
@@ -19,17 +19,6 @@ pub fn strategies_agree()
 /// With one time-point more the verdicts stay, and those on the positions that it settles come behind them.
 pub fn verdicts_grow()
     ensures { VerdictsGrow }
-{}
-
-/// Words worked out by hand, and the commands that they give.
-pub fn worked_words()
-    ensures run { RunIsTaken }
-    ensures options { OptionsMayBeLeftOut }
-    ensures check { CheckIsTaken }
-    ensures demo { DemoIsTaken }
-    ensures greatest { GreatestSeedIsTaken }
-    ensures seeds { SeedsHaveAnEnd }
-    ensures input { InputIsNotShared }
 {}
 
 /// Statuses, the line of a policy's variables and limits, worked out in full.

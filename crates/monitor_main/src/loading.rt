@@ -2,18 +2,17 @@
 ghost use Rattle.std.specs.Prelude.{◌≡◌, ◌≤◌, IfOk, IfErr};
 ghost use Rattle.mon_outside.specs.Views.{inputs_view};
 ghost use Rattle.monitor_main.specs.CheckedPolicies.{checked_in};
-ghost use Rattle.monitor_main.specs.CommandViews.{options_in, sources_in, text_in};
+ghost use Rattle.command_line.specs.CommandViews.{options_in, sources_in, text_in};
 ghost use Rattle.monitor_main.specs.Divisions.{BeginsBy, ChangesAt};
 ghost use Rattle.monitor_main.specs.Loading.{LoadsTask, StopsBeforeLog};
 ghost use Rattle.monitor_main.specs.ReadyTasks.{IsReady};
-ghost use Rattle.monitor_main.specs.Words.{Run};
+ghost use Rattle.command_line.specs.Words.{Run};
 
 use crate::checked_policy::load_sources;
-use crate::command::Sources;
 use crate::division::load_division;
 use crate::refusal::Refusal;
-use crate::run_options::RunOptions;
 use crate::task::Task;
+use command_line::{RunOptions, Sources};
 use mon_outside::Inputs;
 use std::alloc::Global;
 

@@ -3,7 +3,7 @@ ghost use Rattle.std.specs.Prelude.{◌≡◌};
 ghost use Rattle.monitor_main.specs.Refusals.{status_of};
 
 use crate::status::Status;
-use crate::words::WordsFault;
+use command_line::WordsFault;
 use log_reader::LogFault;
 use mfotl_parse::PolicyFault;
 use mfotl_sig::SigFault;

@@ -9,12 +9,12 @@ ghost use Rattle.monitor_main.specs.Decisions.{AsksByWords, HandsOn, Obeys};
 ghost use Rattle.lone_worker.specs.Effects.{effect};
 ghost use Rattle.monitor_main.specs.Outcomes.{FailsToRead, IsDecidedBy, IsGiven, Reports, TellsLine};
 ghost use Rattle.monitor_main.specs.Refusals.{line_of};
-ghost use Rattle.monitor_main.specs.Words.{command_of, texts_of};
+ghost use Rattle.command_line.specs.Words.{command_of, texts_of};
 
 use crate::commands::obey;
 use crate::refusal::Refusal;
 use crate::status::Status;
-use crate::words::read_words;
+use command_line::read_words;
 use mon_outside::{Failed, Gate, Inputs, Sink, write_whole};
 use std::alloc::Global;
 use std::sync::Wait;

@@ -1,6 +1,6 @@
 //! What is monitored: a policy, and how the work on it is divided among workers and threads.
 ghost use Rattle.std.specs.Prelude.{◌≡◌, ◌≤◌, Err};
-ghost use Rattle.monitor_main.specs.Limits.{max_threads};
+ghost use Rattle.command_line.specs.Limits.{max_threads};
 
 use crate::checked_policy::CheckedPolicy;
 use crate::division::Division;

@@ -1,0 +1,14 @@
+//! The words of a command line, as one `clap` command takes them, and the command that they give.
+#![tactic(auto)]
+
+mod command;
+pub mod laws;
+mod limits;
+mod options;
+mod run_options;
+mod words;
+
+pub use command::{Command, Sources};
+pub use limits::{DEFAULT_THREADS, MAX_SEED, MAX_THREADS};
+pub use run_options::RunOptions;
+pub use words::{WordsFault, read_words};
