@@ -1,11 +1,11 @@
 //! What is kept of the positions that were taken, and how one more is taken.
-ghost use Rattle.std.specs.Prelude.{◌≡◌, ◌+◌, ◌∷◌, ◌++◌, ◌≤◌, ◌<◌, ◌^◌, [], ℕ, true, List, None};
+ghost use Rattle.std.specs.Prelude.{◌≡◌, ◌+◌, ◌∷◌, ◌++◌, ◌≤◌, ◌<◌, ◌^◌, [], ℕ, true, List};
 ghost use Rattle.std.specs.Prelude.{IfOk, IsTrue, OnOk, cond, length};
 ghost use Rattle.std.specs.List.Sorted.{IsStrictlySortedBy};
 ghost use Rattle.mfotl_model.specs.Tables.{all_apart, has_row, part};
 ghost use Rattle.mfotl_model.specs.Values.{row_cmp};
 ghost use Rattle.mfotl_model.specs.declared.value.Value.{Value};
-ghost use Rattle.relations.specs.KeptRows.{RowsAscend, kept_for, last_for, list_for};
+ghost use Rattle.relations.specs.KeptRows.{kept_for, list_for};
 ghost use Rattle.until_rows.specs.ByKey.{Listed};
 ghost use Rattle.until_rows.specs.InOrder.{in_order};
 ghost use Rattle.eval_until.specs.Keeping.{Keeps, Queues, Sized};

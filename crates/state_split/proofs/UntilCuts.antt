@@ -7,8 +7,8 @@ use Rattle.mfotl_model.specs.declared.{interval.Interval.Interval, value.Value.V
 use Rattle.core_arranging.specs.{Windows.left_operand}
 use Rattle.until_rows.specs.Recalled.{entries_kept, entry_at, starts_kept}
 use Rattle.until_rows.specs.{Rules.PlacesAscend, Starts.start_of}
-use Rattle.eval_until.specs.{UntilBefore.start, UntilBefore.until_before}
-use Rattle.eval_until.specs.{UntilData.UntilRule, UntilData.until_of}
+use Rattle.eval_until.specs.UntilBefore.{start, until_before}
+use Rattle.eval_until.specs.UntilData.{UntilRule, until_of}
 use Rattle.until_rows.specs.declared.{entries.Entry.Entry, recalled.KeptMarks.KeptMarks, recalled.Mark.Mark}
 use Rattle.monitorable.specs.CoreForms.{CoreForm, meaning}
 use Rattle.relations.specs.KeptRows.{kept_for}

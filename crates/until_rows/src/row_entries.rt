@@ -1,5 +1,5 @@
 //! The rows of the right operand with their entries, found by their hashes and by their values in some columns.
-ghost use Rattle.std.specs.Prelude.{◌≡◌, ◌||◌, ◌&&◌, ◌∷◌, ◌++◌, [], false, List, ℕ};
+ghost use Rattle.std.specs.Prelude.{◌≡◌, ◌||◌, ◌&&◌, ◌∷◌, ◌++◌, [], false, List};
 ghost use Rattle.std.specs.Prelude.{IfOk, IsTrue, None, OnErr, OnOk, cond, length, nat_eq};
 ghost use Rattle.std.specs.List.{list_any};
 ghost use Rattle.std.specs.List.Sorted.{IsStrictlySortedBy};

@@ -13,11 +13,11 @@ use std::alloc::{AllocError, Global};
 use std::collections::{BTreeMap, HashMap};
 use std::marker::Model;
 
-/// Where rows' present runs begin: the runs of positions at which the left operand held of them, or where it is
-/// negated, didn't. A row that has no start here began with the next position, or of a negated operand with the first.
-// Where there is a `lone` start, there is no other, and `many` tells nothing.
+/// Where rows' present runs begin: of positions at which the left operand held, or if it is negated, didn't hold. A row
+/// without a start has no run, or of a negated operand one that began with the first position.
 #[derive(Drop)]
 pub struct RunStarts {
+    // where this is a start, there is no other, and `many` tells nothing
     lone: Option<(Row, u64)>,
     many: HashMap<Row, u64>,
 }

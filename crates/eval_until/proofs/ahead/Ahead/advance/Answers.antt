@@ -4,8 +4,7 @@ use Rattle.relations.specs.KeptRows.{kept_for, list_for}
 use Rattle.until_rows.specs.Entries.{met_by}
 use Rattle.eval_until.proofs.ThinnedLemmas.{all_thinned, ascend_thinned, met_thinned, none_thinned}
 use Rattle.eval_until.proofs.{KeepingLemmas.later_low, KeepingLemmas.start_later}
-use Rattle.until_rows.proofs.OrderLemmas.{entries_in_order}
-use Rattle.until_rows.proofs.OrderLemmas.{kept_in_order}
+use Rattle.until_rows.proofs.OrderLemmas.{entries_in_order, kept_in_order}
 use Rattle.eval_until.proofs.ahead.Ahead.advance.Goals as goal
 
 pub invariant_of-self : goal.invariant_of-self

@@ -4,8 +4,7 @@ use Rattle.mfotl_model.specs.{Intervals.in_interval, Tables.has_row, Tables.part
 use Rattle.relations.specs.{KeptRows.kept_for, KeptRows.list_for, Pushed.turned}
 use Rattle.until_rows.specs.{Entries.met_by, Starts.start_of}
 use Rattle.eval_until.proofs.{KeepingLemmas.met_taken, KeepingLemmas.start_stepped}
-use Rattle.until_rows.proofs.OrderLemmas.{entries_in_order}
-use Rattle.until_rows.proofs.OrderLemmas.{kept_in_order}
+use Rattle.until_rows.proofs.OrderLemmas.{entries_in_order, kept_in_order}
 use Rattle.eval_until.proofs.ahead.Ahead.take.Goals as goal
 
 pub returns-in-Ok-clause-met : goal.returns-in-Ok-clause-met

@@ -1,6 +1,5 @@
-use Rattle.until_rows.proofs.{OrderLemmas.hashed_finds, OrderLemmas.hashed_is}
-use Rattle.eval_until.proofs.ResumeLemmas.{keeps_alike}
-use Rattle.eval_until.proofs.ResumeLemmas.{keeps_resumed}
+use Rattle.until_rows.proofs.OrderLemmas.{hashed_finds, hashed_is}
+use Rattle.eval_until.proofs.ResumeLemmas.{keeps_alike, keeps_resumed}
 use Rattle.eval_until.proofs.contents.Contents.recalled.Goals as goal
 
 pub returns-clause-starts : goal.returns-clause-starts
