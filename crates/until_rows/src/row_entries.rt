@@ -10,6 +10,7 @@ ghost use Rattle.mfotl_model.specs.declared.value.Value.{Value};
 ghost use Rattle.relations.specs.KeptRows.{RowsAscend, RowsDiffer, kept_for, last_for, list_for};
 ghost use Rattle.until_rows.specs.ByKey.{Listed};
 ghost use Rattle.until_rows.specs.Entries.{from_place, met_by};
+ghost use Rattle.until_rows.specs.InOrder.{in_order};
 ghost use Rattle.until_rows.specs.Rules.{NoneEmpty, all_before};
 ghost use Rattle.until_rows.specs.Starts.{start_of};
 
@@ -61,6 +62,7 @@ impl RowEntries {
             kept_for kept.entries u ≡ last_for rows.entries u None) }
         ensures ascend { IfOk result (λ _. RowsAscend rows.entries) }
         ensures listed { IfOk result (λ kept. Listed right.now kept.keyed kept.entries) }
+        ensures same { IfOk result (λ kept. in_order kept.entries ≡ rows.entries) }
     {
         let rows = hashed_rows(alloc, rows)?;
         let by_key = rows_by_key(alloc, right, keys, &rows)?;
@@ -73,8 +75,10 @@ impl RowEntries {
             kept_for map.entries u ≡ last_for self.now.entries u None) }
         ensures ascend { IfOk result (λ map. RowsAscend map.entries) }
         ensures differ { IfOk result (λ _. RowsDiffer self.now.entries) }
+        ensures same { IfOk result (λ map. map.entries ≡ in_order self.now.entries) }
     {
-        ordered_rows(alloc, &self.rows)
+        let map = ordered_rows(alloc, &self.rows)?;
+        Ok(map)
     }
 
     /// Finds rows by their values in these columns at once from now on.
