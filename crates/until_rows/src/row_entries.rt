@@ -1,5 +1,5 @@
 //! The rows of the right operand with their entries, found by their hashes and by their values in some columns.
-ghost use Rattle.std.specs.Prelude.{◌≡◌, ◌||◌, ◌&&◌, ◌∷◌, ◌++◌, [], false, List};
+ghost use Rattle.std.specs.Prelude.{◌≡◌, ◌||◌, ◌&&◌, ◌∷◌, ◌++◌, [], false, true, List};
 ghost use Rattle.std.specs.Prelude.{IfOk, IsTrue, None, OnErr, OnOk, cond, length, nat_eq};
 ghost use Rattle.std.specs.List.{list_any};
 ghost use Rattle.std.specs.List.Sorted.{IsStrictlySortedBy};
@@ -102,6 +102,8 @@ impl RowEntries {
     pub fn finds_by(&self, columns: &[u32]) -> bool
         ensures some { IsTrue result → nat_eq (length self.now.keyed.columns) 0 ≡ false }
         ensures same { IsTrue result → columns.now ≡ self.now.keyed.columns }
+        ensures yes { nat_eq (length self.now.keyed.columns) 0 ≡ false →
+            columns.now ≡ self.now.keyed.columns → result ≡ true }
     {
         self.by_key.finds_by(columns)
     }
