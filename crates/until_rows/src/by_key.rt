@@ -90,6 +90,7 @@ impl RowsByKey {
     pub fn finds_by(&self, columns: &[u32]) -> bool
         ensures some { IsTrue result → nat_eq (length self.now.columns) 0 ≡ false }
         ensures same { IsTrue result → columns.now ≡ self.now.columns }
+        ensures yes { nat_eq (length self.now.columns) 0 ≡ false → columns.now ≡ self.now.columns → result ≡ true }
     {
         !columns.is_empty() && columns == self.columns()
     }

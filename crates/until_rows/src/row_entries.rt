@@ -1,5 +1,5 @@
 //! The rows of the right operand with their entries, found by their hashes and by their values in some columns.
-ghost use Rattle.std.specs.Prelude.{◌≡◌, ◌||◌, ◌&&◌, ◌∷◌, ◌++◌, [], false, List};
+ghost use Rattle.std.specs.Prelude.{◌≡◌, ◌||◌, ◌&&◌, ◌∷◌, ◌++◌, [], false, true, List};
 ghost use Rattle.std.specs.Prelude.{IfOk, IsTrue, None, OnErr, OnOk, cond, length, nat_eq};
 ghost use Rattle.std.specs.List.{list_any};
 ghost use Rattle.std.specs.List.Sorted.{IsStrictlySortedBy};
@@ -10,6 +10,7 @@ ghost use Rattle.mfotl_model.specs.declared.value.Value.{Value};
 ghost use Rattle.relations.specs.KeptRows.{RowsAscend, RowsDiffer, kept_for, last_for, list_for};
 ghost use Rattle.until_rows.specs.ByKey.{Listed};
 ghost use Rattle.until_rows.specs.Entries.{from_place, met_by};
+ghost use Rattle.until_rows.specs.InOrder.{in_order};
 ghost use Rattle.until_rows.specs.Rules.{NoneEmpty, all_before};
 ghost use Rattle.until_rows.specs.Starts.{start_of};
 
@@ -61,6 +62,7 @@ impl RowEntries {
             kept_for kept.entries u ≡ last_for rows.entries u None) }
         ensures ascend { IfOk result (λ _. RowsAscend rows.entries) }
         ensures listed { IfOk result (λ kept. Listed right.now kept.keyed kept.entries) }
+        ensures same { IfOk result (λ kept. in_order kept.entries ≡ rows.entries) }
     {
         let rows = hashed_rows(alloc, rows)?;
         let by_key = rows_by_key(alloc, right, keys, &rows)?;
@@ -73,8 +75,10 @@ impl RowEntries {
             kept_for map.entries u ≡ last_for self.now.entries u None) }
         ensures ascend { IfOk result (λ map. RowsAscend map.entries) }
         ensures differ { IfOk result (λ _. RowsDiffer self.now.entries) }
+        ensures same { IfOk result (λ map. map.entries ≡ in_order self.now.entries) }
     {
-        ordered_rows(alloc, &self.rows)
+        let map = ordered_rows(alloc, &self.rows)?;
+        Ok(map)
     }
 
     /// Finds rows by their values in these columns at once from now on.
@@ -98,6 +102,8 @@ impl RowEntries {
     pub fn finds_by(&self, columns: &[u32]) -> bool
         ensures some { IsTrue result → nat_eq (length self.now.keyed.columns) 0 ≡ false }
         ensures same { IsTrue result → columns.now ≡ self.now.keyed.columns }
+        ensures yes { nat_eq (length self.now.keyed.columns) 0 ≡ false →
+            columns.now ≡ self.now.keyed.columns → result ≡ true }
     {
         self.by_key.finds_by(columns)
     }

@@ -5,6 +5,7 @@ ghost use Rattle.std.specs.Option.{unwrap_or};
 ghost use Rattle.mfotl_model.specs.Values.{row_cmp};
 ghost use Rattle.mfotl_model.specs.declared.value.Value.{Value};
 ghost use Rattle.relations.specs.KeptRows.{RowsAscend, RowsDiffer, kept_for, last_for};
+ghost use Rattle.until_rows.specs.InOrder.{in_order};
 ghost use Rattle.until_rows.specs.Starts.{starts_among};
 
 use crate::ordered::ordered_starts;
@@ -54,6 +55,18 @@ fn one_start(alloc: Global, row: &Row, start: u64) -> Result<BTreeMap<Row, u64>,
 {
     let mut map = BTreeMap::new(alloc);
     map.insert(row.copy(alloc)?, start)?;
+    Ok(map)
+}
+
+fn hashed_starts(alloc: Global, starts: BTreeMap<Row, u64>) -> Result<RunStarts, AllocError>
+    ensures found { IfOk result (λ map. (u : List Value) →
+        kept_for map u ≡ last_for starts.entries u None) }
+    ensures ascend { IfOk result (λ _. RowsAscend starts.entries) }
+{
+    let mut map = RunStarts::new(alloc);
+    for (row, start) in starts {
+        map.insert(row, start)?;
+    }
     Ok(map)
 }
 
@@ -139,16 +152,25 @@ impl RunStarts {
         ensures found { IfOk result (λ map. (u : List Value) →
             kept_for map u ≡ last_for starts.entries u None) }
         ensures ascend { IfOk result (λ _. RowsAscend starts.entries) }
+        ensures same { IfOk result (λ map. in_order map ≡ starts.entries) }
     {
-        let mut map = RunStarts::new(alloc);
-        for (row, start) in starts {
-            map.insert(row, start)?;
-        }
+        let map = hashed_starts(alloc, starts)?;
         Ok(map)
     }
 
     /// Copies of the starts, by ascending rows.
     pub fn in_order(&self, alloc: Global) -> Result<BTreeMap<Row, u64>, AllocError>
+        ensures found { IfOk result (λ map. (u : List Value) →
+            kept_for map.entries u ≡ last_for self.now u None) }
+        ensures ascend { IfOk result (λ map. RowsAscend map.entries) }
+        ensures differ { IfOk result (λ _. RowsDiffer self.now) }
+        ensures same { IfOk result (λ map. map.entries ≡ in_order self.now) }
+    {
+        let map = self.copies(alloc)?;
+        Ok(map)
+    }
+
+    fn copies(&self, alloc: Global) -> Result<BTreeMap<Row, u64>, AllocError>
         ensures found { IfOk result (λ map. (u : List Value) →
             kept_for map.entries u ≡ last_for self.now u None) }
         ensures ascend { IfOk result (λ map. RowsAscend map.entries) }

@@ -1,14 +1,12 @@
 use Rattle.std.proofs.Common.{◌∙◌}
 use Rattle.until_rows.specs.InOrder.{in_order}
-use Rattle.until_rows.proofs.OrderLemmas.{in_order_ascends, kept_in_order, ordered_is}
+use Rattle.until_rows.proofs.OrderLemmas.{in_order_ascends, kept_in_order}
 use Rattle.eval_until.proofs.ResumeLemmas.{each_some}
 use Rattle.eval_until.proofs.ahead.Ahead.kept_marks.Goals as goal
 
 pub returns-clause-rows : goal.returns-clause-rows
 returns-clause-rows c = rw (← c.self.view_is) (
-    c.in_ok-kept.ensures.rows
-    ∙ ordered_is c.self.inside.contents.rows.entries c.in_ok-rows.rows.entries c.in_ok-rows.ensures.differ
-    c.in_ok-rows.ensures.ascend c.in_ok-rows.ensures.found)
+    c.in_ok-kept.ensures.rows ∙ c.in_ok-rows.ensures.same)
 
 pub returns-clause-some : goal.returns-clause-some
 returns-clause-some c = rw (← c.self.view_is) (

@@ -1,13 +1,6 @@
-use Rattle.until_rows.proofs.OrderLemmas.{hashed_finds, hashed_is}
+use Rattle.until_rows.proofs.OrderLemmas.{hashed_finds}
 use Rattle.eval_until.proofs.ResumeLemmas.{keeps_alike, keeps_resumed}
 use Rattle.eval_until.proofs.contents.Contents.recalled.Goals as goal
-
-pub returns-clause-starts : goal.returns-clause-starts
-returns-clause-starts c =
-    hashed_is c.args.starts.entries c.in_ok-starts.starts c.in_ok-starts.ensures.ascend c.in_ok-starts.ensures.found
-
-pub returns-clause-rows : goal.returns-clause-rows
-returns-clause-rows c = hashed_is c.args.rows.entries _ c.in_ok-found.ensures.ascend c.in_ok-found.ensures.found
 
 pub returns-clause-kept : goal.returns-clause-kept
 returns-clause-kept c = λ pulled taken waiting below above.
