@@ -6,14 +6,14 @@ pub mod laws;
 mod marks;
 mod merging;
 mod nodes;
+mod runs_and_marks;
 mod since_rows;
 mod states;
 mod tables;
 mod times;
-mod until_rows;
 mod windows;
 
 pub use merging::Merging;
+pub use runs_and_marks::{united_marks, united_starts};
 pub use since_rows::united_times;
 pub use states::united_states;
-pub use until_rows::{united_marks, united_starts};

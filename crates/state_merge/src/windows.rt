@@ -3,9 +3,9 @@ ghost use Rattle.std.specs.Prelude.{IfOk};
 ghost use Rattle.monitor_state.specs.StateUnions.{SinceUnion, UntilUnion, WindowUnion};
 ghost use Rattle.state_merge.specs.Fits.{SincesFit, UntilsFit, WindowsFit};
 
+use crate::runs_and_marks::{united_marks, united_starts};
 use crate::since_rows::united_times;
 use crate::tables::united_operands;
-use crate::until_rows::{united_marks, united_starts};
 use eval_since::SinceData;
 use eval_until::UntilData;
 use monitor_state::{SinceKept, UntilKept, WindowData};

@@ -1,6 +1,6 @@
 use Rattle.until_rows.specs.declared.recalled.KeptMarks.{KeptMarks}
 use Rattle.state_merge.proofs.PairLemmas.{rows_united}
-use Rattle.state_merge.proofs.until_rows.united_marks.Goals as goal
+use Rattle.state_merge.proofs.runs_and_marks.united_marks.Goals as goal
 
 pub returns : goal.returns
 returns c =

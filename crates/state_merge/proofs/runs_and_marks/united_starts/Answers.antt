@@ -1,6 +1,6 @@
 use Rattle.until_rows.specs.declared.recalled.KeptStart.{KeptStart}
 use Rattle.state_merge.proofs.PairLemmas.{rows_united}
-use Rattle.state_merge.proofs.until_rows.united_starts.Goals as goal
+use Rattle.state_merge.proofs.runs_and_marks.united_starts.Goals as goal
 
 pub returns : goal.returns
 returns c =
