@@ -97,10 +97,10 @@ impl<'a> LogReader<'a> {
     }
 
     /// How many bytes it holds. Where it asks for more these are the front of one token at most.
-    pub fn held(&self) -> usize
+    pub fn held(&self) -> u64
         ensures { result ≡ held_bytes self.now }
     {
-        self.kept.bytes().len()
+        self.kept.bytes().len() as u64
     }
 
     /// Says that the bytes fed are all.
