@@ -291,8 +291,8 @@ impl UntilState {
         &self.times
     }
 
-    /// What the state keeps, as plain data. Errs, as for memory, where an entry has another time than its position, or the
-    /// row of a start another number of values than the left operand has columns.
+    /// What the state keeps, as plain data. Errs, as for memory, where an entry has another time than its
+    /// position, or the row of a start another number of values than the left operand has columns.
     pub fn state(&self, alloc: Global) -> Result<UntilData, AllocError>
         ensures same { IfOk result (λ kept.
             until_of (setting_of self.now) self.now.times kept ≡ self.now) }
@@ -309,10 +309,10 @@ impl UntilState {
         })
     }
 
-    /// Does nothing: the clauses say of what is kept that each row has an entry; that each entry stands at a position
-    /// that was taken and not pulled, those of a row by strictly ascending positions, and that no run begins behind the
-    /// entry that names it; that no start is behind the positions taken, and one of a negated operand is behind the next
-    /// position to pull.
+    /// Does nothing: the clauses say of what is kept that each row has an entry; that each entry stands at a
+    /// position that was taken and not pulled, those of a row by strictly ascending positions, and that no run
+    /// begins behind the entry that names it; that no start is behind the positions taken, and one of a negated
+    /// operand is behind the next position to pull.
     pub fn keeps_no_more(&self)
         ensures low { self.now.ahead.pulled ≤ self.now.ahead.taken }
         ensures high { self.now.ahead.taken ≤ self.now.ahead.pulled + length self.now.times }
