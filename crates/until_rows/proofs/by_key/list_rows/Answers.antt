@@ -29,7 +29,8 @@ loop-row-preserved c =
                 (is_listed right cur u) (omega arith) c.row-item.is (before.listed u)
                 (list_same (is_listed right cur) x u
                 (before.listed x ∙ or_left (is_listed right c.args.by_key.now x) (has_row (take i c.args.table.now) x)
-                (kept_listed right c.args.by_key.now c.args.rows.now.entries x c.requires.some c.requires.listed kept)));
+                (kept_listed right c.args.by_key.now c.args.rows.now.entries x c.requires.some c.requires.listed
+                kept)));
             keys = before.keys;
           })
     ]
