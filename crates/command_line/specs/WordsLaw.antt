@@ -1,10 +1,10 @@
 -- Words worked out by hand, and the commands that they give.
-use Rattle.std.specs.Prelude.{◌≡◌, ℕ, ◌+◌, ◌<◌, List, ◌∷◌, [], codes, true, Some, None}
+use Rattle.std.specs.Prelude.{◌≡◌, ℕ, ◌+◌, ◌<◌, List, ◌∷◌, [], codes, true, Some, None, IfSome}
 use Rattle.std.specs.Str.Parse.{digits_value}
 use Rattle.clap.specs.ValueTests.{is_unsigned_in}
-use Rattle.clap.specs.Words.{Text}
-use Rattle.command_line.specs.Limits.{max_seed}
-use Rattle.command_line.specs.Words.{Run, Check, Demo, command_of}
+use Rattle.clap.specs.Words.{Text, subcommand_of}
+use Rattle.command_line.specs.Limits.{default_threads, max_seed}
+use Rattle.command_line.specs.Words.{Run, Check, Demo, IsThreadCount, command_of, monitor_app}
 
 -- `run` with all of its options
 abbrev pub RunIsTaken : Type 0
@@ -23,6 +23,22 @@ OptionsMayBeLeftOut =
     ∷ codes "l" ∷ [])
     ≡ Some (Run (record { sig = codes "s"; policy = codes "p" })
     (record { strategy = []; changes = None; log = codes "l" }))
+
+-- the options of these words give this number of threads, and no other
+abbrev pub GiveThreads : List Text → ℕ → Type 0
+GiveThreads words threads =
+    (count : ℕ) → IfSome (subcommand_of monitor_app words) (λ found. IsThreadCount found.1 count) → count ≡ threads
+
+-- a run without a strategy and changes, and with these words behind it
+abbrev pub short_run : List Text → List Text
+short_run more =
+    codes "monitor" ∷ codes "run" ∷ codes "--sig" ∷ codes "s" ∷ codes "--policy" ∷ codes "p" ∷ codes "--log"
+    ∷ codes "l" ∷ more
+
+-- with `--threads 2` there are two threads, and without the option as many as by default
+abbrev pub ThreadsAreTaken : Type 0
+ThreadsAreTaken =
+    GiveThreads (short_run (codes "--threads" ∷ codes "2" ∷ [])) 2 × GiveThreads (short_run []) default_threads
 
 -- `check`
 abbrev pub CheckIsTaken : Type 0

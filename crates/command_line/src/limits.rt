@@ -3,7 +3,8 @@
 /// The most threads beside the one that reads and writes.
 pub const MAX_THREADS: u32 = 64;
 
-/// So many threads serve the workers where no number is given. The default of `--threads` is this number as a text.
+/// So many threads serve the workers where no number is given, and those of a demo. The default of `--threads` is this
+/// number as a text.
 pub const DEFAULT_THREADS: u32 = 4;
 
 /// The greatest seed of a demo.

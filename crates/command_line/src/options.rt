@@ -33,7 +33,6 @@ fn option_with_default<'a>(alloc: Global, name: &'a str, default: &'a str) -> Ar
         .default_value(default)
 }
 
-// The option `--strategy`.
 fn strategy_option<'a>(alloc: Global) -> Arg<'a>
     ensures rule { rule_of result ≡ strategy_rule }
     ensures local { result.global ≡ false }
@@ -96,7 +95,6 @@ fn sources_command<'a>(alloc: Global, name: &'a str) -> Result<Command<'a>, Allo
     with_file(alloc, command, "policy")
 }
 
-// The subcommand `run`.
 #[tactic(auto, unfolding(crate::specs::Words::run_app))]
 fn run_command<'a>(alloc: Global) -> Result<Command<'a>, AllocError>
     ensures app { IfOk result (λ r. app_of r ≡ run_app) }
@@ -109,7 +107,6 @@ fn run_command<'a>(alloc: Global) -> Result<Command<'a>, AllocError>
     command.arg(threads_option(alloc))
 }
 
-// The subcommand `check`.
 #[tactic(auto, unfolding(crate::specs::Words::check_app))]
 fn check_command<'a>(alloc: Global) -> Result<Command<'a>, AllocError>
     ensures app { IfOk result (λ r. app_of r ≡ check_app) }
@@ -118,7 +115,6 @@ fn check_command<'a>(alloc: Global) -> Result<Command<'a>, AllocError>
     sources_command(alloc, "check")
 }
 
-// The subcommand `demo`.
 #[tactic(auto, unfolding(crate::specs::Words::demo_app))]
 fn demo_command<'a>(alloc: Global) -> Result<Command<'a>, AllocError>
     ensures app { IfOk result (λ r. app_of r ≡ demo_app) }
@@ -138,7 +134,6 @@ fn strict(command: Command<'_>) -> Command<'_>
         .subcommand_required(true)
 }
 
-// The command with the subcommand `run`.
 fn with_run<'a>(alloc: Global, command: Command<'a>) -> Result<Command<'a>, AllocError>
     ensures { IfOk result (λ r. app_of r ≡ with_subcommand (app_of command.entry) run_app.top) }
 {
@@ -146,7 +141,6 @@ fn with_run<'a>(alloc: Global, command: Command<'a>) -> Result<Command<'a>, Allo
     command.subcommand(run)
 }
 
-// The command with the subcommand `check`.
 fn with_check<'a>(alloc: Global, command: Command<'a>) -> Result<Command<'a>, AllocError>
     ensures { IfOk result (λ r. app_of r ≡ with_subcommand (app_of command.entry) check_app.top) }
 {
@@ -154,7 +148,6 @@ fn with_check<'a>(alloc: Global, command: Command<'a>) -> Result<Command<'a>, Al
     command.subcommand(check)
 }
 
-// The command with the subcommand `demo`.
 fn with_demo<'a>(alloc: Global, command: Command<'a>) -> Result<Command<'a>, AllocError>
     ensures { IfOk result (λ r. app_of r ≡ with_subcommand (app_of command.entry) demo_app.top) }
 {

@@ -55,18 +55,17 @@ fn changes_given<'a>(options: &ArgMatches<'a>) -> Option<&'a str>
     options.get_str("changes")
 }
 
-// The seed of a demo.
 fn seed_given(options: &ArgMatches<'_>) -> Option<u64>
     ensures { result ≡ seed_option (rows_of (found_of options.now)) }
 {
     options.get_one::<u64>("seed")
 }
 
-// The number of threads.
 fn threads_given(options: &ArgMatches<'_>) -> u32
     ensures few { result ≤ max_threads }
     ensures given { IsThreadCount (rows_of (found_of options.now)) result }
 {
+    // `clap` has tested the range, and gives the default where the option is left out: the last arm is never taken.
     match options.get_one::<u32>("threads") {
         Some(threads) if threads <= MAX_THREADS => threads,
         _ => DEFAULT_THREADS,

@@ -7,9 +7,9 @@ use Rattle.until_rows.specs.declared.entries.Entry.{Entry}
 use Rattle.until_rows.specs.Entries.{met_by}
 use Rattle.until_rows.specs.Starts.{start_of}
 
--- the operands' columns, whether the left one is negated, how many positions were pulled, of how many the
--- tables were taken, where the left operand's present runs begin, and for each row of the right operand its
--- entries
+-- the interval, the operands' columns, whether the left one is negated, how many positions were pulled, of how
+-- many the tables were taken, where the left operand's present runs begin, and for each row of the right operand
+-- its entries
 pub record AheadOf : Type 0 where
   pub interval : Interval
   pub left : List ℕ

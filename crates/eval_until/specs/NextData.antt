@@ -18,7 +18,7 @@ next_of interval columns next kept =
       tables = kept.tables.items;
     }
 
--- the rule of the data: the tables are over the operand's columns
+-- the rule of the data: there are few enough positions, and the tables are over the operand's columns
 pub record NextRule (columns next : List ℕ) (kept : NextData) : Type 0 where
   pub few : kept.pulled + length next ≤ 2 ^ 63
   pub over : AreOver columns kept.tables.items

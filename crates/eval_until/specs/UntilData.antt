@@ -42,9 +42,11 @@ until_of setting next kept =
       rights = kept.rights.items;
     }
 
--- the rule of the data, said of the state that it describes: the tables are over the operands' columns, the rows
+-- the rule of the data, said of the state that it describes: no position was pulled that wasn't taken, those that
+-- were taken have times, and there are few enough positions; the tables are over the operands' columns, the rows
 -- ascend and have a value for each column, those with entries have some, each at a position that was taken and not
--- pulled, and no start is behind the positions taken, nor one of a negated operand at or before the next one
+-- pulled and none with a run that begins behind it, by ascending positions, and no start is behind the positions
+-- taken, nor one of a negated operand at or before the next one
 pub record UntilRule (s : UntilOf) : Type 0 where
   pub low : s.ahead.pulled ≤ s.ahead.taken
   pub high : s.ahead.taken ≤ s.ahead.pulled + length s.times

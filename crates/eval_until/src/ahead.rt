@@ -157,7 +157,8 @@ impl Ahead {
         Ok(())
     }
 
-    /// The rows with their starts, in order.
+    /// The rows with their starts, in order. Errs, as for memory, where a row has another number of values than
+    /// the left operand has columns.
     pub fn kept_starts(&self, alloc: Global) -> Result<Vec<KeptStart>, AllocError>
         ensures starts { IfOk result (λ kept. starts_kept kept.items ≡ self.now.starts) }
         ensures wide { IfOk result (λ _.
@@ -170,7 +171,7 @@ impl Ahead {
     }
 
     /// The rows with their marks, in order, where `times` are those of the positions from the next one
-    /// to pull on.
+    /// to pull on. Errs, as for memory, where an entry has another time than its position has there.
     pub fn kept_marks(
         &self,
         alloc: Global,
@@ -288,7 +289,7 @@ impl Ahead {
         Ok(Table::from_rows(columns, rows))
     }
 
-    /// Those of these rows whose part at the columns of `keys` is one of its rows, and maybe more of them.
+    /// Of the rows that `table` tells at least those whose part at the columns of `keys` is one of the rows of `keys`.
     pub fn table_of(&self, alloc: Global, i: u64, x: u64, keys: &Table) -> Result<Table, AllocError>
         ensures columns { IfOk result (λ table. table.columns ≡ self.now.right) }
         ensures rows { IfOk result (λ table. (u : List Value) →
@@ -305,36 +306,42 @@ impl Ahead {
         Ok(Table::from_rows(columns, found))
     }
 
+    /// Of how many positions the tables were taken.
     pub fn taken(&self) -> u64
         ensures { result ≡ self.now.taken }
     {
         self.taken
     }
 
+    /// How many positions were pulled.
     pub fn pulled(&self) -> u64
         ensures { result ≡ self.now.pulled }
     {
         self.pulled
     }
 
+    /// The interval of distances.
     pub fn interval(&self) -> &Interval
         ensures { result.now ≡ self.now.interval }
     {
         &self.interval
     }
 
+    /// Whether the left operand is negated.
     pub fn negated(&self) -> bool
         ensures { result ≡ self.now.negated }
     {
         self.negated
     }
 
+    /// The left operand's columns.
     pub fn left(&self) -> &[u32]
         ensures { result.now ≡ self.now.left }
     {
         self.left.as_slice()
     }
 
+    /// The right operand's columns.
     pub fn right(&self) -> &[u32]
         ensures right { result.now ≡ self.now.right }
         ensures apart { IsTrue (all_apart self.now.right) }
@@ -342,14 +349,15 @@ impl Ahead {
         self.right.as_slice()
     }
 
-    // each row with entries has a value for each of the right operand's columns
+    // Does nothing: the clause says that each row with entries has a value for each of the right operand's columns.
     fn is_sized(&self)
         ensures { Sized (length self.now.right) self.now.rows }
     {
+        // one field is read, so that what always holds of all of them is known
         let _ = &self.taken;
     }
 
-    /// What is kept of positions, and no more.
+    /// Does nothing: the clauses say what is kept of positions, and no more.
     pub fn is_bounded(&self)
         ensures some { NoneEmpty self.now.rows }
         ensures waiting { Waiting self.now.pulled self.now.taken self.now.rows }
@@ -357,6 +365,7 @@ impl Ahead {
         ensures below { StartsBelow self.now.taken self.now.starts }
         ensures above { self.now.negated ≡ true → StartsAbove self.now.pulled self.now.starts }
     {
+        // one field is read, so that what always holds of all of them is known
         let _ = &self.taken;
     }
 }

@@ -72,6 +72,7 @@ impl Contents {
             (negated ≡ true → StartsAbove pulled starts.entries) →
             Keeps negated right.now pulled taken contents.starts contents.rows.entries contents.queue.items) }
         ensures listed { IfOk result (λ contents. Listed right.now contents.rows.keyed contents.rows.entries) }
+        ensures keys { IfOk result (λ contents. contents.rows.keyed.columns ≡ keys.now) }
     {
         let queue = queue_of(alloc, negated, &starts, &rows)?;
         let starts = RunStarts::from_ordered(alloc, starts)?;

@@ -112,7 +112,9 @@ impl NextState {
     /// the next position on.
     pub fn resumed(self, alloc: Global, times: &[u64], kept: NextData) -> Result<Self, AllocError>
         requires rule { NextRule self.columns times.now kept }
-        ensures { IfOk result (λ state. state ≡ next_of self.interval self.columns times.now kept) }
+        ensures state { IfOk result (λ state. state ≡ next_of self.interval self.columns times.now kept) }
+        ensures follows { IfOk result (λ state. (t : List ℕ) (a : List Bool) (v : Valuation) →
+            FollowsNext (next_of self.interval self.columns times.now kept) t a v → FollowsNext state t a v) }
     {
         let state = NextState::resume(alloc, &self.interval, self.columns.as_slice(), times, kept)?;
         Ok(state)
@@ -152,7 +154,7 @@ impl NextState {
         self.pulled + (self.times.len() as u64) < 1 << 63
     }
 
-    /// Takes the operand's next table. The first position's is dropped: no position is before it.
+    /// Pushes the operand's next table. The first position's is dropped: no position is before it.
     pub fn push_right(&mut self, table: Table) -> Result<(), AllocError>
         requires columns { table.columns ≡ self.old.columns }
         ensures pushed { OnOk result (self.new ≡ with_table self.old table) }
@@ -169,7 +171,7 @@ impl NextState {
         Ok(())
     }
 
-    /// Takes the next position's time.
+    /// Pushes the next position's time.
     pub fn push_time(&mut self, ts: u64) -> Result<(), AllocError>
         requires few { self.old.pulled + length self.old.times < 2 ^ 63 }
         ensures pushed { OnOk result

@@ -171,6 +171,12 @@ impl UntilState {
           right = right.now;
           negated = negated;
         }) times.now kept) }
+        ensures state { IfOk result (λ state. state ≡ until_of (record {
+          interval = interval.now;
+          left = left.now;
+          right = right.now;
+          negated = negated;
+        }) times.now kept) }
         ensures setting { IfOk result (λ state. setting_of state ≡ record {
           interval = interval.now;
           left = left.now;
@@ -213,12 +219,17 @@ impl UntilState {
     /// from the next position on.
     pub fn resumed(self, alloc: Global, times: &[u64], kept: UntilData) -> Result<Self, AllocError>
         requires rule { UntilRule (until_of (setting_of self) times.now kept) }
+        ensures state { IfOk result (λ state. state ≡ until_of (setting_of self) times.now kept) }
         ensures setting { IfOk result (λ state. setting_of state ≡ setting_of self) }
         ensures pulled { IfOk result (λ state. state.ahead.pulled ≡ kept.pulled) }
         ensures taken { IfOk result (λ state. state.ahead.taken ≡ kept.taken) }
         ensures times { IfOk result (λ state. state.times ≡ times.now) }
         ensures lefts { IfOk result (λ state. state.lefts ≡ kept.lefts.items) }
         ensures rights { IfOk result (λ state. state.rights ≡ kept.rights.items) }
+        ensures starts { IfOk result (λ state. (w : List Value) →
+            kept_for state.ahead.starts w ≡ kept_for (starts_kept kept.starts.items) w) }
+        ensures rows { IfOk result (λ state. (u : List Value) → kept_for state.ahead.rows u
+            ≡ kept_for (entries_kept kept.pulled times.now kept.rows.items) u) }
         ensures left { IfOk result (λ state. (a : List Bool) (v : Valuation) →
             FollowsLeft (until_of (setting_of self) times.now kept) a v → FollowsLeft state a v) }
         ensures follows { IfOk result (λ state.
@@ -280,7 +291,8 @@ impl UntilState {
         &self.times
     }
 
-    /// What the state keeps, as plain data.
+    /// What the state keeps, as plain data. Errs, as for memory, where an entry has another time than its
+    /// position, or the row of a start another number of values than the left operand has columns.
     pub fn state(&self, alloc: Global) -> Result<UntilData, AllocError>
         ensures same { IfOk result (λ kept.
             until_of (setting_of self.now) self.now.times kept ≡ self.now) }
@@ -297,9 +309,10 @@ impl UntilState {
         })
     }
 
-    /// Of what is kept: each row has an entry; each entry stands at a position that was taken and not pulled,
-    /// those of a row by strictly ascending positions, and no run begins behind the entry that names it; no
-    /// start is behind the positions taken, and one of a negated operand is behind the next position to pull.
+    /// Does nothing: the clauses say of what is kept that each row has an entry; that each entry stands at a
+    /// position that was taken and not pulled, those of a row by strictly ascending positions, and that no run
+    /// begins behind the entry that names it; that no start is behind the positions taken, and one of a negated
+    /// operand is behind the next position to pull.
     pub fn keeps_no_more(&self)
         ensures low { self.now.ahead.pulled ≤ self.now.ahead.taken }
         ensures high { self.now.ahead.taken ≤ self.now.ahead.pulled + length self.now.times }

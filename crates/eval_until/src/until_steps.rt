@@ -29,7 +29,7 @@ fn is_past(times: &VecDeque<u64>, hi: Option<u64>, place: u64) -> bool
 }
 
 impl UntilState {
-    /// Takes the left operand's next table, which of a negated operand is the operand's own.
+    /// Pushes the left operand's next table, which of a negated operand is the operand's own.
     pub fn push_left(&mut self, table: Table) -> Result<(), AllocError>
         requires columns { table.columns ≡ self.old.ahead.left }
         ensures pushed { OnOk result
@@ -49,7 +49,7 @@ impl UntilState {
         Ok(())
     }
 
-    /// Takes the right operand's next table.
+    /// Pushes the right operand's next table.
     pub fn push_right(&mut self, table: Table) -> Result<(), AllocError>
         requires columns { table.columns ≡ self.old.ahead.right }
         ensures pushed { OnOk result
@@ -65,7 +65,7 @@ impl UntilState {
         Ok(())
     }
 
-    /// Takes the next position's time.
+    /// Pushes the next position's time.
     pub fn push_time(&mut self, ts: u64) -> Result<(), AllocError>
         requires few { self.old.ahead.pulled + length self.old.times < 2 ^ 63 }
         ensures pushed { OnOk result

@@ -53,6 +53,7 @@ impl<'a> Model for LogReader<'a> {
 }
 
 impl<'a> LogReader<'a> {
+    ghost use Rattle.std.specs.Prelude.{◌<◌, ◌^◌};
     ghost use Rattle.log_reader.specs.GivenPoints.{GivesPoints};
     ghost use Rattle.log_reader.specs.Limits.{held_limit};
     ghost use Rattle.log_reader.specs.Progress.{nothing_fed, next_answer};
@@ -96,10 +97,10 @@ impl<'a> LogReader<'a> {
     }
 
     /// How many bytes it holds. Where it asks for more these are the front of one token at most.
-    pub fn held(&self) -> usize
+    pub fn held(&self) -> u64
         ensures { result ≡ held_bytes self.now }
     {
-        self.kept.bytes().len()
+        self.kept.bytes().len() as u64
     }
 
     /// Says that the bytes fed are all.
@@ -154,6 +155,7 @@ impl<'a> LogReader<'a> {
         ensures after { Proceeds self.old self.new result }
         ensures reads { ReadsSameBytes self.old self.new result }
         ensures few { OnOk result (self.new.given ≤ self.new.limits.points) }
+        ensures narrow { OnOk result (self.new.given < 2 ^ 32) }
         ensures held { result ≡ Ok More → held_bytes self.new ≤ held_limit }
         ensures value { result ≡ Ok End → ForEach self.old (λ bytes. IsValue self.old.sig
             self.old.limits bytes (accepted self.old.sig self.old.limits bytes).points) }
@@ -171,8 +173,11 @@ impl<'a> LogReader<'a> {
         ensures after { Proceeds self.old self.new result }
         ensures reads { ReadsSameBytes self.old self.new result }
         ensures few { OnOk result (self.new.given ≤ self.new.limits.points) }
+        ensures narrow { OnOk result (self.new.given < 2 ^ 32) }
         ensures held { result ≡ Ok More → held_bytes self.new ≤ held_limit }
     {
+        // Fewer than 2^32, by its type.
+        let _most = self.limits.points;
         let answer = self
             .cursor
             .read(alloc, &self.kept, self.is_ended, self.sig, &self.limits);

@@ -1,5 +1,5 @@
 -- One worker alone takes the time-points of a log one after the other.
-use Rattle.std.proofs.Common.{◌≡◌, ◌^◌, ◌<◌, ◌≤◌, ℕ, List, Option, ap, arith, subst, sym}
+use Rattle.std.proofs.Common.{◌≡◌, ◌≤◌, ℕ, List, Option, ap, arith, subst, sym}
 use Rattle.mon_outside.specs.Sink.{AppendsFront}
 use Rattle.mfotl_model.specs.Formulas.{Form}
 use Rattle.mfotl_model.specs.declared.event.TimePoint.{TimePoint}
@@ -44,7 +44,7 @@ stops_later policy start now before mid after Memory is later h = tt
 
 -- all lines are a front of themselves
 pub front_of_all : {core : CoreForm} {start now : Option (List ℕ)} {monitor : Monitor} {tally : Tally}
-    {reader : Reader} {bytes : List ℕ} → reader.limits.points < 2 ^ 63
+    {reader : Reader} {bytes : List ℕ}
     → HasDoneAll core (WritesAlone core start monitor now tally) reader bytes start now tally
     → ForEachPolicy core (λ policy. AppendsFront start now (text_on policy (read (progress reader bytes))))
-front_of_all few all = front_amid (is_amid all.reads few all.so_far) (λ points. falls_none)
+front_of_all all = front_amid (is_amid all.reads all.so_far) (λ points. falls_none)

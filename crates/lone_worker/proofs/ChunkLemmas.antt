@@ -9,7 +9,7 @@ use Rattle.mfotl_model.specs.Formulas.{Form}
 use Rattle.mfotl_model.specs.declared.event.TimePoint.{TimePoint}
 use Rattle.mfotl_sig.specs.Preds.{PredOf}
 use Rattle.log_reader.proofs.GrowthLemmas.{front_stays}
-use Rattle.log_reader.specs.{Growth.ExtendsReading, Limits.standard}
+use Rattle.log_reader.specs.Growth.{ExtendsReading}
 use Rattle.log_reader.specs.Progress.{Progress, read, nothing_fed}
 use Rattle.log_reader.specs.Readers.{ForEach, Reader, Reads, progress}
 use Rattle.log_reader.specs.Readings.{NoFault, Reading, reading, shown}
@@ -30,8 +30,8 @@ front_same : (n : ℕ) (s a : Reading) → ExtendsReading s a → n ≡ length s
 front_same n s a k count = rw k.points (take-append-le n s.points k.more (omega (arith, count)))
 
 -- the reader's reading, by its signature and its limits
-read_is : {sig : List PredOf} (reader : Reader) (bytes : List ℕ) → reader.sig ≡ sig → reader.limits ≡ standard
-    → read (progress reader bytes) ≡ reading sig standard bytes reader.is_ended
+read_is : {sig : List PredOf} {limits : Limits} (reader : Reader) (bytes : List ℕ) → reader.sig ≡ sig
+    → reader.limits ≡ limits → read (progress reader bytes) ≡ reading sig limits bytes reader.is_ended
 read_is reader bytes sig_is limits_is =
     ap₂ (λ (s : List PredOf) (l : Limits). reading s l bytes reader.is_ended) sig_is limits_is
 
@@ -70,16 +70,17 @@ chunk_reads_on e (Err Sink) reads = absurd reads.failed
 chunk_reads_on e r reads = reads
 
 -- Besides, it was done with all that the bytes show, all its lines were written, and they show no fault.
-pub record Settled (core : CoreForm) (Done : List TimePoint → Type 0) (sig : List PredOf)
+pub record Settled (core : CoreForm) (Done : List TimePoint → Type 0) (sig : List PredOf) (limits : Limits)
     (first rest : Option (List ℕ)) (reader : Reader) (old now : Option (List ℕ)) (tally : Tally) : Type 0 where
-  pub course : Course Done sig first rest reader
-  pub all : reader.given ≡ length (reading sig standard course.bytes reader.is_ended).points
-  pub clear : (reading sig standard course.bytes reader.is_ended).ending ≡ NoFault
-  pub settles : Settles core (reading sig standard course.bytes reader.is_ended).points old now tally
+  pub course : Course Done sig limits first rest reader
+  pub all : reader.given ≡ length (reading sig limits course.bytes reader.is_ended).points
+  pub clear : (reading sig limits course.bytes reader.is_ended).ending ≡ NoFault
+  pub settles : Settles core (reading sig limits course.bytes reader.is_ended).points old now tally
 
 -- nothing was read
-pub course_begins : {Done : List TimePoint → Type 0} {sig : List PredOf} {reader : Reader} (first : Option (List ℕ))
-    → progress reader [] ≡ nothing_fed sig standard → Reads reader [] → Done [] → Course Done sig first first reader
+pub course_begins : {Done : List TimePoint → Type 0} {sig : List PredOf} {limits : Limits} {reader : Reader}
+    (first : Option (List ℕ)) → progress reader [] ≡ nothing_fed sig limits → Reads reader [] → Done []
+    → Course Done sig limits first first reader
 course_begins {Done} {reader = reader} first fresh reads begun = record {
   bytes = [];
   reads = reads;
@@ -90,16 +91,17 @@ course_begins {Done} {reader = reader} first fresh reads begun = record {
   so_far = subst (λ (p : Progress). HasDone Done p) (sym fresh) (record { counted = refl; done = begun });
 }
 
-module _ {core : CoreForm} {Done : List TimePoint → Type 0} {sig : List PredOf} {first rest : Option (List ℕ)}
-    {reader : Reader} where
+module _ {core : CoreForm} {Done : List TimePoint → Type 0} {sig : List PredOf} {limits : Limits}
+    {first rest : Option (List ℕ)} {reader : Reader} where
   -- the time-points that are complete were taken
   pub settles : {Next : List TimePoint → Type 0} {next : Reader} {old now : Option (List ℕ)} {tally : Tally}
-      → (course : Course Done sig first rest reader)
+      → (course : Course Done sig limits first rest reader)
       → next ≡ record reader { given = next.given; kept = next.kept }
-      → HasDoneAll core Next next course.bytes old now tally → Settled core Next sig first rest next old now tally
+      → HasDoneAll core Next next course.bytes old now tally
+      → Settled core Next sig limits first rest next old now tally
   settles {next = next} course is all =
       let sig_is : next.sig ≡ sig = ap (λ (r : Reader). r.sig) is ∙ course.sig_is in
-      let limits_is : next.limits ≡ standard = ap (λ (r : Reader). r.limits) is ∙ course.limits_is in
+      let limits_is : next.limits ≡ limits = ap (λ (r : Reader). r.limits) is ∙ course.limits_is in
       record {
         course = record {
           bytes = course.bytes;
@@ -115,22 +117,22 @@ module _ {core : CoreForm} {Done : List TimePoint → Type 0} {sig : List PredOf
         settles = rw (sig_is, limits_is) at all.settles;
       }
 
-module _ {core : CoreForm} {Done : List TimePoint → Type 0} {sig : List PredOf} {first rest : Option (List ℕ)}
-    {reader : Reader} {old mid : Option (List ℕ)} {tally : Tally} where
+module _ {core : CoreForm} {Done : List TimePoint → Type 0} {sig : List PredOf} {limits : Limits}
+    {first rest : Option (List ℕ)} {reader : Reader} {old mid : Option (List ℕ)} {tally : Tally} where
   -- one chunk more was fed
-  pub one_more_chunk : {next : Reader} {more : Option (List ℕ)} → Settled core Done sig first rest reader old mid tally
-      → reader.is_ended ≡ false → (chunk : List ℕ) → Consumes rest more chunk → Feeds reader next rest chunk
-      → Course Done sig first more next
+  pub one_more_chunk : {next : Reader} {more : Option (List ℕ)}
+      → Settled core Done sig limits first rest reader old mid tally → reader.is_ended ≡ false → (chunk : List ℕ)
+      → Consumes rest more chunk → Feeds reader next rest chunk → Course Done sig limits first more next
   one_more_chunk {next} {more} s untold chunk taken feeds =
       let c = s.course in
       let bytes = c.bytes ++ chunk in
       let sig_is : next.sig ≡ sig = ap (λ (r : Reader). r.sig) feeds.same ∙ c.sig_is in
-      let limits_is : next.limits ≡ standard = ap (λ (r : Reader). r.limits) feeds.same ∙ c.limits_is in
+      let limits_is : next.limits ≡ limits = ap (λ (r : Reader). r.limits) feeds.same ∙ c.limits_is in
       let given : next.given ≡ reader.given = ap (λ (r : Reader). r.given) feeds.same in
       let points : take next.given (read (progress next bytes)).points
       ≡ take reader.given (read (progress reader c.bytes)).points =
-      rw (given, sig_is, limits_is, c.sig_is, c.limits_is, untold) (front_same reader.given (shown sig standard c.bytes)
-      (reading sig standard bytes next.is_ended) (front_stays sig standard c.bytes chunk next.is_ended)
+      rw (given, sig_is, limits_is, c.sig_is, c.limits_is, untold) (front_same reader.given (shown sig limits c.bytes)
+      (reading sig limits bytes next.is_ended) (front_stays sig limits c.bytes chunk next.is_ended)
       (rw untold at s.all)) in
       record {
         bytes = bytes;
@@ -149,40 +151,40 @@ module _ {core : CoreForm} {Done : List TimePoint → Type 0} {sig : List PredOf
 
   module _ (policy : Form) (is : IsCoreOf core policy) where
     -- all lines were written
-    settled_text : (s : Settled core Done sig first rest reader old mid tally)
-        → Appends old mid (text_on policy (reading sig standard s.course.bytes reader.is_ended))
+    settled_text : (s : Settled core Done sig limits first rest reader old mid tally)
+        → Appends old mid (text_on policy (reading sig limits s.course.bytes reader.is_ended))
     unfolding text_on
     settled_text s =
         subst (λ vs. Appends old mid (lines vs))
-        (policy_verdicts core policy is (reading sig standard s.course.bytes reader.is_ended).points) s.settles.text
+        (policy_verdicts core policy is (reading sig limits s.course.bytes reader.is_ended).points) s.settles.text
 
-    settled_tally : (s : Settled core Done sig first rest reader old mid tally)
-        → tally_on policy (reading sig standard s.course.bytes reader.is_ended) ≡ tally
+    settled_tally : (s : Settled core Done sig limits first rest reader old mid tally)
+        → tally_on policy (reading sig limits s.course.bytes reader.is_ended) ≡ tally
     unfolding tally_on
     settled_tally s =
         sym (s.settles.counts
-        ∙ ap tally_of (policy_verdicts core policy is (reading sig standard s.course.bytes reader.is_ended).points))
+        ∙ ap tally_of (policy_verdicts core policy is (reading sig limits s.course.bytes reader.is_ended).points))
 
     -- though more bytes come
-    longer_text : (s : Settled core Done sig first rest reader old mid tally) → reader.is_ended ≡ false
-        → (chunk : List ℕ) → AppendsFront old mid (text_on policy (shown sig standard (s.course.bytes ++ chunk)))
+    longer_text : (s : Settled core Done sig limits first rest reader old mid tally) → reader.is_ended ≡ false
+        → (chunk : List ℕ) → AppendsFront old mid (text_on policy (shown sig limits (s.course.bytes ++ chunk)))
     unfolding text_on
     longer_text s untold chunk =
-        let k = front_stays sig standard s.course.bytes chunk false in
-        let text = first_text core policy is (shown sig standard (s.course.bytes ++ chunk)) _ k.more k.points
-        (read_never_falls sig standard (s.course.bytes ++ chunk) false) in
+        let k = front_stays sig limits s.course.bytes chunk false in
+        let text = first_text core policy is (shown sig limits (s.course.bytes ++ chunk)) _ k.more k.points
+        (read_never_falls sig limits (s.course.bytes ++ chunk) false) in
         subst (AppendsFront old mid) (sym text.1)
         (longer_front old mid _ _ (whole_front old mid _ (rw untold at (settled_text s))))
 
 -- ---- how it ends
 
-module _ {core : CoreForm} {Done : List TimePoint → Type 0} {sig : List PredOf} (policy : Form)
+module _ {core : CoreForm} {Done : List TimePoint → Type 0} {sig : List PredOf} {limits : Limits} (policy : Form)
     (is : IsCoreOf core policy) (e : Effect) {reader : Reader} where
   -- all lines were written
   pub lines_end : {mid : Option (List ℕ)} {tally : Tally} {end : End} → e.new.written ≡ mid
-      → (s : Settled core Done sig e.before.rest e.after.rest reader e.old.written mid tally)
-      → EndsBy reader.is_ended policy (reading sig standard s.course.bytes reader.is_ended) e end
-      → FollowsLog sig policy e end
+      → (s : Settled core Done sig limits e.before.rest e.after.rest reader e.old.written mid tally)
+      → EndsBy reader.is_ended policy (reading sig limits s.course.bytes reader.is_ended) e end
+      → FollowsLog sig limits policy e end
   lines_end same s ends = record {
     bytes = s.course.bytes;
     ended = reader.is_ended;
@@ -194,17 +196,17 @@ module _ {core : CoreForm} {Done : List TimePoint → Type 0} {sig : List PredOf
 
   -- so it is at the end of the log
   pub finished : {tally : Tally}
-      → (s : Settled core Done sig e.before.rest e.after.rest reader e.old.written e.new.written tally)
-      → reader.is_ended ≡ true → FollowsLog sig policy e (run_end (Ok tally))
+      → (s : Settled core Done sig limits e.before.rest e.after.rest reader e.old.written e.new.written tally)
+      → reader.is_ended ≡ true → FollowsLog sig limits policy e (run_end (Ok tally))
   finished s told =
       lines_end refl s (told, record { shows = s.clear; written = settled_text policy is s }, settled_tally policy is s)
 
   -- no more lines could be written, or a fault stands behind them
-  pub lines_stop : (c : Course Done sig e.before.rest e.after.rest reader) → (why : Stop) (before : ℕ)
+  pub lines_stop : (c : Course Done sig limits e.before.rest e.after.rest reader) → (why : Stop) (before : ℕ)
       → e.old.faults ≤ before
       → StopsLines policy (read (progress reader c.bytes)) e.old.written e.new.written before e.new.faults why
       → AppendsFront e.old.written e.new.written (text_on policy (read (progress reader c.bytes)))
-      → FollowsLog sig policy e (run_end (Err why))
+      → FollowsLog sig limits policy e (run_end (Err why))
   lines_stop c why before later stops part =
       let same = read_is reader c.bytes c.sig_is c.limits_is in
       record {
@@ -220,11 +222,11 @@ module _ {core : CoreForm} {Done : List TimePoint → Type 0} {sig : List PredOf
 
   -- no more could be read, or fed
   module _ {mid rest : Option (List ℕ)} {tally : Tally} (same : e.new.written ≡ mid)
-      (s : Settled core Done sig e.before.rest rest reader e.old.written mid tally)
+      (s : Settled core Done sig limits e.before.rest rest reader e.old.written mid tally)
       (untold : reader.is_ended ≡ false) where
     chunk_ends : (chunk : List ℕ) (before : ℕ) (why : Stop) → e.before.faults ≤ before
         → IsChunkStop chunk before e.after.faults why
-        → EndsBy false policy (shown sig standard (s.course.bytes ++ chunk)) e (run_end (Err why))
+        → EndsBy false policy (shown sig limits (s.course.bytes ++ chunk)) e (run_end (Err why))
     chunk_ends chunk before (Log fault) later h = absurd h
     chunk_ends chunk before Read later h = rw (h.0, append-nil) (
       refl,
@@ -236,7 +238,7 @@ module _ {core : CoreForm} {Done : List TimePoint → Type 0} {sig : List PredOf
 
     pub chunk_failed : {next : Reader} (before : ℕ) (why : Stop) → e.before.faults ≤ before
         → ReadsChunk reader next rest e.after.rest before e.after.faults (Err why)
-        → FollowsLog sig policy e (run_end (Err why))
+        → FollowsLog sig limits policy e (run_end (Err why))
     chunk_failed before why later p = record {
       bytes = s.course.bytes ++ p.chunk;
       ended = false;

@@ -1,5 +1,5 @@
 -- The time-points that a reader gives, and what is done with them.
-use Rattle.std.proofs.Common.{◌≡◌, ◌∙◌, ap, subst, sym, refl, ℕ, ◌+◌, ◌<◌, ◌≤◌, ◌^◌, arith, List, [], ◌∷◌, ◌++◌, length}
+use Rattle.std.proofs.Common.{◌≡◌, ◌∙◌, ap, subst, sym, refl, ℕ, ◌+◌, ◌<◌, ◌^◌, arith, List, [], ◌∷◌, ◌++◌, length}
 use Rattle.std.proofs.Common.{take, drop, Option, length-append}
 use Rattle.std.specs.Prelude.{Ok, Err}
 use Rattle.std.proofs.lemmas.List.{take-append-drop, take-append-le, take_all}
@@ -23,20 +23,17 @@ use Rattle.lone_worker.proofs.VerdictLemmas.{policy_verdicts}
 use Rattle.lone_worker.proofs.PointLemmas.{GivesEnding, GivesPoint, falls_front, front_rises, gives_end, gives_fault}
 use Rattle.lone_worker.proofs.PointLemmas.{gives_more, gives_point, points_rise, split_one, take_none_left}
 
--- the reader gave fewer time-points than its limit before it gave one more
-pub few_before : (old : Reader) {new : Reader} {most : ℕ} → old.limits.points ≡ most
-    → new ≡ record old { given = old.given + 1; kept = new.kept } → new.given ≤ new.limits.points → most < 2 ^ 63
-    → old.given < 2 ^ 63
-few_before old most_is after few small =
+-- before it gave one more, the reader had given few
+pub few_before : (old : Reader) {new : Reader} → new ≡ record old { given = old.given + 1; kept = new.kept }
+    → new.given < 2 ^ 32 → old.given < 2 ^ 63
+few_before old after narrow =
     let given = ap (λ (r : Reader). r.given) after in
-    let limits = ap (λ (r : Reader). r.limits.points) after in
-    omega arith
+    omega (arith, given, narrow)
 
 -- so many time-points of those that a progress shows were given, and this was done with them
 pub record IsAmid (Done : List TimePoint → Type 0) (start : Progress) (reader : Reader) : Type 0 where
   pub reads : Reads reader start.bytes
   pub reader_is : progress reader start.bytes ≡ record start { given = reader.given }
-  pub few : start.limits.points < 2 ^ 63
   pub so_far : HasDone Done (record start { given = reader.given })
 
 -- what was done stays done, in another way
@@ -45,14 +42,13 @@ pub still_amid : {Done More : List TimePoint → Type 0} {start : Progress} {rea
 still_amid amid keeps = record {
   reads = amid.reads;
   reader_is = amid.reader_is;
-  few = amid.few;
   so_far = record { counted = amid.so_far.counted; done = keeps _ amid.so_far.done };
 }
 
 -- as many as were given before
 pub is_amid : {Done : List TimePoint → Type 0} {reader : Reader} {bytes : List ℕ} → Reads reader bytes
-    → reader.limits.points < 2 ^ 63 → HasDone Done (progress reader bytes) → IsAmid Done (progress reader bytes) reader
-is_amid reads few so_far = record { reads = reads; reader_is = refl; few = few; so_far = so_far }
+    → HasDone Done (progress reader bytes) → IsAmid Done (progress reader bytes) reader
+is_amid reads so_far = record { reads = reads; reader_is = refl; so_far = so_far }
 
 module _ {Done : List TimePoint → Type 0} {start : Progress} {reader : Reader} (amid : IsAmid Done start reader) where
   answers : next_answer (record start { given = reader.given }) ≡ next_answer (progress reader start.bytes)
@@ -69,7 +65,7 @@ module _ {Done : List TimePoint → Type 0} {start : Progress} {reader : Reader}
   -- ---- one time-point more
   module _ (point : TimePoint) (gives : next_answer (progress reader start.bytes) ≡ Ok (Point point)) {next : Reader}
       (after : next ≡ record reader { given = reader.given + 1; kept = next.kept })
-      (within : next.given ≤ next.limits.points) where
+      (narrow : next.given < 2 ^ 32) where
     given : GivesPoint (drop reader.given (read start).points) point
     given = gives_point start.is_ended (drop reader.given (read start).points) (read start).ending point
         (answers ∙ gives)
@@ -80,7 +76,7 @@ module _ {Done : List TimePoint → Type 0} {start : Progress} {reader : Reader}
     -- it may follow those before
     pub may_follow : MayFollow (take reader.given (read start).points) point
     may_follow =
-        let room = few_before reader (ap (λ (p : Progress). p.limits.points) amid.reader_is) after within amid.few in
+        let room = few_before reader after narrow in
         let count = amid.so_far.counted in
         let rises = front_rises (take reader.given (read start).points ++ point ∷ []) given.rest
         (subst (λ xs. NeverFalls (times xs)) split (points_rise start)) in
@@ -113,7 +109,6 @@ module _ {Done : List TimePoint → Type 0} {start : Progress} {reader : Reader}
           reader_is = ap (λ (r : Reader). progress r start.bytes) after
               ∙ ap (λ (p : Progress). record p { given = n + 1 }) amid.reader_is
               ∙ ap (λ k. record start { given = k }) (sym one_given);
-          few = amid.few;
           so_far = record {
             counted = ap length one ∙ count ∙ sym one_given;
             done = subst More (sym one) (does (take n ps) amid.so_far.counted may_follow amid.so_far.done);

@@ -5,10 +5,10 @@ use Rattle.mon_outside.specs.Sink.{Appends}
 use Rattle.mfotl_model.specs.declared.event.TimePoint.{TimePoint}
 use Rattle.mfotl_sig.specs.Preds.{PredOf}
 use Rattle.monitorable.specs.CoreForms.{CoreForm}
-use Rattle.log_reader.specs.Limits.{standard}
 use Rattle.log_reader.specs.Progress.{Progress, read}
 use Rattle.log_reader.specs.Readers.{Reader, Reads, progress}
 use Rattle.log_reader.specs.Readings.{NoFault}
+use Rattle.log_reader.specs.declared.limits.Limits.{Limits}
 use Rattle.lone_worker.specs.Texts.{lines, tally_of}
 use Rattle.lone_worker.specs.Verdicts.{all_verdicts}
 use Rattle.lone_worker.specs.declared.tally.Tally.{Tally}
@@ -35,12 +35,12 @@ pub record HasDoneAll (core : CoreForm) (Done : List TimePoint → Type 0) (read
   pub settles : Settles core (read (progress reader bytes)).points old new tally
 
 -- What was read of the log so far, and that this was done with the time-points that were given.
-pub record Course (Done : List TimePoint → Type 0) (sig : List PredOf) (first rest : Option (List ℕ)) (reader : Reader)
-    : Type 0 where
+pub record Course (Done : List TimePoint → Type 0) (sig : List PredOf) (limits : Limits)
+    (first rest : Option (List ℕ)) (reader : Reader) : Type 0 where
   pub bytes : List ℕ
   pub reads : Reads reader bytes
   pub sig_is : reader.sig ≡ sig
-  pub limits_is : reader.limits ≡ standard
+  pub limits_is : reader.limits ≡ limits
   pub taken : Consumes first rest bytes
   pub whole : reader.is_ended ≡ true → IfSome first (λ all. all ≡ bytes)
   pub so_far : HasDone Done (progress reader bytes)

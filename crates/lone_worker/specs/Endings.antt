@@ -5,8 +5,8 @@ use Rattle.mon_outside.specs.Inputs.{Consumes}
 use Rattle.mon_outside.specs.Sink.{Appends, AppendsFront}
 use Rattle.mfotl_model.specs.Formulas.{Form}
 use Rattle.mfotl_sig.specs.Preds.{PredOf}
-use Rattle.log_reader.specs.Limits.{standard}
 use Rattle.log_reader.specs.Readings.{Ending, Fault, NoFault, Reading, reading}
+use Rattle.log_reader.specs.declared.limits.Limits.{Limits}
 use Rattle.lone_worker.specs.Effects.{Effect}
 use Rattle.lone_worker.specs.Texts.{tally_on, text_on}
 use Rattle.lone_worker.specs.declared.end.End.{End}
@@ -29,12 +29,12 @@ EndsBy ended policy r e ReadFailed =
 EndsBy ended policy r e SinkFailed = Rose e.old.faults e.new.faults
 EndsBy ended policy r e Memory = Unit {0}
 
--- The log was monitored as far as it was read: to its end, to the first fault that the bytes show, or to a failed
--- call; and what was written is a front of what these bytes ask for.
-pub record FollowsLog (sig : List PredOf) (policy : Form) (e : Effect) (end : End) : Type 0 where
+-- The log was monitored as far as it was read: to its end, to the first fault that the bytes show within these limits,
+-- or to a failed call; and what was written is a front of what these bytes ask for.
+pub record FollowsLog (sig : List PredOf) (limits : Limits) (policy : Form) (e : Effect) (end : End) : Type 0 where
   pub bytes : List ℕ
   pub ended : Bool
   pub taken : Consumes e.before.rest e.after.rest bytes
   pub whole : ended ≡ true → IfSome e.before.rest (λ all. all ≡ bytes)
-  pub ends : EndsBy ended policy (reading sig standard bytes ended) e end
-  pub front : AppendsFront e.old.written e.new.written (text_on policy (reading sig standard bytes ended))
+  pub ends : EndsBy ended policy (reading sig limits bytes ended) e end
+  pub front : AppendsFront e.old.written e.new.written (text_on policy (reading sig limits bytes ended))

@@ -6,6 +6,7 @@ use Rattle.mon_outside.specs.declared.sink.Sink.{Ghosts as SinkGhosts}
 use Rattle.mfotl_sig.specs.Preds.{PredOf}
 use Rattle.monitorable.specs.CoreForms.{CoreForm}
 use Rattle.log_reader.specs.Readers.{Reader}
+use Rattle.log_reader.specs.declared.limits.Limits.{Limits}
 use Rattle.monitor_state.specs.declared.monitor.Monitor.{Monitor}
 use Rattle.lone_worker.specs.Alone.{WritesAlone}
 use Rattle.lone_worker.specs.Chunks.{run_end}
@@ -16,10 +17,11 @@ use Rattle.lone_worker.specs.Policies.{ForEachPolicy}
 use Rattle.lone_worker.specs.declared.stop.Stop.{Stop}
 use Rattle.lone_worker.specs.declared.tally.Tally.{Tally}
 
--- How a run began: by which core and signature, and how the inputs and the output stood.
+-- How a run began: by which core, signature and limits, and how the inputs and the output stood.
 pub record BeginningAlone : Type 0 where
   pub core : CoreForm
   pub sig : List PredOf
+  pub limits : Limits
   pub before : InputsView
   pub old : SinkView
 
@@ -50,13 +52,13 @@ pub record HasComeAlone (b : BeginningAlone) (s : AloneState) : Type 0 where
   pub works : s.log.is_broken ≡ false
   pub later : b.before.faults ≤ s.inputs.faults
   pub later_out : b.old.faults ≤ s.out.faults
-  pub course : Course (WritesAlone b.core b.old.written s.monitor s.out.written s.tally) b.sig b.before.rest
-      s.inputs.rest s.log
+  pub course : Course (WritesAlone b.core b.old.written s.monitor s.out.written s.tally) b.sig b.limits
+      b.before.rest s.inputs.rest s.log
 
 -- What became of it with one chunk more: it goes on, or all of the log was monitored, or it stopped.
 abbrev pub ComesToAlone : BeginningAlone → AloneState → Result Bool Stop → Type 0
 ComesToAlone b s (Ok false) = HasComeAlone b s
 ComesToAlone b s (Ok true) =
-    ForEachPolicy b.core (λ policy. FollowsLog b.sig policy (effect_alone b s) (run_end (Ok s.tally)))
+    ForEachPolicy b.core (λ policy. FollowsLog b.sig b.limits policy (effect_alone b s) (run_end (Ok s.tally)))
 ComesToAlone b s (Err stop) =
-    ForEachPolicy b.core (λ policy. FollowsLog b.sig policy (effect_alone b s) (run_end (Err stop)))
+    ForEachPolicy b.core (λ policy. FollowsLog b.sig b.limits policy (effect_alone b s) (run_end (Err stop)))

@@ -3,7 +3,6 @@
 ghost use Rattle.std.specs.Prelude.{◌≡◌, ◌<◌, ◌≤◌, IsTrue, [], length};
 ghost use Rattle.monitorable.specs.CoreForms.{CoreForm};
 ghost use Rattle.monitorable.specs.Cores.{core_form};
-ghost use Rattle.log_reader.specs.Limits.{standard};
 ghost use Rattle.log_reader.specs.Progress.{nothing_fed};
 ghost use Rattle.log_reader.specs.Readers.{Reads, progress};
 ghost use Rattle.monitor_state.specs.Verdicts.{IsEvaluable};
@@ -75,7 +74,7 @@ fn follow_with<R: Wait, I: Inputs, O: Sink>(
 ) -> Result<Tally, Stop>
     requires room { 0 < length buffer.old }
     requires opened { IsTrue (I.is_open inputs.old) }
-    requires fresh { progress log.old [] ≡ nothing_fed log.old.sig standard }
+    requires fresh { progress log.old [] ≡ nothing_fed log.old.sig log.old.limits }
     requires reads { Reads log.old [] }
     requires begins { (core : CoreForm) × HasTakenNone core worker.old.monitor worker.old.writer.tally }
     ensures files { I.files inputs.new ≡ I.files inputs.old }
@@ -84,7 +83,7 @@ fn follow_with<R: Wait, I: Inputs, O: Sink>(
     ensures later { I.faults inputs.old ≤ I.faults inputs.new }
     ensures later_out { O.faults out.old ≤ O.faults out.new }
     ensures follows { (core : CoreForm) → HasTakenNone core worker.old.monitor worker.old.writer.tally
-        → ForEachPolicy core (λ policy. FollowsLog log.old.sig policy
+        → ForEachPolicy core (λ policy. FollowsLog log.old.sig log.old.limits policy
         (effect I.Inputs O.Sink inputs.old inputs.new out.old out.new) (run_end result)) }
 {
     'chunks: for _ in rt.forever() {
@@ -110,14 +109,14 @@ pub fn follow_alone<R: Wait, I: Inputs, O: Sink>(
     requires evaluable { IsEvaluable (core_form core.now) }
     requires room { 0 < length buffer.old }
     requires opened { IsTrue (I.is_open inputs.old) }
-    requires fresh { progress log.old [] ≡ nothing_fed log.old.sig standard }
+    requires fresh { progress log.old [] ≡ nothing_fed log.old.sig log.old.limits }
     requires reads { Reads log.old [] }
     ensures files { I.files inputs.new ≡ I.files inputs.old }
     ensures stays_open { I.is_open inputs.new ≡ I.is_open inputs.old }
     ensures asks_nothing { I.asked inputs.new ≡ I.asked inputs.old }
     ensures later { I.faults inputs.old ≤ I.faults inputs.new }
     ensures later_out { O.faults out.old ≤ O.faults out.new }
-    ensures follows { ForEachPolicy (core_form core.now) (λ policy. FollowsLog log.old.sig policy
+    ensures follows { ForEachPolicy (core_form core.now) (λ policy. FollowsLog log.old.sig log.old.limits policy
         (effect I.Inputs O.Sink inputs.old inputs.new out.old out.new) (run_end result)) }
 {
     let mut worker = LoneWorker::new(alloc, core)?;

@@ -1,5 +1,5 @@
 //! The time-points of a log, taken by one worker alone as soon as each is complete.
-ghost use Rattle.std.specs.Prelude.{◌≡◌, ◌^◌, ◌<◌, ◌≤◌, IfErr, Ok, OnErr, OnOk, false, true};
+ghost use Rattle.std.specs.Prelude.{◌≡◌, ◌≤◌, IfErr, Ok, OnErr, OnOk, false, true};
 ghost use Rattle.mon_outside.specs.Sink.{AppendsFront};
 ghost use Rattle.log_reader.specs.Progress.{read};
 ghost use Rattle.log_reader.specs.Readers.{progress};
@@ -25,7 +25,6 @@ fn take_next<O: Sink>(
     out: &mut O,
 ) -> Result<bool, Stop>
     requires works { reader.old.is_broken ≡ false }
-    requires few { reader.old.limits.points < 2 ^ 63 }
     requires under_way { IsUnderWayAlone reader.old worker.old.monitor (O.written out.old) worker.old.writer.tally }
     ensures reader { OnOk result (reader.new
         ≡ record reader.old { given = reader.new.given; kept = reader.new.kept }) }
@@ -65,7 +64,6 @@ pub(crate) fn take_complete<R: Wait, O: Sink>(
     out: &mut O,
 ) -> Result<(), Stop>
     requires works { reader.old.is_broken ≡ false }
-    requires few { reader.old.limits.points < 2 ^ 63 }
     requires under_way { IsUnderWayAlone reader.old worker.old.monitor (O.written out.old) worker.old.writer.tally }
     ensures reader { OnOk result (reader.new
         ≡ record reader.old { given = reader.new.given; kept = reader.new.kept }) }

@@ -1,5 +1,6 @@
 -- What the calls of an input do to the rest of the open file, and to the names asked for, where they are told.
-use Rattle.std.specs.Prelude.{◌≡◌, ℕ, ◌<◌, Bool, true, false, List, [], ◌++◌, length, take, Some, None}
+use Rattle.std.specs.Prelude.{◌≡◌, ℕ, ◌+◌, ◌<◌, ◌≤◌, Bool, true, false, List, [], ◌++◌, length, take, Some, None}
+use Rattle.std.specs.Prelude.{IfSome}
 use Rattle.std.specs.Option.{option_map}
 use Rattle.std.specs.declared.option.Option.{Option}
 use Rattle.mon_outside.specs.Files.{Files, content, ToldFiles}
@@ -54,3 +55,7 @@ pub record StopsIn (is_open : Bool) (rest : Option (List ℕ)) (all : List ℕ) 
   pub parts : all ≡ seen ++ left
   pub opened : is_open ≡ true → rest ≡ Some left
   pub unopened : is_open ≡ false → seen ≡ []
+
+-- At most so many bytes of a file were given: where it is open, all others are left.
+abbrev pub GaveAtMost : ℕ → Bool → Option (List ℕ) → List ℕ → Type 0
+GaveAtMost limit is_open rest all = is_open ≡ true → IfSome rest (λ left. length all ≤ limit + length left)

@@ -1,10 +1,10 @@
 //! Reading a file whole.
 
-ghost use Rattle.std.specs.Prelude.{◌≡◌, ℕ, ◌<◌, ◌≤◌, ◌++◌, [], ◌∷◌, length, take, IsTrue, IfSome, IfOk};
+ghost use Rattle.std.specs.Prelude.{◌≡◌, ℕ, ◌<◌, ◌≤◌, ◌++◌, [], ◌∷◌, length, max, take, IsTrue, IfSome, IfOk};
 ghost use Rattle.std.specs.Prelude.{OnOk, OnErr, IsErrOf};
 ghost use Rattle.mon_outside.specs.Causes.{Rose};
 ghost use Rattle.mon_outside.specs.Files.{ToldFiles, content};
-ghost use Rattle.mon_outside.specs.Inputs.{Moves, GaveBytes, Loads, IsLonger, StopsIn, asked_more};
+ghost use Rattle.mon_outside.specs.Inputs.{Moves, GaveBytes, GaveAtMost, Loads, IsLonger, StopsIn, asked_more};
 
 use crate::limits::BUFFER;
 use crate::{Inputs, LoadFault, ReadFault};
@@ -60,6 +60,8 @@ pub fn read_to_end<I: Inputs>(
         bytes.new.items ≡ bytes.old.items ++ rest)) }
     ensures within { OnOk result (length bytes.new.items ≤ limit) }
     ensures too_long { IsErrOf result LoadFault.TooLong → limit < length bytes.new.items }
+    ensures few { IsErrOf result LoadFault.Failed
+        → length bytes.new.items ≤ max limit (length bytes.old.items) }
     ensures later { I.faults inputs.old ≤ I.faults inputs.new }
     ensures cause { IsErrOf result LoadFault.Failed
         → Rose (I.faults inputs.old) (I.faults inputs.new) }
@@ -82,6 +84,8 @@ pub fn load<I: Inputs>(
     ensures too_long { IsErrOf result LoadFault.TooLong → IsLonger (I.files inputs.old) name.now limit }
     ensures stops { IsErrOf result LoadFault.Failed → ToldFiles (I.files inputs.old) (λ files.
         StopsIn (I.is_open inputs.new) (I.rest inputs.new) (content files name.now)) }
+    ensures few { IsErrOf result LoadFault.Failed → ToldFiles (I.files inputs.old) (λ files.
+        GaveAtMost limit (I.is_open inputs.new) (I.rest inputs.new) (content files name.now)) }
     ensures later { I.faults inputs.old ≤ I.faults inputs.new }
     ensures cause { IsErrOf result LoadFault.Failed
         → Rose (I.faults inputs.old) (I.faults inputs.new) }
@@ -111,6 +115,8 @@ fn read_through<I: Inputs>(
         bytes.new.items ≡ bytes.old.items ++ rest)) }
     ensures within { OnOk result (length bytes.new.items ≤ limit) }
     ensures too_long { IsErrOf result LoadFault.TooLong → limit < length bytes.new.items }
+    ensures few { IsErrOf result LoadFault.Failed
+        → length bytes.new.items ≤ max limit (length bytes.old.items) }
     ensures later { I.faults inputs.old ≤ I.faults inputs.new }
     ensures cause { IsErrOf result LoadFault.Failed
         → Rose (I.faults inputs.old) (I.faults inputs.new) }

@@ -222,7 +222,7 @@ module _ {checked : CheckedPolicy} {log : Name} {core : CoreForm} (is : IsCoreOf
   pub log_followed : opened.is_open ≡ true → Opens before.files log opened.rest → {after : InputsView} {new : SinkView}
       → after.files ≡ opened.files → after.is_open ≡ opened.is_open → after.asked ≡ opened.asked
       → opened.faults ≤ after.faults → old.faults ≤ new.faults → {end : End}
-      → FollowsLog checked.sig checked.policy.formula
+      → FollowsLog checked.sig standard checked.policy.formula
       (record { before = opened; after = after; old = old; new = new }) end
       → MonitorsLog checked log (record { before = before; after = after; old = old; new = new }) (outcome_of end)
   log_followed is_open opens {after = after} {new = new} files_same stays asks_nothing later_on later_out {end = end}
@@ -242,7 +242,7 @@ module _ {checked : CheckedPolicy} {log : Name} {core : CoreForm} (is : IsCoreOf
 
 -- a log of which no call fails was monitored to its end
 pub sure_ends : (task : Task) {core : CoreForm} → IsCoreOf core task.policy.formula → {e : Effect} {end : End}
-    → FollowsLog task.sig task.policy.formula e end → e.before.rest ≡ Some task.log → e.after.is_open ≡ true
+    → FollowsLog task.sig standard task.policy.formula e end → e.before.rest ≡ Some task.log → e.after.is_open ≡ true
     → (Rose e.before.faults e.after.faults → ⊥) → (Rose e.old.faults e.new.faults → ⊥) → EndsOn task end
 sure_ends task {core = core} is {e = e} {end = end} f rest_is is_open no_read no_write =
     ends_on task core is e.before e.before e.after e.old e.new (omega arith) f.bytes f.ended

@@ -1,4 +1,4 @@
--- What a run may ask for and what it tells, worked out in full.
+-- How much a file may have and what a run tells, worked out in full.
 use Rattle.std.specs.Prelude.{◌≡◌, [], ◌∷◌, codes, map, true, false}
 use Rattle.mfotl_model.specs.declared.policy.Sort.TheVariants as sorts
 use Rattle.monitor_main.specs.declared.status.Status.TheVariants.{Clean, Violated, Usage}
@@ -7,7 +7,6 @@ use Rattle.monitor_main.specs.declared.status.Status.TheVariants.{Read, Write, M
 use Rattle.monitor_main.specs.Answer.{verdict_status}
 use Rattle.monitor_main.specs.CheckLine.{monitorable_line}
 use Rattle.monitor_main.specs.Limits.{max_file}
-use Rattle.command_line.specs.Limits.{max_threads}
 use Rattle.monitor_main.specs.Status.{code_of}
 
 -- the exit status of each end
@@ -28,6 +27,6 @@ ColumnsInFull =
     (record { name = codes "i"; sort = sorts.Int } ∷ record { name = codes "w"; sort = sorts.Text } ∷ [])
     ≡ codes "monitorable (i:int,w:string)\n"
 
--- how many bytes a file may have, and how many threads a run
+-- how many bytes a file may have
 abbrev pub LimitsInFull : Type 0
-LimitsInFull = (max_file ≡ 1048576) × (max_threads ≡ 64)
+LimitsInFull = max_file ≡ 1048576

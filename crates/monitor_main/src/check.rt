@@ -87,7 +87,11 @@ fn write_columns<O: Sink>(alloc: Global, vars: &[Var], out: &mut O) -> Result<()
 }
 
 /// Tells the free variables of the policy. No line has a row.
-pub fn accept<O: Sink>(alloc: Global, checked: &CheckedPolicy, out: &mut O) -> Result<bool, Refusal>
+pub fn tell_columns<O: Sink>(
+    alloc: Global,
+    checked: &CheckedPolicy,
+    out: &mut O,
+) -> Result<bool, Refusal>
     ensures ok { IfOk result (Finishes (check_answer (Ok (checked_in checked.now)))
         (O.written out.old) (O.written out.new)) }
     ensures fault { IfErr result (λ r.

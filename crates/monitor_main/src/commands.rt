@@ -4,7 +4,7 @@ ghost use Rattle.command_line.specs.CommandViews.{command_in, options_in, source
 ghost use Rattle.monitor_main.specs.Decisions.{CarriesOut};
 ghost use Rattle.command_line.specs.Words.{Check, Demo, Run};
 
-use crate::check::accept;
+use crate::check::tell_columns;
 use crate::checked_policy::load_sources;
 use crate::demo::answer_demo;
 use crate::loading::load_task;
@@ -44,7 +44,7 @@ fn check_policy<I: Inputs, O: Sink>(
         (effect I.Inputs O.Sink inputs.old inputs.new out.old out.new) result }
 {
     let checked = load_sources(alloc, sources, inputs)?;
-    accept(alloc, &checked, out)
+    tell_columns(alloc, &checked, out)
 }
 
 // `demo`: monitors a log that is drawn from the seed.
@@ -63,7 +63,7 @@ fn run_demo<R: Threads + Wait + Sync, I: Inputs, O: Sink, G: Gate + Sync>(
 }
 
 /// Does what the command says, and answers whether some line has a row.
-pub fn obey<R: Threads + Wait + Sync, I: Inputs, O: Sink, G: Gate + Sync>(
+pub fn carry_out<R: Threads + Wait + Sync, I: Inputs, O: Sink, G: Gate + Sync>(
     rt: &R,
     alloc: Global,
     command: &Command<'_>,

@@ -15,7 +15,6 @@ use std::sync::Wait;
 use std::thread::Threads;
 use worker_pool::End;
 
-// The line for a demo.
 #[tactic(auto, unfolding(crate::specs::Answer::demo_line))]
 fn demo_line(
     alloc: Global,
@@ -32,7 +31,6 @@ fn demo_line(
     Ok(line.into_bytes())
 }
 
-// Writes the line for a demo.
 fn write_counts<O: Sink>(
     alloc: Global,
     seed: u64,

@@ -1,4 +1,5 @@
-//! That the texts of a demo are accepted, beside its log, of which the log's reader tells, and what comes of them.
+//! Laws of the demo's definitions, each the contract of a function: that its signature, policy and changes are accepted,
+//! and what a demo answers. That its log is accepted is a law of log_reader.
 
 ghost use Rattle.monitor_main.specs.DemoLaws.{DemoChangesAreAccepted, DemoIsAnswered, DemoIsDivided, DemoIsRun};
 ghost use Rattle.monitor_main.specs.DemoLaws.{DemoPolicyIsAccepted, DemoPolicyIsMonitorable, DemoSignatureIsAccepted};

@@ -40,7 +40,6 @@ fn long_line(alloc: Global, input: &str) -> Result<Vec<u8>, AllocError>
     Ok(format!(in alloc; "{input}: TooLong at {MAX_FILE}\n")?.into_bytes())
 }
 
-// The line of a signature's fault.
 fn sig_line(alloc: Global, fault: &SigFault) -> Result<Vec<u8>, AllocError>
     ensures { IfOk result (λ line.
         line.items ≡ fault_line (codes "signature") (sig_text fault.now)) }
@@ -48,7 +47,6 @@ fn sig_line(alloc: Global, fault: &SigFault) -> Result<Vec<u8>, AllocError>
     Ok(format!(in alloc; "signature: {fault}\n")?.into_bytes())
 }
 
-// The line of a policy's fault.
 fn policy_line(alloc: Global, fault: &PolicyFault) -> Result<Vec<u8>, AllocError>
     ensures { IfOk result (λ line.
         line.items ≡ fault_line (codes "policy") (policy_text fault.now)) }
@@ -68,7 +66,6 @@ fn fragment_line(alloc: Global, fault: &FragmentFault) -> Result<Vec<u8>, AllocE
     Ok(line)
 }
 
-// The line of a strategy's fault.
 fn strategy_line(alloc: Global, fault: &StrategyFault) -> Result<Vec<u8>, AllocError>
     ensures { IfOk result (λ line.
         line.items ≡ fault_line (codes "strategy") (strategy_text fault.now)) }
@@ -76,7 +73,6 @@ fn strategy_line(alloc: Global, fault: &StrategyFault) -> Result<Vec<u8>, AllocE
     Ok(format!(in alloc; "strategy: {fault}\n")?.into_bytes())
 }
 
-// The line of a change script's fault.
 fn changes_line(alloc: Global, fault: &ChangeFault) -> Result<Vec<u8>, AllocError>
     ensures { IfOk result (λ line.
         line.items ≡ fault_line (codes "changes") (changes_text fault.now)) }
@@ -84,7 +80,6 @@ fn changes_line(alloc: Global, fault: &ChangeFault) -> Result<Vec<u8>, AllocErro
     Ok(format!(in alloc; "changes: {fault}\n")?.into_bytes())
 }
 
-// The line of a log's fault.
 fn log_line(alloc: Global, fault: &LogFault) -> Result<Vec<u8>, AllocError>
     ensures { IfOk result (λ line.
         line.items ≡ fault_line (codes "log") (log_text fault.now)) }

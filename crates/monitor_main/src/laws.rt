@@ -2,9 +2,8 @@
 ghost use Rattle.monitor_main.specs.AnswerLaws.{CheckAccepts, StrategiesAgree};
 ghost use Rattle.monitor_main.specs.TextLaw.{VerdictsGrow};
 ghost use Rattle.monitor_main.specs.WorkedAnswers.{ColumnsInFull, LimitsInFull, StatusNumbers, VerdictStatuses};
-ghost use Rattle.command_line.specs.LimitsLaw.{ThreadsByDefault};
 
-pub use command_line::laws::worked_words;
+pub use command_line::laws::{worked_limits, worked_words};
 
 /// `check` accepts each policy that can be monitored, and tells its free variables.
 pub fn check_accepts()
@@ -21,11 +20,10 @@ pub fn verdicts_grow()
     ensures { VerdictsGrow }
 {}
 
-/// Statuses, the line of a policy's variables and limits, worked out in full.
+/// Statuses, the line of a policy's variables and the most bytes of a file, worked out in full.
 pub fn worked_answers()
     ensures numbers { StatusNumbers }
     ensures verdicts { VerdictStatuses }
     ensures columns { ColumnsInFull }
     ensures limits { LimitsInFull }
-    ensures threads { ThreadsByDefault }
 {}

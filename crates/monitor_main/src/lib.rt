@@ -1,5 +1,6 @@
 //! The monitor's top call: words, signature, policy, strategy, changes and log in; verdict lines, a fault line
-//! and a status out. The programs above make its inputs and its sinks.
+//! and a status out. The programs above make its inputs and its sinks (real ones are `RealInputs` and `RealSink`), call
+//! `run`, and end with the number of the status.
 #![tactic(auto)]
 
 mod changes_file;
@@ -23,6 +24,5 @@ mod strategy_text;
 mod task;
 
 pub use real_outside::{RealInputs, RealSink};
-pub use refusal::{InputFile, Refusal};
 pub use running::run;
 pub use status::Status;

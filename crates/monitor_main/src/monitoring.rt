@@ -69,7 +69,7 @@ fn follow_plan<R: Threads + Wait + Sync, I: Inputs, O: Sink, G: Gate + Sync>(
     ensures asks_nothing { I.asked inputs.new ≡ I.asked inputs.old }
     ensures later { I.faults inputs.old ≤ I.faults inputs.new }
     ensures later_out { O.faults out.old ≤ O.faults out.new }
-    ensures follows { ForEachPolicy (core_form plan.core) (λ policy. FollowsLog sig.now policy
+    ensures follows { ForEachPolicy (core_form plan.core) (λ policy. FollowsLog sig.now standard policy
         (effect I.Inputs O.Sink inputs.old inputs.new out.old out.new) result) }
 {
     let mut log = reader_over(alloc, sig);
@@ -92,7 +92,7 @@ pub fn follow<R: Threads + Wait + Sync, I: Inputs, O: Sink, G: Gate + Sync>(
     ensures asks_nothing { I.asked inputs.new ≡ I.asked inputs.old }
     ensures later { I.faults inputs.old ≤ I.faults inputs.new }
     ensures later_out { O.faults out.old ≤ O.faults out.new }
-    ensures follows { FollowsLog task.checked.sig (checked_in task.checked).policy.formula
+    ensures follows { FollowsLog task.checked.sig standard (checked_in task.checked).policy.formula
         (effect I.Inputs O.Sink inputs.old inputs.new out.old out.new) result }
 {
     let threads = task.threads;

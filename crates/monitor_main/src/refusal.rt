@@ -14,9 +14,13 @@ use std::alloc::AllocError;
 /// A file that a run reads.
 #[derive(Clone, Copy)]
 pub enum InputFile {
+    /// The signature, of `--sig`.
     Signature,
+    /// The policy, of `--policy`.
     Policy,
+    /// The change script, of `--changes`. A strategy is no file: it stands in the words.
     Changes,
+    /// The log, of `--log`.
     Log,
 }
 

@@ -11,7 +11,7 @@ ghost use Rattle.monitor_main.specs.Outcomes.{FailsToRead, IsDecidedBy, IsGiven,
 ghost use Rattle.monitor_main.specs.Refusals.{line_of};
 ghost use Rattle.command_line.specs.Words.{command_of, texts_of};
 
-use crate::commands::obey;
+use crate::commands::carry_out;
 use crate::refusal::Refusal;
 use crate::status::Status;
 use command_line::read_words;
@@ -33,7 +33,7 @@ fn decide<R: Threads + Wait + Sync, I: Inputs, O: Sink, G: Gate + Sync>(
         (effect I.Inputs O.Sink inputs.old inputs.new out.old out.new) result }
 {
     let command = read_words(alloc, words)?;
-    obey(rt, alloc, &command, inputs, out, gate)
+    carry_out(rt, alloc, &command, inputs, out, gate)
 }
 
 // Hands on what the output holds back behind a decision. Where that fails, so does the output.

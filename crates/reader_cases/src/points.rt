@@ -121,7 +121,7 @@ fn told_by(
     Ok(told)
 }
 
-fn put_held(alloc: Global, told: &mut String, most: usize) -> Result<(), Stop> {
+fn put_held(alloc: Global, told: &mut String, most: u64) -> Result<(), Stop> {
     put_word(told, format!(in alloc; "held {most}")?.as_str())?;
     Ok(())
 }
@@ -133,10 +133,10 @@ fn put_pieces(
     reader: &mut LogReader<'_>,
     log: &[u8],
     size: usize,
-) -> Result<usize, Stop>
+) -> Result<u64, Stop>
     requires { 0 < size }
 {
-    let mut most = 0usize;
+    let mut most = 0u64;
     for piece in log.chunks(size) {
         put_piece(alloc, told, reader, piece)?;
         most = most.max(reader.held());

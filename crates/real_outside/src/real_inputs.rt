@@ -30,8 +30,9 @@ pub struct RealInputs<'a, R: Files, S: Read + Drop> {
 }
 
 impl<'a, R: Files, S: Read + Drop> RealInputs<'a, R, S> {
-    /// Nothing is open, and no call has failed. `input` is standard input.
+    /// Nothing is open, and no call has failed. `input` is standard input, of which nothing is read here.
     pub fn new(rt: &'a R, input: S) -> Self
+        ensures input { result.input ≡ input }
         ensures closed { is_opened result.source ≡ false }
         ensures unfailed { result.failures ≡ 0 }
     {

@@ -17,9 +17,10 @@ pub struct RealSink<W: Write + Drop> {
 }
 
 impl<W: Write + Drop> RealSink<W> {
-    /// No call has failed.
+    /// No call has failed, and nothing is written here.
     pub fn new(stream: W) -> Self
-        ensures { result.failures ≡ 0 }
+        ensures stream { result.stream ≡ stream }
+        ensures unfailed { result.failures ≡ 0 }
     {
         RealSink {
             stream,

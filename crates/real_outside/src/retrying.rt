@@ -1,4 +1,4 @@
-//! Reads and writes of real streams, each anew where a signal came first.
+//! Reads, writes and flushes of real streams, each made anew where a signal came before it.
 ghost use Rattle.std.specs.Prelude.{◌≡◌, ◌<◌, ◌≤◌, length, IfOk};
 ghost use Rattle.std.specs.Io.KnownBytes.{Keeps, ReadConsumes, WriteAppends};
 ghost use Rattle.mon_outside.specs.Causes.{Rose};
@@ -6,7 +6,8 @@ ghost use Rattle.mon_outside.specs.Causes.{Rose};
 use mon_outside::Failed;
 use std::io::{ErrorKind, Read, Write};
 
-/// Reads once. What the reader tells of its bytes is what it gave.
+/// Reads, anew behind each signal, until a read gives bytes, tells the end or fails. What the reader tells of its bytes
+/// is what it gave.
 pub fn read_some<R: Read>(reader: &mut R, buffer: &mut [u8]) -> Result<usize, Failed>
     ensures within { IfOk result (λ count. count ≤ length buffer.new) }
     ensures told { ReadConsumes (R.remaining reader.old) (R.remaining reader.new) result buffer.new }
@@ -21,8 +22,8 @@ pub fn read_some<R: Read>(reader: &mut R, buffer: &mut [u8]) -> Result<usize, Fa
     Err(Failed)
 }
 
-/// Writes once. To take no byte of some is to fail. What the writer tells of its bytes has grown by what
-/// it took.
+/// Writes, anew behind each signal, until a write takes bytes or fails. To take no byte of some is to fail. What the
+/// writer tells of its bytes has grown by what it took.
 pub fn write_some<W: Write>(writer: &mut W, piece: &[u8]) -> Result<usize, Failed>
     ensures within { IfOk result (λ count. count ≤ length piece.now) }
     ensures some { 0 < length piece.now → IfOk result (λ count. 0 < count) }
@@ -39,7 +40,7 @@ pub fn write_some<W: Write>(writer: &mut W, piece: &[u8]) -> Result<usize, Faile
     Err(Failed)
 }
 
-/// Flushes, which changes nothing of what was written.
+/// Flushes, anew behind each signal. That changes nothing of what was written.
 pub fn flush_all<W: Write>(writer: &mut W) -> Result<(), Failed>
     ensures { Keeps (W.contents writer.old) (W.contents writer.new) }
 {
@@ -53,7 +54,7 @@ pub fn flush_all<W: Write>(writer: &mut W) -> Result<(), Failed>
     Err(Failed)
 }
 
-/// One more failure; the count stays at its last value.
+/// One failure more; the greatest count stays as it is.
 pub fn one_more(failures: u64) -> u64
     ensures later { failures ≤ result }
     ensures rose { Rose failures result }

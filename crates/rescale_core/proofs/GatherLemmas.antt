@@ -8,8 +8,8 @@ use Rattle.mfotl_model.specs.{Strategies.Strategy, Strategies.workers_of, Ascend
 use Rattle.mfotl_model.specs.{Numbers.NotIn, Values.row_cmp}
 use Rattle.rescale_core.proofs.{Fitting.every_map, Collecting.collect_sound, Gathered.none_more}
 use Rattle.rescale_worker.proofs.{Chains.some_workers}
-use Rattle.rescale_core.proofs.{Gathered.step_gathered, Pieces.all_pass, Pieces.every_behind, Settling.head_or_tail}
-use Rattle.rescale_core.proofs.{WorldLemmas.spot_more}
+use Rattle.rescale_core.proofs.{Gathered.collect_gathered, Gathered.step_gathered, Pieces.all_pass}
+use Rattle.rescale_core.proofs.{Pieces.every_behind, Settling.head_or_tail, WorldLemmas.spot_more}
 use Rattle.rescale_core.proofs.Emitting.{DueRow, complete_some, complete_with, due_all, merged_due, slice_strategy}
 use Rattle.rescale_worker.specs.Lines.{Spot, Due, moved, spot_after, first_spot}
 use Rattle.rescale_core.specs.{Routing.IsGatherOf, Routing.MayAdd, Soundly.IsSound, Soundly.KnownRow}
@@ -182,10 +182,10 @@ rows_may_add g w k r is =
     (ap (λ x. x ++ rows_at i rs) (at_kept n i w.rows (let m = is.next in omega arith))) in
     rw e (sound.rows_apart i))
 
-pub gather_collected : (g h : GatherOf) (w : World) (k : ℕ) → IsSound w → Allowed w (Collect k)
+pub gather_collected : (g h : GatherOf) (w : World) (k : ℕ) → IsSound w
     → h ≡ record { begun = g.begun; next = g.next; added = g.added ++ rows_in (not_back (w.seats k)) }
     → IsGatherOf g w → IsGatherOf h (world_after w (Collect k))
-gather_collected g h w k r a e is =
+gather_collected g h w k r e is =
     let rs : List Rows = rows_in (not_back (w.seats k)) in
     let n : ℕ = length w.emitted in
     let m : g.next ≡ n = is.next in
@@ -198,7 +198,7 @@ gather_collected g h w k r a e is =
       workers = is.workers;
       present = is.present;
       later = is.later;
-      gathered = step_gathered w (Collect k) r a is.gathered;
+      gathered = collect_gathered w k r is.gathered;
     }
 
 -- ---- emitting

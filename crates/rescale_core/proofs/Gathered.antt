@@ -38,6 +38,18 @@ module _ (w : World) (k : ℕ) (r : IsSound w) where
       let full : length (rows_at i w.rows) ≡ workers_of g.1 = g.7 in
       nil_from_length (rows_at i rs) (omega arith)
 
+pub collect_gathered : (w : World) (k : ℕ) → IsSound w → AllGathered w → AllGathered (world_after w (Collect k))
+collect_gathered w k r g i h = let x = g i h in (
+  x.0,
+  x.1,
+  x.2,
+  x.3,
+  x.4,
+  x.5,
+  x.6,
+  rw (filter-append (λ r. nat_eq r.point i) w.rows (rs w k r), none_more w k r i x, append-nil) x.7,
+)
+
 pub step_gathered : (w : World) (s : Step) → IsSound w → Allowed w s → AllGathered w → AllGathered (world_after w s)
 step_gathered w (Read e) r a g i h = let x = g i h in (
   x.0,
@@ -52,16 +64,7 @@ step_gathered w (Read e) r a g i h = let x = g i h in (
 )
 step_gathered w (Feed k i2) r a g i h = g i h
 step_gathered w (Take k gave) r a g i h = g i h
-step_gathered w (Collect k) r a g i h = let x = g i h in (
-  x.0,
-  x.1,
-  x.2,
-  x.3,
-  x.4,
-  x.5,
-  x.6,
-  rw (filter-append (λ r. nat_eq r.point i) w.rows (rs w k r), none_more w k r i x, append-nil) x.7,
-)
+step_gathered w (Collect k) r a g i h = collect_gathered w k r g i h
 step_gathered w (Emit v) r a g i h = at (ℕ_discrete i (length w.emitted))
   where
     at : Dec (i ≡ length w.emitted) → IsGathered w i

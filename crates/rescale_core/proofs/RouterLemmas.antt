@@ -1,7 +1,7 @@
 -- The router's queues are the world's.
-use Rattle.std.proofs.Common.{◌≡◌, ℕ, ◌+◌, ◌<◌, ◌≤◌, cond, nat_eq, IfNone, IfSome, Option, Some, None, List, ◌++◌}
+use Rattle.std.proofs.Common.{◌≡◌, ℕ, ◌+◌, ◌≤◌, cond, nat_eq, IfNone, IfSome, Option, Some, None, List, ◌++◌}
 use Rattle.std.proofs.Common.{length, drop, get_or, sym, refl, arith}
-use Rattle.std.proofs.{lemmas.List.get_or_past, Math.Seq.drop-append_seam}
+use Rattle.std.proofs.{Math.Seq.drop-append_seam}
 use native.Mathlib.Decide.{ℕ_discrete}
 use Rattle.rescale_core.proofs.{CellLemmas.seat_same, Filling.all_filled, Filling.are_next, SlotLemmas.put_chances}
 use Rattle.rescale_core.proofs.{SlotLemmas.put_standings, Soundness.step_sound, Collecting.collect_sound}
@@ -24,7 +24,7 @@ module _ (r x : Router) (w : World) (is : IsRouterOf r w) (k n : ℕ) (outs : Li
     (same : x ≡ record r { queues = x.queues; outstanding = x.outstanding; gather = x.gather })
     (len : length x.queues.items ≡ length r.queues.items)
     (filled : (q : ℕ) → queue_at x.queues.items q ≡ all_put q (pieces_in outs) (queue_at r.queues.items q))
-    (some : 0 < n) (counted : length x.outstanding.items ≡ length r.outstanding.items)
+    (counted : length x.outstanding.items ≡ length r.outstanding.items)
     (less : (q : ℕ) → get_or x.outstanding.items q 0 + cond (nat_eq q k) n 0 ≡ get_or r.outstanding.items q 0)
     (gather : x.gather ≡ record {
       begun = r.gather.begun;
@@ -58,8 +58,7 @@ module _ (r x : Router) (w : World) (is : IsRouterOf r w) (k n : ℕ) (outs : Li
       counted = rw (counted, len) is.counted;
       outstanding = λ q. counts_now q (ℕ_discrete q k);
       sound = collect_sound w k is.sound;
-      gather = gather_collected r.gather x.gather w k is.sound (let t = taken.taken in omega arith)
-          (rw back gather) is.gather;
+      gather = gather_collected r.gather x.gather w k is.sound (rw back gather) is.gather;
     })
 
 pub outs_may_add : (r : Router) (w : World) (k n : ℕ) (outs : List Out) → IsRouterOf r w → HasTaken w k n outs
@@ -70,13 +69,6 @@ outs_may_add r w k n outs is taken = rw (outs_back w k n outs taken) at (rows_ma
 pub taken_less : (r : Router) (w : World) (k n : ℕ) (outs : List Out) → IsRouterOf r w → HasTaken w k n outs
     → n ≤ get_or r.outstanding.items k 0
 taken_less r w k n outs is taken = omega (arith, is.outstanding k, taken.taken, (is.sound.seated k).taken)
-
-low : (n : ℕ) (xs : List ℕ) (k : ℕ) → 0 < n → n ≤ get_or xs k 0 → k < length xs
-low n xs k some h = grind (arith, get_or_past)
-
-pub taken_low : (r : Router) (w : World) (k n : ℕ) (outs : List Out) → IsRouterOf r w → HasTaken w k n outs → 0 < n
-    → k < length r.outstanding.items
-taken_low r w k n outs is taken some = low n r.outstanding.items k some (taken_less r w k n outs is taken)
 
 -- ---- emitting
 

@@ -1,3 +1,4 @@
+-- The definitions that the contracts cite, in reading order.
 pub mod Chances
 pub mod Slots
 pub mod Handing

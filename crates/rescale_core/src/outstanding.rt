@@ -1,5 +1,5 @@
 //! How many items each worker was handed that were not collected.
-ghost use Rattle.std.specs.Prelude.{◌≡◌, ◌<◌, ◌≤◌, ◌+◌, IfOk, length, cond, get_or, nat_eq, ℕ};
+ghost use Rattle.std.specs.Prelude.{◌≡◌, ◌≤◌, ◌+◌, IfOk, length, cond, get_or, nat_eq, ℕ};
 ghost use Rattle.std.specs.List.{list_all};
 
 use std::alloc::AllocError;
@@ -30,13 +30,15 @@ pub(crate) fn raise(counts: &mut Vec<u64>, worker: u32, more: u64) -> Result<(),
     Ok(())
 }
 
-/// Counts so many less for the worker.
+/// Counts so many less for the worker. Of one that has no count nothing is outstanding.
 pub(crate) fn lower(counts: &mut Vec<u64>, worker: u32, less: u64)
-    requires low { worker < length counts.old.items }
-    requires less { less ≤ get_or counts.old.items worker 0 }
+    requires { less ≤ get_or counts.old.items worker 0 }
     ensures len { length counts.new.items ≡ length counts.old.items }
     ensures less { (q : ℕ) → get_or counts.new.items q 0 + cond (nat_eq q worker) less 0 ≡ get_or counts.old.items q 0 }
 {
+    if worker as usize >= counts.len() {
+        return;
+    }
     let count = counts[worker as usize];
     counts[worker as usize] = count - less;
 }

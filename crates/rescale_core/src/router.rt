@@ -1,5 +1,5 @@
 //! The router: what is read is queued for each worker, until it is handed over.
-ghost use Rattle.std.specs.Prelude.{◌≡◌, ◌++◌, ◌∷◌, [], ◌<◌, ◌≤◌, IfOk, IfSome, IfNone, length, take, true, ℕ};
+ghost use Rattle.std.specs.Prelude.{◌≡◌, ◌++◌, ◌∷◌, [], ◌≤◌, IfOk, IfSome, IfNone, length, take, true, ℕ};
 ghost use Rattle.monitor_state.specs.Verdicts.{MayFollow};
 ghost use Rattle.rescale_core.specs.Queues.{all_put, queue_at};
 ghost use Rattle.rescale_core.specs.Routing.{HasEnded, HasTaken, IsRouterOf, MayAdd, TakesFront, feeds};
@@ -111,7 +111,6 @@ impl Router {
     /// Takes what the worker gave for the next items that it was handed.
     pub fn collect(&mut self, worker: u32, taken: u64, outs: Vec<Out>) -> Result<(), AllocError>
         requires taken { (w : World) × IsRouterOf self.old w × HasTaken w worker taken outs.items }
-        requires some { 0 < taken }
         ensures { IfOk result (λ _. (w : World) → IsRouterOf self.old w → HasTaken w worker taken outs.items
             → IsRouterOf self.new (world_after w (Collect worker))) }
     {

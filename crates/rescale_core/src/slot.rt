@@ -7,6 +7,7 @@ use rescale_worker::{BoxedPiece, BoxedStrategy, Item};
 /// An item, or a piece that is awaited.
 #[derive(Drop)]
 pub(crate) enum Slot {
+    /// An item that is there.
     Ready(Item),
     /// A piece of this generation, once it came, whose strategy is `now`. `last` is said of the last one of a place.
     Awaited {

@@ -1,3 +1,4 @@
+-- The definitions that the contracts cite, in reading order.
 pub mod Workers
 pub mod Monitors
 pub mod Lines

@@ -29,8 +29,9 @@ impl BoxedStrategy {
         Ok(BoxedStrategy { inner })
     }
 
-    pub(crate) fn into_inner(self) -> Strategy
-        ensures { result ≡ self }
+    /// The strategy, out of its box.
+    pub fn into_inner(self) -> Strategy
+        ensures same { result ≡ self }
     {
         Box::into_inner(self.inner)
     }
@@ -51,8 +52,9 @@ impl Model for BoxedPiece {
 }
 
 impl BoxedPiece {
-    pub(crate) fn new(alloc: Global, piece: Piece) -> Result<Self, AllocError>
-        ensures { IfOk result (λ boxed. boxed ≡ piece) }
+    /// Puts the piece into a box.
+    pub fn new(alloc: Global, piece: Piece) -> Result<Self, AllocError>
+        ensures same { IfOk result (λ boxed. boxed ≡ piece) }
     {
         let inner = Box::new(alloc, piece)?;
         Ok(BoxedPiece { inner })
@@ -65,8 +67,9 @@ impl BoxedPiece {
         &self.inner
     }
 
-    pub(crate) fn into_inner(self) -> Piece
-        ensures { result ≡ self }
+    /// The piece, out of its box.
+    pub fn into_inner(self) -> Piece
+        ensures same { result ≡ self }
     {
         Box::into_inner(self.inner)
     }

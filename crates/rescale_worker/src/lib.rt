@@ -1,4 +1,6 @@
-//! One worker: what it is handed, what it gives, and what it does at a change of strategy.
+//! One worker: what it is handed, what it gives, and what it does at a change of strategy. The layer above says which
+//! items a `Worker` is handed, of the entries that are read, and gathers its outs; it calls the worker by itself or lends
+//! it to a hub.
 #![tactic(auto)]
 
 mod boxed;

@@ -32,14 +32,13 @@ fn work_one<W: Work, G: Gate>(
     cell.work.work(alloc, item, &mut cell.outs)
 }
 
-// Takes the items out of the cell, once it has room for as many outs.
-fn take_items<W, I, O>(alloc: Global, cell: &mut Cell<W, I, O>) -> Result<Vec<I>, AllocError>
-    ensures items { IfOk result (λ v. v.items ≡ cell.old.items.items) }
-    ensures cell { IfOk result (λ _. (cell.new.work ≡ cell.old.work) × (cell.new.count ≡ cell.old.count)
-        × (cell.new.outs.items ≡ cell.old.outs.items)) }
+// Takes the items out of the cell. It takes no memory.
+fn take_items<W, I, O>(alloc: Global, cell: &mut Cell<W, I, O>) -> Vec<I>
+    ensures items { result.items ≡ cell.old.items.items }
+    ensures cell { (cell.new.work ≡ cell.old.work) × (cell.new.count ≡ cell.old.count)
+        × (cell.new.outs.items ≡ cell.old.outs.items) }
 {
-    cell.outs.reserve(cell.items.len())?;
-    Ok(mem::replace(&mut cell.items, Vec::new(alloc)))
+    mem::replace(&mut cell.items, Vec::new(alloc))
 }
 
 // Works the cell's items in order.
@@ -54,7 +53,7 @@ fn work_all<W: Work, G: Gate>(
     ensures did { IfOk result (λ _. (gave : List W.Out) × (cell.new.outs.items ≡ cell.old.outs.items ++ gave)
         × Leads W.stands W.may cell.old.work cell.old.items.items cell.new.work gave) }
 {
-    let items = take_items(alloc, cell)?;
+    let items = take_items(alloc, cell);
     for item in items {
         work_one(alloc, cell, gate, number, item)?;
     }

@@ -80,6 +80,7 @@ impl RowsByKey {
         }
     }
 
+    /// The columns by which rows are found.
     pub fn columns(&self) -> &[u32]
         ensures { result.now ≡ self.now.columns }
     {
@@ -97,8 +98,9 @@ impl RowsByKey {
 
     /// One row more, which has the columns `right`.
     pub fn add(&mut self, alloc: Global, right: &[u32], row: &Row) -> Result<(), AllocError>
-        ensures { OnOk result ((u : List Value) → is_listed right.now self.new u
+        ensures listed { OnOk result ((u : List Value) → is_listed right.now self.new u
             ≡ (is_listed right.now self.old u || is_at (row_cmp row.now) u)) }
+        ensures keys { self.new.columns ≡ self.old.columns }
     {
         let key = part_of(alloc, right, self.columns.as_slice(), row.values())?;
         put_in(alloc, &mut self.sets, key, row.copy(alloc)?)
@@ -109,6 +111,7 @@ impl RowsByKey {
         ensures gone { OnOk result (is_listed right.now self.new row.now ≡ nat_eq (length self.new.columns) 0) }
         ensures others { (u : List Value) → is_at (row_cmp row.now) u ≡ false →
             is_listed right.now self.new u ≡ is_listed right.now self.old u }
+        ensures keys { self.new.columns ≡ self.old.columns }
     {
         if self.columns.is_empty() {
             return Ok(());
@@ -172,8 +175,9 @@ pub fn list_rows(
 ) -> Result<(), AllocError>
     requires some { NoneEmpty rows.now.entries }
     requires listed { Listed right.now by_key.old rows.now.entries }
-    ensures { OnOk result ((u : List Value) → is_listed right.now by_key.new u
+    ensures listed { OnOk result ((u : List Value) → is_listed right.now by_key.new u
         ≡ (is_listed right.now by_key.old u || has_row table.now u)) }
+    ensures keys { by_key.new.columns ≡ by_key.old.columns }
 {
     if by_key.columns().is_empty() {
         return Ok(());
@@ -193,7 +197,8 @@ pub fn rows_by_key(
     keys: &[u32],
     rows: &HashMap<Row, Entries>,
 ) -> Result<RowsByKey, AllocError>
-    ensures { IfOk result (λ by_key. Listed right.now by_key rows.now.entries) }
+    ensures listed { IfOk result (λ by_key. Listed right.now by_key rows.now.entries) }
+    ensures keys { IfOk result (λ by_key. by_key.columns ≡ keys.now) }
 {
     let columns = Vec::from_slice(alloc, keys)?;
     let mut by_key = RowsByKey::new(alloc, columns);

@@ -1,15 +1,17 @@
 //! The entries of one row, by ascending positions.
 ghost use Rattle.std.specs.Prelude.{◌≡◌, ◌==◌, ◌∷◌, ◌++◌, ◌<◌, [], List, IfOk, IsTrue, OnOk, length, map};
 ghost use Rattle.std.specs.Prelude.{slice_index_or};
+ghost use Rattle.relations.specs.KeptRows.{list_for};
+ghost use Rattle.until_rows.specs.Entries.{from_place, met_by};
 ghost use Rattle.until_rows.specs.Recalled.{entry_at};
 ghost use Rattle.until_rows.specs.Rules.{PlacesAscend, all_before};
 
 use crate::meeting::meets;
 use crate::recalled::Mark;
-use mfotl_model::Interval;
+use mfotl_model::{Interval, Row};
 use short_queue::ShortQueue;
 use std::alloc::{AllocError, Global};
-use std::collections::VecDeque;
+use std::collections::{HashMap, VecDeque};
 use std::marker::Model;
 
 /// The right operand held of a row at `place`, whose time is `ts`, and the left one from `start` up to
@@ -54,8 +56,6 @@ fn mark_of(entry: Entry, pulled: u64, times: &VecDeque<u64>) -> Result<Mark, All
 }
 
 impl Entries {
-    ghost use Rattle.until_rows.specs.Entries.{from_place, met_by};
-
     pub(crate) fn new() -> Self
         ensures { result ≡ [] }
     {
@@ -150,5 +150,15 @@ impl Entries {
             }
         }
         false
+    }
+}
+
+/// Whether some entry of a row meets UNTIL at the position `i`, whose time is `x`.
+pub fn row_met(rows: &HashMap<Row, Entries>, row: &Row, interval: &Interval, i: u64, x: u64) -> bool
+    ensures { result ≡ met_by interval.now i x (list_for rows.now.entries row.now) }
+{
+    match rows.get(row) {
+        Some(entries) => entries.met(interval, i, x),
+        None => false,
     }
 }

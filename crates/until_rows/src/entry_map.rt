@@ -147,8 +147,9 @@ fn forget_row(rows: &mut HashMap<Row, Entries>, row: Row, next: u64) -> Option<R
 
 // A row of which nothing is left needn't be listed any more. Without memory it stays.
 fn unlist(alloc: Global, by_key: &mut RowsByKey, right: &[u32], gone: Option<Row>)
-    ensures { (rows : List (List Value × List Entry)) → IfSome gone (λ row. list_for rows row ≡ []) →
+    ensures listed { (rows : List (List Value × List Entry)) → IfSome gone (λ row. list_for rows row ≡ []) →
         Listed right.now by_key.old rows → Listed right.now by_key.new rows }
+    ensures keys { by_key.new.columns ≡ by_key.old.columns }
 {
     if let Some(row) = gone {
         let _ = by_key.remove(alloc, right, &row);
@@ -169,6 +170,7 @@ pub fn forget_rows(
         (list_for rows.old.entries u) }
     ensures some { NoneEmpty rows.old.entries → NoneEmpty rows.new.entries }
     ensures listed { Listed right.now by_key.old rows.old.entries → Listed right.now by_key.new rows.new.entries }
+    ensures keys { by_key.new.columns ≡ by_key.old.columns }
 {
     for row in table {
         let gone = forget_row(rows, row, next);
@@ -196,14 +198,4 @@ pub fn push_met(
         }
     }
     Ok(())
-}
-
-/// Whether some entry of a row meets UNTIL at the position `i`, whose time is `x`.
-pub fn row_met(rows: &HashMap<Row, Entries>, row: &Row, interval: &Interval, i: u64, x: u64) -> bool
-    ensures { result ≡ met_by interval.now i x (list_for rows.now.entries row.now) }
-{
-    match rows.get(row) {
-        Some(entries) => entries.met(interval, i, x),
-        None => false,
-    }
 }

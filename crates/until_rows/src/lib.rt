@@ -1,4 +1,5 @@
-//! Rows with their entries, and where runs begin: what a window of UNTIL keeps.
+//! Rows with their entries, and where runs begin: what a window of UNTIL keeps. `eval_until` keeps one `RowEntries` and
+//! one `RunStarts`, and tells them each position's tables.
 #![tactic(auto)]
 
 mod by_key;

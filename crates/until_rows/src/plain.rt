@@ -90,7 +90,8 @@ fn put_marks(
     Ok(())
 }
 
-/// The entries of these rows, where `times` are those of the positions from `pulled` on.
+/// The entries of these rows, where `times` are those of the positions from `pulled` on. Errs, as for memory, where the
+/// position of a mark has no time there.
 pub fn rows_map(
     alloc: Global,
     rows: Vec<KeptMarks>,
@@ -109,7 +110,8 @@ pub fn rows_map(
     Ok(map)
 }
 
-/// The rows with their starts, in order. Each row has as many values as the left operand has columns.
+/// The rows with their starts, in order. Errs, as for memory, where a row has another number of values than `width`,
+/// that of the left operand's columns.
 pub fn kept_starts(
     alloc: Global,
     starts: &BTreeMap<Row, u64>,
@@ -149,7 +151,8 @@ fn marks_of(
     Ok(KeptMarks { row, marks })
 }
 
-/// The rows with their marks, in order.
+/// The rows with their marks, in order, where `times` are those of the positions from `pulled` on. Errs, as for memory,
+/// where an entry has another time than its position has there.
 pub fn kept_marks(
     alloc: Global,
     rows: &BTreeMap<Row, Entries>,

@@ -15,8 +15,8 @@ ghost use Rattle.until_rows.specs.Rules.{NoneEmpty, all_before};
 ghost use Rattle.until_rows.specs.Starts.{start_of};
 
 use crate::by_key::{RowsByKey, list_rows, rows_by_key};
-use crate::entries::Entries;
-use crate::entry_map::{add_rows, forget_rows, push_met, row_met};
+use crate::entries::{Entries, row_met};
+use crate::entry_map::{add_rows, forget_rows, push_met};
 use crate::ordered::{hashed_rows, ordered_rows};
 use crate::run_starts::RunStarts;
 use mfotl_model::{Interval, Row};
@@ -62,6 +62,7 @@ impl RowEntries {
             kept_for kept.entries u ≡ last_for rows.entries u None) }
         ensures ascend { IfOk result (λ _. RowsAscend rows.entries) }
         ensures listed { IfOk result (λ kept. Listed right.now kept.keyed kept.entries) }
+        ensures keys { IfOk result (λ kept. kept.keyed.columns ≡ keys.now) }
         ensures same { IfOk result (λ kept. in_order kept.entries ≡ rows.entries) }
     {
         let rows = hashed_rows(alloc, rows)?;
@@ -85,6 +86,7 @@ impl RowEntries {
     pub fn find_by(&mut self, alloc: Global, right: &[u32], keys: &[u32]) -> Result<(), AllocError>
         ensures entries { self.new.entries ≡ self.old.entries }
         ensures listed { OnOk result (Listed right.now self.new.keyed self.new.entries) }
+        ensures keys { OnOk result (self.new.keyed.columns ≡ keys.now) }
         ensures old { OnErr result (self.new ≡ self.old) }
     {
         self.by_key = rows_by_key(alloc, right, keys, &self.rows)?;
@@ -134,6 +136,7 @@ impl RowEntries {
             (list_for self.old.entries u)) }
         ensures some { OnOk result (NoneEmpty self.new.entries) }
         ensures listed { OnOk result (Listed right.now self.new.keyed self.new.entries) }
+        ensures keys { self.new.keyed.columns ≡ self.old.keyed.columns }
     {
         list_rows(alloc, &mut self.by_key, &self.rows, right, table)?;
         add_rows(
@@ -158,6 +161,7 @@ impl RowEntries {
         ensures some { NoneEmpty self.old.entries → NoneEmpty self.new.entries }
         ensures listed { Listed right.now self.old.keyed self.old.entries →
             Listed right.now self.new.keyed self.new.entries }
+        ensures keys { self.new.keyed.columns ≡ self.old.keyed.columns }
     {
         forget_rows(alloc, &mut self.rows, &mut self.by_key, right, table, next);
     }

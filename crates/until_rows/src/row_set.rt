@@ -9,8 +9,7 @@ ghost use Rattle.relations.specs.KeptRows.{list_for};
 ghost use Rattle.until_rows.specs.Entries.{met_by};
 ghost use Rattle.until_rows.specs.HeldRows.{held_rows};
 
-use crate::entries::Entries;
-use crate::entry_map::row_met;
+use crate::entries::{Entries, row_met};
 use mfotl_model::{Interval, Row};
 use std::alloc::{AllocError, Global};
 use std::collections::{HashMap, HashSet};
@@ -25,6 +24,7 @@ enum Held {
     Many(Box<HashSet<Row>>),
 }
 
+/// A set of rows.
 #[derive(Drop)]
 pub struct RowSet {
     held: Held,
@@ -145,12 +145,14 @@ fn push_each(
 }
 
 impl RowSet {
+    /// No rows.
     pub fn new() -> Self
         ensures { result ≡ [] }
     {
         RowSet { held: Held::Zero }
     }
 
+    /// Whether the set has no rows.
     pub fn is_empty(&self) -> bool
         ensures { result ≡ (length self.now == 0) }
     {
@@ -171,6 +173,7 @@ impl RowSet {
         Ok(())
     }
 
+    /// Drops a row, if the set has it.
     pub fn remove(&mut self, row: &Row)
         ensures { (u : List Value) → has_row self.new u
             ≡ cond (is_at (row_cmp row.now) u) false (has_row self.old u) }

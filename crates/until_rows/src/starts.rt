@@ -11,7 +11,9 @@ use crate::run_starts::RunStarts;
 use mfotl_model::Row;
 use std::alloc::{AllocError, Global};
 
-// the run of one row goes on, or begins at the position `place`, and no other does
+// The run of one row goes on, or begins at the position `place`, and no other does. A function apart, as `kept_starts`
+// and `break_starts` are: where the only run goes on, as at each position of an EVENTUALLY but the first, none of them
+// is called.
 #[inline(never)]
 fn begin_alone(
     alloc: Global,
@@ -125,7 +127,7 @@ fn forget_start(starts: &mut RunStarts, row: &Row, next: u64)
 }
 
 impl RunStarts {
-    /// Where the run of a row begins, of which the positions before `place` were taken.
+    /// Where the run of a row begins, when the positions before `place` were taken.
     pub fn start_at(&self, negated: bool, place: u64, row: &Row) -> u64
         ensures { result ≡ start_of negated place self.now row.now }
     {

@@ -1,5 +1,5 @@
 -- What the reader's next answer means: one time-point more was routed, or none is left.
-use Rattle.std.proofs.Common.{◌≡◌, ◌∙◌, ap, subst, sym, refl, ℕ, ◌+◌, ◌≤◌, ◌<◌, ◌^◌, List, [], drop}
+use Rattle.std.proofs.Common.{◌≡◌, ◌∙◌, ap, subst, sym, refl, ℕ, ◌+◌, ◌<◌, ◌^◌, List, [], drop}
 use Rattle.std.specs.Prelude.{Ok}
 use Rattle.mfotl_model.specs.declared.event.TimePoint.{TimePoint}
 use Rattle.log_reader.specs.Progress.{Progress, next_answer, read}
@@ -26,15 +26,14 @@ done_amid {Done} amid = subst (λ (p : Progress). HasDone Done p) (sym amid.read
 
 -- it was read behind the changes that were due
 pub one_routed : {hub : WorkerHub} {cells : ℕ} {before after : Schedule} {old new : MainState} (first : Reader)
-    {next : Reader} (point : TimePoint) → first.limits.points < 2 ^ 63
-    → ForEach first (λ bytes. next_answer (progress first bytes) ≡ Ok (Point point))
-    → next ≡ record first { given = first.given + 1; kept = next.kept } → next.given ≤ next.limits.points
+    {next : Reader} (point : TimePoint) → ForEach first (λ bytes. next_answer (progress first bytes) ≡ Ok (Point point))
+    → next ≡ record first { given = first.given + 1; kept = next.kept } → next.given < 2 ^ 32
     → ForEach first (λ bytes. Reads next bytes) → before.routed ≡ first.given → IsMainOf hub new.driver.main
     → Suits new.driver after → HaveCells cells after → after.routed ≡ before.routed + 1
     → after.changes.items ≡ changes_later before.routed before.changes.items
     → AddsPoint old.driver old.written old.tally (changes_due before.routed before.changes.items) point
     new.driver new.written new.tally → Routed hub cells before after first next old new
-one_routed {after = after} {new = new} first {next} point few gives is within reads same main suits seated more left
+one_routed {after = after} {new = new} first {next} point gives is narrow reads same main suits seated more left
     adds = record {
       main = main;
       suits = suits;
@@ -45,7 +44,7 @@ one_routed {after = after} {new = new} first {next} point few gives is within re
       so_far = λ core plan bytes start fed so_far.
           let amid : IsAmid (Routes core plan start new.driver after.changes.items new.written new.tally)
           (progress first bytes) next =
-          one_done (is_amid fed few so_far) point (gives bytes fed) is within (reads bytes fed)
+          one_done (is_amid fed so_far) point (gives bytes fed) is narrow (reads bytes fed)
           (routed_more first.given point (rw same at adds) (rw same at left)) in
           done_amid amid;
     }

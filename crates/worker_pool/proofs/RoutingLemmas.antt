@@ -1,5 +1,5 @@
 -- Time-points that are routed one after the other, and how that ends.
-use Rattle.std.proofs.Common.{◌≡◌, ◌∙◌, ap, subst, sym, refl, ℕ, ◌≤◌, ◌<◌, ◌^◌, List, Option, arith, length, take}
+use Rattle.std.proofs.Common.{◌≡◌, ◌∙◌, ap, subst, sym, refl, ℕ, ◌≤◌, List, Option, arith, length, take}
 use Rattle.mon_outside.specs.Sink.{AppendsFront}
 use Rattle.mfotl_model.specs.Formulas.{Form}
 use Rattle.mfotl_model.specs.declared.event.TimePoint.{TimePoint}
@@ -105,12 +105,12 @@ output_stops policy r old new before now Sink h = h
 output_stops policy r old new before now Memory h = h
 
 pub output_short : {old new : MainState} {stop : Stop} (schedule : Schedule) (reader : Reader)
-    → reader.limits.points < 2 ^ 63 → FallsShort old.driver old.written old.tally new.written
-    → IsOutputStop old.faults new.faults stop → RoutesShort schedule reader old new stop
-output_short {old} {new} {stop} schedule reader few falls output = record {
+    → FallsShort old.driver old.written old.tally new.written → IsOutputStop old.faults new.faults stop
+    → RoutesShort schedule reader old new stop
+output_short {old} {new} {stop} schedule reader falls output = record {
   stops = λ core plan bytes start reads so_far policy is.
       output_stops policy _ start new.written old.faults new.faults stop output;
-  front = λ core plan bytes start reads so_far. front_amid (is_amid reads few so_far) (routed_falls falls);
+  front = λ core plan bytes start reads so_far. front_amid (is_amid reads so_far) (routed_falls falls);
 }
 
 -- ---- a fault stops them
@@ -145,13 +145,13 @@ module _ {core : CoreForm} {plan : List Change} {start : Option (List ℕ)} {cha
   behind_stops fault e Memory h = λ policy is. h
 
 pub fault_short : {old new : MainState} {stop : Stop} (schedule : Schedule) (reader : Reader) (fault : LogFault)
-    → reader.limits.points < 2 ^ 63 → ForEach reader (λ bytes. Fails fault (next_answer (progress reader bytes)))
+    → ForEach reader (λ bytes. Fails fault (next_answer (progress reader bytes)))
     → FallsShort old.driver old.written old.tally new.written → StopsBehind fault old new stop
     → RoutesShort schedule reader old new stop
-fault_short {old} {new} {stop} schedule reader fault few fails falls behind = record {
+fault_short {old} {new} {stop} schedule reader fault fails falls behind = record {
   stops = λ core plan bytes start reads so_far.
-      behind_stops old new (is_amid reads few so_far) fault (fails bytes reads) stop behind;
-  front = λ core plan bytes start reads so_far. front_amid (is_amid reads few so_far) (routed_falls falls);
+      behind_stops old new (is_amid reads so_far) fault (fails bytes reads) stop behind;
+  front = λ core plan bytes start reads so_far. front_amid (is_amid reads so_far) (routed_falls falls);
 }
 
 -- ---- the lines behind them
@@ -159,15 +159,12 @@ fault_short {old} {new} {stop} schedule reader fault few fails falls behind = re
 module _ {hub : WorkerHub} {cells : ℕ} {before after : Schedule} {first next : Reader} {old mid : MainState}
     (here : Routed hub cells before after first next old mid) where
   -- what was written then is a front of what is due
-  pub routed_front : {now : Option (List ℕ)} → first.limits.points < 2 ^ 63
-      → FallsShort mid.driver mid.written mid.tally now
+  pub routed_front : {now : Option (List ℕ)} → FallsShort mid.driver mid.written mid.tally now
       → ForEachRun first old.driver before.changes.items old.written old.tally (λ core plan bytes start.
       ForEachPolicy core (λ policy. AppendsFront start now (text_on policy (read (progress first bytes)))))
-  routed_front {now} few falls core plan bytes start reads so_far policy is =
-      let limits = ap (λ (r : Reader). r.limits.points) here.reader_is in
-      let small : next.limits.points < 2 ^ 63 = omega arith in
+  routed_front {now} falls core plan bytes start reads so_far policy is =
       subst (λ (r : Reading). AppendsFront start now (text_on policy r)) (same_reading here bytes)
-      (front_amid (is_amid (here.reads bytes reads) small (here.so_far core plan bytes start reads so_far))
+      (front_amid (is_amid (here.reads bytes reads) (here.so_far core plan bytes start reads so_far))
       (routed_falls falls) policy is)
 
   -- all lines were written

@@ -4,9 +4,9 @@ use Rattle.mon_outside.specs.Inputs.{Consumes}
 use Rattle.mfotl_model.specs.declared.event.TimePoint.{TimePoint}
 use Rattle.mfotl_sig.specs.Preds.{PredOf}
 use Rattle.monitorable.specs.CoreForms.{CoreForm}
-use Rattle.log_reader.specs.Limits.{standard}
 use Rattle.log_reader.specs.Readers.{Reader, Reads, progress}
 use Rattle.log_reader.specs.Readings.{accepted}
+use Rattle.log_reader.specs.declared.limits.Limits.{Limits}
 use Rattle.rescale_core.specs.Moving.{IsDriverOf}
 use Rattle.rescale_core.specs.Worlds.{World}
 use Rattle.rescale_core.specs.declared.driver.Driver.{Driver}
@@ -44,11 +44,11 @@ ForEachRun reader driver changes now tally P =
     → HasDone (Routes core plan start driver changes now tally) (progress reader bytes) → P core plan bytes start
 
 -- The log was read to its end, and just before each of its time-points the changes of the plan that were due then.
-pub record ReadsPlan (sig : List PredOf) (plan : List Change) (before after : Option (List ℕ)) (driver : Driver)
-    : Type 0 where
+pub record ReadsPlan (sig : List PredOf) (limits : Limits) (plan : List Change) (before after : Option (List ℕ))
+    (driver : Driver) : Type 0 where
   pub bytes : List ℕ
   pub taken : Consumes before after bytes
   pub whole : IfSome before (λ all. all ≡ bytes)
   pub world : World
   pub stands : IsDriverOf driver world
-  pub read_is : world.read ≡ entries_by plan (accepted sig standard bytes).points
+  pub read_is : world.read ≡ entries_by plan (accepted sig limits bytes).points

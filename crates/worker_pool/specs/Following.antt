@@ -6,6 +6,7 @@ use Rattle.mon_outside.specs.declared.sink.Sink.{Ghosts as SinkGhosts}
 use Rattle.mfotl_sig.specs.Preds.{PredOf}
 use Rattle.monitorable.specs.CoreForms.{CoreForm}
 use Rattle.log_reader.specs.Readers.{Reader}
+use Rattle.log_reader.specs.declared.limits.Limits.{Limits}
 use Rattle.rescale_core.specs.declared.driver.Driver.{Driver}
 use Rattle.slice_strategy.specs.declared.change.Change.{Change}
 use Rattle.lone_worker.specs.Chunks.{run_end}
@@ -18,10 +19,11 @@ use Rattle.lone_worker.specs.declared.tally.Tally.{Tally}
 use Rattle.main_steps.specs.declared.schedule.Schedule.{Schedule}
 use Rattle.worker_pool.specs.Chunks.{ReadsPlan, Routes}
 
--- How a run began: by which core, signature and plan, and how the inputs and the output stood.
+-- How a run began: by which core, signature, limits and plan, and how the inputs and the output stood.
 pub record Beginning : Type 0 where
   pub core : CoreForm
   pub sig : List PredOf
+  pub limits : Limits
   pub plan : List Change
   pub before : InputsView
   pub old : SinkView
@@ -58,13 +60,13 @@ pub record HasCome (b : Beginning) (s : LoopState) : Type 0 where
   pub later : b.before.faults ≤ s.inputs.faults
   pub later_out : b.old.faults ≤ s.out.faults
   pub course : Course (Routes b.core b.plan b.old.written s.driver s.schedule.changes.items s.out.written s.tally)
-      b.sig b.before.rest s.inputs.rest s.log
+      b.sig b.limits b.before.rest s.inputs.rest s.log
 
 -- What became of it with one chunk more: it goes on, or all of the log was monitored, or it stopped.
 abbrev pub ComesTo : Beginning → LoopState → Result Bool Stop → Type 0
 ComesTo b s (Ok false) = HasCome b s
 ComesTo b s (Ok true) =
-    ForEachPolicy b.core (λ policy. FollowsLog b.sig policy (effect_since b s) (run_end (Ok s.tally)))
-    × ReadsPlan b.sig b.plan b.before.rest s.inputs.rest s.driver
+    ForEachPolicy b.core (λ policy. FollowsLog b.sig b.limits policy (effect_since b s) (run_end (Ok s.tally)))
+    × ReadsPlan b.sig b.limits b.plan b.before.rest s.inputs.rest s.driver
 ComesTo b s (Err stop) =
-    ForEachPolicy b.core (λ policy. FollowsLog b.sig policy (effect_since b s) (run_end (Err stop)))
+    ForEachPolicy b.core (λ policy. FollowsLog b.sig b.limits policy (effect_since b s) (run_end (Err stop)))

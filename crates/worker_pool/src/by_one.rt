@@ -2,7 +2,6 @@
 ghost use Rattle.std.specs.Prelude.{◌≡◌, ◌<◌, ◌≤◌, [], IsTrue, length};
 ghost use Rattle.mfotl_model.specs.Strategies.{workers_of};
 ghost use Rattle.monitorable.specs.Cores.{core_form};
-ghost use Rattle.log_reader.specs.Limits.{standard};
 ghost use Rattle.log_reader.specs.Progress.{nothing_fed};
 ghost use Rattle.log_reader.specs.Readers.{Reads, progress};
 ghost use Rattle.rescale_worker.specs.Workers.{IsFor};
@@ -33,14 +32,14 @@ pub(crate) fn follow_by_one<R: Wait, I: Inputs, O: Sink>(
     requires unchanged { plan.now.changes.items ≡ [] }
     requires room { 0 < length buffer.old }
     requires opened { IsTrue (I.is_open inputs.old) }
-    requires fresh { progress log.old [] ≡ nothing_fed log.old.sig standard }
+    requires fresh { progress log.old [] ≡ nothing_fed log.old.sig log.old.limits }
     requires reads { Reads log.old [] }
     ensures files { I.files inputs.new ≡ I.files inputs.old }
     ensures stays_open { I.is_open inputs.new ≡ I.is_open inputs.old }
     ensures asks_nothing { I.asked inputs.new ≡ I.asked inputs.old }
     ensures later { I.faults inputs.old ≤ I.faults inputs.new }
     ensures later_out { O.faults out.old ≤ O.faults out.new }
-    ensures follows { ForEachPolicy (core_form plan.now.core) (λ policy. FollowsLog log.old.sig policy
+    ensures follows { ForEachPolicy (core_form plan.now.core) (λ policy. FollowsLog log.old.sig log.old.limits policy
         (effect I.Inputs O.Sink inputs.old inputs.new out.old out.new) (run_end result)) }
 {
     follow_alone(rt, alloc, &plan.core, buffer, log, inputs, out)

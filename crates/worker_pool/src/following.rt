@@ -1,6 +1,5 @@
 //! The log in chunks: all lines of a chunk are written and handed on before the next chunk is read.
 ghost use Rattle.std.specs.Prelude.{◌≡◌, ◌<◌, ◌≤◌, IsTrue, OnOk, length, []};
-ghost use Rattle.log_reader.specs.Limits.{standard};
 ghost use Rattle.log_reader.specs.Progress.{nothing_fed};
 ghost use Rattle.log_reader.specs.Readers.{Reads, progress};
 ghost use Rattle.monitorable.specs.CoreForms.{CoreForm};
@@ -45,7 +44,8 @@ impl<R: Wait, G: Gate, I: Inputs, O: Sink> MainLoop<'_, '_, R, G, I, O> {
     ) -> Result<Tally, Stop>
         requires room { 0 < length self.old.buffer.now }
         requires opened { IsTrue (I.is_open self.old.inputs.now) }
-        requires fresh { progress self.old.log.now [] ≡ nothing_fed self.old.log.now.sig standard }
+        requires fresh { progress self.old.log.now []
+            ≡ nothing_fed self.old.log.now.sig self.old.log.now.limits }
         requires reads { Reads self.old.log.now [] }
         requires begins { (core : CoreForm) × HasReadNothing core self.old.driver.now }
         requires suits { Suits self.old.driver.now self.old.schedule.now }
@@ -66,10 +66,11 @@ impl<R: Wait, G: Gate, I: Inputs, O: Sink> MainLoop<'_, '_, R, G, I, O> {
         ensures later { I.faults self.old.inputs.now ≤ I.faults self.new.inputs.now }
         ensures later_out { O.faults self.old.out.now ≤ O.faults self.new.out.now }
         ensures follows { (core : CoreForm) → HasReadNothing core self.old.driver.now → ForEachPolicy core (λ policy.
-            FollowsLog self.old.log.now.sig policy (effect I.Inputs O.Sink self.old.inputs.now self.new.inputs.now
-            self.old.out.now self.new.out.now) (run_end result)) }
-        ensures planned { OnOk result (ReadsPlan self.old.log.now.sig self.old.schedule.now.changes.items
-            (I.rest self.old.inputs.now) (I.rest self.new.inputs.now) self.new.driver.now) }
+            FollowsLog self.old.log.now.sig self.old.log.now.limits policy (effect I.Inputs O.Sink
+            self.old.inputs.now self.new.inputs.now self.old.out.now self.new.out.now) (run_end result)) }
+        ensures planned { OnOk result (ReadsPlan self.old.log.now.sig self.old.log.now.limits
+            self.old.schedule.now.changes.items (I.rest self.old.inputs.now) (I.rest self.new.inputs.now)
+            self.new.driver.now) }
     {
         'chunks: for _ in self.context.rt.forever() {
             let ended = self.take_chunk(own, writer);

@@ -1,6 +1,5 @@
 //! Main's loop as what main does beside the threads.
 ghost use Rattle.std.specs.Prelude.{◌≡◌, ◌≤◌, ◌<◌, [], IsTrue, OnOk, length};
-ghost use Rattle.log_reader.specs.Limits.{standard};
 ghost use Rattle.log_reader.specs.Progress.{nothing_fed};
 ghost use Rattle.log_reader.specs.Readers.{Reads, progress};
 ghost use Rattle.monitorable.specs.CoreForms.{CoreForm};
@@ -32,7 +31,6 @@ impl<'o, 's, R: Wait, G: Gate, I: Inputs, O: Sink> MainTask<Worker>
     ghost use Rattle.log_reader.specs.Readers.{Reads, progress};
     ghost use Rattle.monitorable.specs.CoreForms.{CoreForm};
     ghost use Rattle.turn_hub.specs.Ends.{IsMainOf, cell_count};
-    ghost use Rattle.log_reader.specs.Limits.{standard};
     ghost use Rattle.hub_threads.specs.Hands.{AreHandsOf};
     ghost use Rattle.lone_worker.specs.Chunks.{run_end};
     ghost use Rattle.lone_worker.specs.Effects.{effect};
@@ -46,7 +44,7 @@ impl<'o, 's, R: Wait, G: Gate, I: Inputs, O: Sink> MainTask<Worker>
 
     ghost can = { λ d own. (0 < length d.buffer.now)
         × IsTrue (I.is_open d.inputs.now)
-        × (progress d.log.now [] ≡ nothing_fed d.log.now.sig standard)
+        × (progress d.log.now [] ≡ nothing_fed d.log.now.sig d.log.now.limits)
         × Reads d.log.now []
         × ((core : CoreForm) × HasReadNothing core d.driver.now)
         × Suits d.driver.now d.schedule.now
@@ -65,10 +63,10 @@ impl<'o, 's, R: Wait, G: Gate, I: Inputs, O: Sink> MainTask<Worker>
         × (I.asked e.inputs.now ≡ I.asked d.inputs.now)
         × (I.faults d.inputs.now ≤ I.faults e.inputs.now)
         × (O.faults d.out.now ≤ O.faults e.out.now)
-        × OnOk r (ReadsPlan d.log.now.sig d.schedule.now.changes.items (I.rest d.inputs.now) (I.rest e.inputs.now)
-        e.driver.now)
+        × OnOk r (ReadsPlan d.log.now.sig d.log.now.limits d.schedule.now.changes.items (I.rest d.inputs.now)
+        (I.rest e.inputs.now) e.driver.now)
         × ((core : CoreForm) → HasReadNothing core d.driver.now
-        → ForEachPolicy core (λ policy. FollowsLog d.log.now.sig policy
+        → ForEachPolicy core (λ policy. FollowsLog d.log.now.sig d.log.now.limits policy
         (effect I.Inputs O.Sink d.inputs.now e.inputs.now d.out.now e.out.now) (run_end r))) };
 
     fn run(
@@ -96,7 +94,7 @@ pub(crate) fn follow_beside<'o, 's, R: Threads + Wait + Sync, I: Inputs, O: Sink
 ) -> Result<Tally, Stop>
     requires room { 0 < length buffer.old.items }
     requires opened { IsTrue (I.is_open inputs.old) }
-    requires fresh { progress log.old [] ≡ nothing_fed log.old.sig standard }
+    requires fresh { progress log.old [] ≡ nothing_fed log.old.sig log.old.limits }
     requires reads { Reads log.old [] }
     requires begins { (core : CoreForm) × HasReadNothing core driver.old }
     requires suits { Suits driver.old schedule.old }
@@ -112,9 +110,10 @@ pub(crate) fn follow_beside<'o, 's, R: Threads + Wait + Sync, I: Inputs, O: Sink
     ensures later { I.faults inputs.old ≤ I.faults inputs.new }
     ensures later_out { O.faults out.old ≤ O.faults out.new }
     ensures follows { (core : CoreForm) → HasReadNothing core driver.old → ForEachPolicy core (λ policy.
-        FollowsLog log.old.sig policy (effect I.Inputs O.Sink inputs.old inputs.new out.old out.new) (run_end result)) }
-    ensures planned { OnOk result (ReadsPlan log.old.sig schedule.old.changes.items (I.rest inputs.old)
-        (I.rest inputs.new) driver.new) }
+        FollowsLog log.old.sig log.old.limits policy
+        (effect I.Inputs O.Sink inputs.old inputs.new out.old out.new) (run_end result)) }
+    ensures planned { OnOk result (ReadsPlan log.old.sig log.old.limits schedule.old.changes.items
+        (I.rest inputs.old) (I.rest inputs.new) driver.new) }
 {
     let mut main_loop = MainLoop {
         context,

@@ -1,6 +1,5 @@
 //! The whole run over a log.
 ghost use Rattle.std.specs.Prelude.{◌≡◌, ◌<◌, ◌≤◌, [], IsTrue, length};
-ghost use Rattle.log_reader.specs.Limits.{standard};
 ghost use Rattle.log_reader.specs.Progress.{nothing_fed};
 ghost use Rattle.log_reader.specs.Readers.{Reads, progress};
 ghost use Rattle.monitorable.specs.Cores.{core_form};
@@ -40,14 +39,14 @@ fn follow_together<R: Threads + Wait + Sync, I: Inputs, O: Sink, G: Gate + Sync>
     requires changes { AllSuit (core_form plan.core) plan.changes.items }
     requires room { 0 < length buffer.old.items }
     requires opened { IsTrue (I.is_open inputs.old) }
-    requires fresh { progress log.old [] ≡ nothing_fed log.old.sig standard }
+    requires fresh { progress log.old [] ≡ nothing_fed log.old.sig log.old.limits }
     requires reads { Reads log.old [] }
     ensures files { I.files inputs.new ≡ I.files inputs.old }
     ensures stays_open { I.is_open inputs.new ≡ I.is_open inputs.old }
     ensures asks_nothing { I.asked inputs.new ≡ I.asked inputs.old }
     ensures later { I.faults inputs.old ≤ I.faults inputs.new }
     ensures later_out { O.faults out.old ≤ O.faults out.new }
-    ensures follows { ForEachPolicy (core_form plan.core) (λ policy. FollowsLog log.old.sig policy
+    ensures follows { ForEachPolicy (core_form plan.core) (λ policy. FollowsLog log.old.sig log.old.limits policy
         (effect I.Inputs O.Sink inputs.old inputs.new out.old out.new) (run_end result)) }
 {
     let cells = plan.most_workers();
@@ -94,14 +93,14 @@ fn run_plan<R: Threads + Wait + Sync, I: Inputs, O: Sink, G: Gate + Sync>(
     requires changes { AllSuit (core_form plan.core) plan.changes.items }
     requires room { 0 < length buffer.old.items }
     requires opened { IsTrue (I.is_open inputs.old) }
-    requires fresh { progress log.old [] ≡ nothing_fed log.old.sig standard }
+    requires fresh { progress log.old [] ≡ nothing_fed log.old.sig log.old.limits }
     requires reads { Reads log.old [] }
     ensures files { I.files inputs.new ≡ I.files inputs.old }
     ensures stays_open { I.is_open inputs.new ≡ I.is_open inputs.old }
     ensures asks_nothing { I.asked inputs.new ≡ I.asked inputs.old }
     ensures later { I.faults inputs.old ≤ I.faults inputs.new }
     ensures later_out { O.faults out.old ≤ O.faults out.new }
-    ensures follows { ForEachPolicy (core_form plan.core) (λ policy. FollowsLog log.old.sig policy
+    ensures follows { ForEachPolicy (core_form plan.core) (λ policy. FollowsLog log.old.sig log.old.limits policy
         (effect I.Inputs O.Sink inputs.old inputs.new out.old out.new) (run_end result)) }
 {
     // No other worker's rows are to be merged, and nobody is to be waited for.
@@ -149,14 +148,14 @@ pub fn monitor<R: Threads + Wait + Sync, I: Inputs, O: Sink, G: Gate + Sync>(
     requires changes { AllSuit (core_form plan.core) plan.changes.items }
     requires few { threads ≤ 64 }
     requires opened { IsTrue (I.is_open inputs.old) }
-    requires fresh { progress log.old [] ≡ nothing_fed log.old.sig standard }
+    requires fresh { progress log.old [] ≡ nothing_fed log.old.sig log.old.limits }
     requires reads { Reads log.old [] }
     ensures files { I.files inputs.new ≡ I.files inputs.old }
     ensures stays_open { I.is_open inputs.new ≡ I.is_open inputs.old }
     ensures asks_nothing { I.asked inputs.new ≡ I.asked inputs.old }
     ensures later { I.faults inputs.old ≤ I.faults inputs.new }
     ensures later_out { O.faults out.old ≤ O.faults out.new }
-    ensures follows { ForEachPolicy (core_form plan.core) (λ policy. FollowsLog log.old.sig policy
+    ensures follows { ForEachPolicy (core_form plan.core) (λ policy. FollowsLog log.old.sig log.old.limits policy
         (effect I.Inputs O.Sink inputs.old inputs.new out.old out.new) result) }
 {
     let Ok(mut buffer) = chunk_room(alloc) else {

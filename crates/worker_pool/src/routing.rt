@@ -1,5 +1,5 @@
 //! The time-points of a log that are complete, one after the other.
-ghost use Rattle.std.specs.Prelude.{◌≡◌, ◌^◌, ◌<◌, ◌≤◌, IfErr, IfOk, OnOk, false, true};
+ghost use Rattle.std.specs.Prelude.{◌≡◌, ◌≤◌, IfErr, IfOk, OnOk, false, true};
 ghost use Rattle.mon_outside.specs.Sink.{AppendsFront};
 ghost use Rattle.log_reader.specs.Progress.{read};
 ghost use Rattle.log_reader.specs.Readers.{ForEach, progress};
@@ -62,7 +62,6 @@ fn route_next<R: Wait, O: Sink, G: Gate>(
     batch: &mut usize,
 ) -> Result<bool, Stop>
     requires works { reader.old.is_broken ≡ false }
-    requires few { reader.old.limits.points < 2 ^ 63 }
     requires suits { Suits driver.old schedule.old }
     requires seated { HaveCells context.now.cells schedule.old }
     requires routed { schedule.old.routed ≡ reader.old.given }
@@ -104,7 +103,6 @@ fn route_points<R: Wait, O: Sink, G: Gate>(
     out: &mut O,
 ) -> Result<(), Stop>
     requires works { reader.old.is_broken ≡ false }
-    requires few { reader.old.limits.points < 2 ^ 63 }
     requires suits { Suits driver.old schedule.old }
     requires seated { HaveCells context.now.cells schedule.old }
     requires routed { schedule.old.routed ≡ reader.old.given }
@@ -148,7 +146,6 @@ pub(crate) fn route_complete<R: Wait, O: Sink, G: Gate>(
     out: &mut O,
 ) -> Result<(), Stop>
     requires works { reader.old.is_broken ≡ false }
-    requires few { reader.old.limits.points < 2 ^ 63 }
     requires suits { Suits driver.old schedule.old }
     requires seated { HaveCells context.now.cells schedule.old }
     requires routed { schedule.old.routed ≡ reader.old.given }

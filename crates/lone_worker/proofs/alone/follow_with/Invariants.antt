@@ -15,6 +15,7 @@ invariant-chunks g l = record {
   comes : (core : CoreForm) → HasTakenNone core l.fn.worker.monitor l.fn.worker.writer.tally → HasComeAlone (record {
     core = core;
     sig = l.fn.log.sig;
+    limits = l.fn.log.limits;
     before = inputs_view g.I.Inputs l.fn.inputs;
     old = sink_view g.O.Sink l.fn.out;
   }) (alone_state g.I.Inputs g.O.Sink l.worker.monitor l.worker.writer.tally l.log l.inputs l.out);

@@ -1,19 +1,12 @@
-use Rattle.std.proofs.Common.{◌≡◌, ◌∙◌, ◌-◌, ◌^◌, ap, arith, sym}
+use Rattle.std.proofs.Common.{◌∙◌, ap, arith, sym}
 use Rattle.mon_outside.specs.Views.{inputs_view, sink_view}
 use Rattle.log_reader.specs.Readers.{Reader}
-use Rattle.log_reader.specs.declared.limits.Limits.{Limits}
 use Rattle.lone_worker.proofs.ChunkLemmas.{finished, lines_stop, one_more_chunk, settles}
 use Rattle.lone_worker.proofs.ReadStops.{read_stopped}
 use Rattle.lone_worker.proofs.alone.take_chunk.Goals as goal
 
 pub take_complete-requires-clause-works : goal.take_complete-requires-clause-works
 take_complete-requires-clause-works g c = c.requires.under_way.1.works
-
-pub take_complete-requires-clause-few : goal.take_complete-requires-clause-few
-take_complete-requires-clause-few g c =
-    let course = c.requires.under_way.1.course in
-    let most : c.args.log.now.limits.points ≡ 2 ^ 32 - 1 = ap (λ (l : Limits). l.points) course.limits_is in
-    omega (arith, most)
 
 pub take_complete-requires-clause-under_way : goal.take_complete-requires-clause-under_way
 take_complete-requires-clause-under_way g c =

@@ -52,8 +52,7 @@ returns-then-not-branch-clause-front g c core bytes start reads so_far =
     let here = c.points.invariant.so_far core bytes start reads so_far in
     let next = c.in_ok-take_next.ensures in
     let is = given_on c.args.reader.now c.points.reader c.take_next.new.reader c.points.invariant.reader next.reader in
-    let limit = ap (λ (r : Reader). r.limits.points) is in
-    rw (same_reading c.args.reader.now c.take_next.new.reader bytes is) at (front_of_all (rw limit c.requires.few)
+    rw (same_reading c.args.reader.now c.take_next.new.reader bytes is) at (front_of_all
     (next.none (ap Ok c.if-not-branch.true) core bytes start here.0 here.1))
 
 pub points-preserved : goal.points-preserved

@@ -1,4 +1,4 @@
-use Rattle.std.proofs.Common.{◌≡◌, ◌+◌, ◌-◌, ◌≤◌, vec_len}
+use Rattle.std.proofs.Common.{◌≡◌, ◌+◌, ◌-◌, ◌≤◌, length, max, vec_len}
 use Rattle.mon_outside.specs.Inputs.{GaveBytes}
 use Rattle.mon_outside.proofs.loading.read_through.Given as goal
 
@@ -8,6 +8,7 @@ invariant-reads g l = record {
   stays_open : g.I.Inputs.is_open l.inputs ≡ g.I.Inputs.is_open l.initial.inputs;
   asks_nothing : g.I.Inputs.asked l.inputs ≡ g.I.Inputs.asked l.initial.inputs;
   gave : GaveBytes (g.I.Inputs.rest l.initial.inputs) (g.I.Inputs.rest l.inputs) l.initial.bytes.items l.bytes.items;
+  few : length l.bytes.items ≤ max l.limit (length l.initial.bytes.items);
   later : g.I.Inputs.faults l.initial.inputs ≤ g.I.Inputs.faults l.inputs;
 }
 

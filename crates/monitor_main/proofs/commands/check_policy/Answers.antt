@@ -11,5 +11,5 @@ returns-in_err-checked g c =
 pub returns : goal.returns
 returns g c =
     let s = c.in_ok-checked.ensures in
-    let e = c.accept.ensures in
+    let e = c.tell_columns.ensures in
     check_comes s.ok s.files s.later e.ok e.fault e.front e.later

@@ -13,7 +13,4 @@ unfolding monitorable_line
 returns-clause-columns c = refl
 
 pub returns-clause-limits : goal.returns-clause-limits
-returns-clause-limits c = (refl, refl)
-
-pub returns-clause-threads : goal.returns-clause-threads
-returns-clause-threads c = (refl, refl)
+returns-clause-limits c = refl

@@ -9,4 +9,4 @@ returns-in_err-command g c =
     rw p.1 (words_refused c.in_err-command.field-0.0 p.0 p.2 (λ e. c.in_err-command.ensures.usage (ap Err e)))
 
 pub returns : goal.returns
-returns g c = obeyed c.in_ok-command.ensures.given c.obey.ensures
+returns g c = obeyed c.in_ok-command.ensures.given c.carry_out.ensures

@@ -8,4 +8,5 @@ returns c =
     let old = c.args.state in
     rw c.in-Next.is
     (next_resumed c.args.times.now old c.in_ok-resumed.resumed c.in-Next.data
-    (c.in_ok-resumed.ensures ∙ ap (λ xs. next_of old.interval old.columns xs c.in-Next.data) c.from_place-next.ensures))
+    (c.in_ok-resumed.ensures.state
+    ∙ ap (λ xs. next_of old.interval old.columns xs c.in-Next.data) c.from_place-next.ensures))

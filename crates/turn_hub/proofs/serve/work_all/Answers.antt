@@ -4,7 +4,7 @@ use Rattle.turn_hub.proofs.serve.work_all.Goals as goal
 
 pub loop-item-init : goal.loop-item-init
 loop-item-init g c =
-    let out = c.in_ok-items.ensures {u = tt} in
+    let out = c.take_items-items.ensures in
     let kept = out.cell in
     let before = c.args.cell.now in
     let whole = sym out.items ∙ sym c.into_iter-item-iterator.ensures.into_iter_gives.0 in (

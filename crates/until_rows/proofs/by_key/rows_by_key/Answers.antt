@@ -10,19 +10,23 @@ use Rattle.until_rows.proofs.ByKeyLemmas.{each_of, list_next, listed_if_kept}
 use Rattle.until_rows.proofs.by_key.rows_by_key.Goals as goal
 
 pub loop-row-preserved : goal.loop-row-preserved
-loop-row-preserved c = λ u kept.
+loop-row-preserved c =
     let rest : c.loop-row.row-iterator ≡ (c.in-Some.row.now, c.in-Some.field-0-1.now) ∷ c.next.new.self =
     search rules in
     let right = c.args.right.now in
-    list_next c.in-Some.row.now u (is_listed right c.loop-row.by_key u) (is_listed right c.add.new.self u)
-    (list_any (λ (e : List Value × List Entry). eq_by_cmp row_cmp u e.0) c.next.new.self)
-    (c.in_ok-add.ensures u)
-    (sym (ap (λ es. is_listed right c.loop-row.by_key u
-    || list_any (λ (e : List Value × List Entry). eq_by_cmp row_cmp u e.0) es) rest)
-    ∙ c.loop-row.invariant u kept)
+    record {
+      listed = λ u kept. list_next c.in-Some.row.now u (is_listed right c.loop-row.by_key u)
+          (is_listed right c.add.new.self u)
+          (list_any (λ (e : List Value × List Entry). eq_by_cmp row_cmp u e.0) c.next.new.self)
+          (c.in_ok-add.ensures.listed u)
+          (sym (ap (λ es. is_listed right c.loop-row.by_key u
+          || list_any (λ (e : List Value × List Entry). eq_by_cmp row_cmp u e.0) es) rest)
+          ∙ c.loop-row.invariant.listed u kept);
+      keys = c.in_ok-add.ensures.keys ∙ c.loop-row.invariant.keys;
+    }
 
-pub returns-then-is_empty : goal.returns-then-is_empty
-returns-then-is_empty c = λ u.
+pub returns-then-is_empty-clause-listed : goal.returns-then-is_empty-clause-listed
+returns-then-is_empty-clause-listed c = λ u.
     let by_key = c.new-by_key.result in
     let right = c.args.right.now in
     each_of (is_listed right by_key u) (list_for c.args.rows.now.entries u)
@@ -30,12 +34,12 @@ returns-then-is_empty c = λ u.
     (ap (λ (columns : List ℕ). nat_eq (length columns) 0) (sym c.columns.ensures)
     ∙ sym c.is_empty.ensures ∙ c.if-is_empty.true))
 
-pub returns : goal.returns
-returns c = λ u.
+pub returns-clause-listed : goal.returns-clause-listed
+returns-clause-listed c = λ u.
     let end : c.loop-row.row-iterator ≡ [] = search rules in
     let right = c.args.right.now in
     listed_if_kept c.args.rows.now.entries u (is_listed right c.loop-row.by_key u)
     (λ kept. sym (or-false (is_listed right c.loop-row.by_key u))
     ∙ sym (ap (λ es. is_listed right c.loop-row.by_key u
     || list_any (λ (e : List Value × List Entry). eq_by_cmp row_cmp u e.0) es) end)
-    ∙ c.loop-row.invariant u kept)
+    ∙ c.loop-row.invariant.listed u kept)

@@ -7,5 +7,8 @@ use Rattle.until_rows.proofs.by_key.rows_by_key.Given as goal
 
 -- the rows that are left to list aren't listed yet
 abbrev pub invariant-loop-row : goal.invariant-loop-row
-invariant-loop-row l = (u : List Value) → list_any (λ e. eq_by_cmp row_cmp u e.0) l.rows.entries ≡ true →
-    (is_listed l.right l.by_key u || list_any (λ e. eq_by_cmp row_cmp u e.0) l.row-iterator) ≡ true
+invariant-loop-row l = record {
+  listed : (u : List Value) → list_any (λ e. eq_by_cmp row_cmp u e.0) l.rows.entries ≡ true →
+      (is_listed l.right l.by_key u || list_any (λ e. eq_by_cmp row_cmp u e.0) l.row-iterator) ≡ true;
+  keys : l.by_key.columns ≡ l.keys;
+}

@@ -17,8 +17,9 @@ loop-row-preserved c =
           ∙ ap (λ rows. cond (has_row rows u) (from_place c.args.next old) old) (sym here)
           ∙ c.loop-row.invariant.entries u;
       some = λ old. c.forget_row-gone.ensures.some (c.loop-row.invariant.some old);
-      listed = λ old. c.unlist.ensures c.forget_row-gone.new.rows.entries c.forget_row-gone.ensures.gone
+      listed = λ old. c.unlist.ensures.listed c.forget_row-gone.new.rows.entries c.forget_row-gone.ensures.gone
           (listed_thinned c.args.right.now c.loop-row.by_key c.args.next (is_at (row_cmp c.in-Some.row))
           c.loop-row.rows.entries c.forget_row-gone.new.rows.entries c.forget_row-gone.ensures.entries
           (c.loop-row.invariant.listed old));
+      keys = c.unlist.ensures.keys ∙ c.loop-row.invariant.keys;
     }

@@ -13,4 +13,5 @@ invariant-loop-row l = record {
       (list_for l.fn.rows.entries u);
   some : NoneEmpty l.fn.rows.entries → NoneEmpty l.rows.entries;
   listed : Listed l.right l.fn.by_key l.fn.rows.entries → Listed l.right l.by_key l.rows.entries;
+  keys : l.by_key.columns ≡ l.fn.by_key.columns;
 }

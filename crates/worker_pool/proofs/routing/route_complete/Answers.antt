@@ -36,5 +36,5 @@ returns-clause-stops g c =
 
 pub returns-clause-front : goal.returns-clause-front
 returns-clause-front g c =
-    routed_front c.in_ok-route_points.ensures.ok c.requires.few
+    routed_front c.in_ok-route_points.ensures.ok
     (falls_either c.drain.result _ _ _ _ _ _ c.drain.ensures.ok c.drain.ensures.err)

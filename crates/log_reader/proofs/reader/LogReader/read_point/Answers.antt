@@ -1,4 +1,4 @@
-use Rattle.std.proofs.Common.{◌≡◌, false, refl, sym, ap, ◌∙◌}
+use Rattle.std.proofs.Common.{◌≡◌, false, refl, sym, ap, ◌∙◌, arith}
 use Rattle.log_reader.specs.{Readers.Reader, Soundness.is_wanting}
 use Rattle.log_reader.proofs.{Fewness.sound_few, Waiting.waits_little}
 use Rattle.log_reader.proofs.ReaderLemmas.{answers, more_is, on_ok, reads_on}
@@ -38,6 +38,16 @@ returns-then-is_more-clause-few c =
     (sound_on inside.sig.now inside.limits inside.is_ended inside.kept _ _ _ _ (c.self.invariant.sound works)
     (c.read-answer.ensures.stands fine) (c.read-answer.ensures.within fine)))
 
+pub returns-then-is_more-clause-narrow : goal.returns-then-is_more-clause-narrow
+returns-then-is_more-clause-narrow c =
+    let inside = c.self.inside in
+    let works : inside.is_broken ≡ false = ap (λ (r : Reader). r.is_broken) c.self.view_is ∙ c.requires in
+    on_ok _ c.read-answer.result (λ fine.
+    let few = sound_few inside.sig.now inside.limits inside.is_ended inside.kept _ _
+    (sound_on inside.sig.now inside.limits inside.is_ended inside.kept _ _ _ _ (c.self.invariant.sound works)
+    (c.read-answer.ensures.stands fine) (c.read-answer.ensures.within fine)) in
+    omega (arith, few))
+
 pub returns-then-is_more-clause-held : goal.returns-then-is_more-clause-held
 returns-then-is_more-clause-held c = λ more.
     rw c.forget.ensures (waits_little c.self.inside.limits c.self.inside.kept _ (c.read-answer.ensures.waits more))
@@ -55,3 +65,13 @@ returns-else-is_more-clause-few c =
     on_ok _ c.read-answer.result (λ fine. sound_few inside.sig.now inside.limits inside.is_ended inside.kept _ _
     (sound_on inside.sig.now inside.limits inside.is_ended inside.kept _ _ _ _ (c.self.invariant.sound works)
     (c.read-answer.ensures.stands fine) (c.read-answer.ensures.within fine)))
+
+pub returns-else-is_more-clause-narrow : goal.returns-else-is_more-clause-narrow
+returns-else-is_more-clause-narrow c =
+    let inside = c.self.inside in
+    let works : inside.is_broken ≡ false = ap (λ (r : Reader). r.is_broken) c.self.view_is ∙ c.requires in
+    on_ok _ c.read-answer.result (λ fine.
+    let few = sound_few inside.sig.now inside.limits inside.is_ended inside.kept _ _
+    (sound_on inside.sig.now inside.limits inside.is_ended inside.kept _ _ _ _ (c.self.invariant.sound works)
+    (c.read-answer.ensures.stands fine) (c.read-answer.ensures.within fine)) in
+    omega (arith, few))

@@ -21,11 +21,14 @@ returns-in-Broken-clause-did c =
     let s = c.in-Broken.ensures.did in
     (moves_none c.args.self.now _ refl s.2, s.0)
 
-pub collect-requires-clause-taken : goal.collect-requires-clause-taken
-collect-requires-clause-taken c =
+pub collect-requires : goal.collect-requires
+collect-requires c =
     let d = c.args.self.now in
-    taken_back d (record { router = d.router; main = c.swap.new.main }) c.args.worker c.in-Back.given
-    c.in-Back.outs.items (rw c.new.ensures.items at c.in-Back.ensures.did.1) c.requires.stands.0 c.requires.stands.1
+    record {
+      taken = taken_back d (record { router = d.router; main = c.swap.new.main }) c.args.worker c.in-Back.given
+          c.in-Back.outs.items (rw c.new.ensures.items at c.in-Back.ensures.did.1) c.requires.stands.0
+          c.requires.stands.1;
+    }
 
 pub returns-in_ok-collect-in-Back-clause-did : goal.returns-in_ok-collect-in-Back-clause-did
 returns-in_ok-collect-in-Back-clause-did c =

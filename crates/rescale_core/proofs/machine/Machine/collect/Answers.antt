@@ -13,17 +13,19 @@ returns-then-taken-eq0 c =
     machine_uncollected c.args.self.now _ c.args.worker c.index_mut-cell.result.now _ (omega (arith, c.len.ensures))
     c.index_mut-cell.ensures.value refl refl refl refl none refl refl (c.replace-taken.ensures.after ∙ sym none) refl
 
-pub collect-requires-clause-taken : goal.collect-requires-clause-taken
-collect-requires-clause-taken c =
-    let is = c.requires.2 in (
-      c.requires.1,
-      is.router,
-      cell_has_taken c.requires.1 c.args.worker c.index_mut-cell.result.now c.replace-taken.result
-          c.replace-outs.result.items
-          (cell_at is c.args.worker c.index_mut-cell.result.now (omega (arith, c.len.ensures))
-          c.index_mut-cell.ensures.value)
-          c.replace-taken.ensures.value (ap (λ v. v.items) c.replace-outs.ensures.value),
-    )
+pub collect-requires : goal.collect-requires
+collect-requires c =
+    let is = c.requires.2 in record {
+      taken = (
+        c.requires.1,
+        is.router,
+        cell_has_taken c.requires.1 c.args.worker c.index_mut-cell.result.now c.replace-taken.result
+            c.replace-outs.result.items
+            (cell_at is c.args.worker c.index_mut-cell.result.now (omega (arith, c.len.ensures))
+            c.index_mut-cell.ensures.value)
+            c.replace-taken.ensures.value (ap (λ v. v.items) c.replace-outs.ensures.value),
+      );
+    }
 
 pub returns : goal.returns
 returns c =

@@ -24,5 +24,5 @@ returns-clause-listed c =
       start = start_of c.args.negated c.args.place c.args.starts.now (part c.args.right.now c.args.left.now u);
       ts = c.args.ts;
     })
-    k.rows.entries c.add_rows.new.rows.entries c.in_ok-list_rows.ensures
+    k.rows.entries c.add_rows.new.rows.entries c.in_ok-list_rows.ensures.listed
     c.in_ok-add_rows.ensures.entries (rw (← c.self.view_is) at c.requires.listed)

@@ -28,6 +28,7 @@ invariant-chunks g l = record {
   comes : (core : CoreForm) → HasReadNothing core l.fn.self.driver.now → HasCome (record {
     core = core;
     sig = l.fn.self.log.now.sig;
+    limits = l.fn.self.log.now.limits;
     plan = l.fn.self.schedule.now.changes.items;
     before = inputs_view g.I.Inputs l.fn.self.inputs.now;
     old = sink_view g.O.Sink l.fn.self.out.now;

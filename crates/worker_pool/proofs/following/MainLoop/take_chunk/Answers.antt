@@ -1,7 +1,6 @@
-use Rattle.std.proofs.Common.{◌≡◌, ◌∙◌, ◌-◌, ◌^◌, ap, arith, sym}
+use Rattle.std.proofs.Common.{◌∙◌, ap, arith, sym}
 use Rattle.mon_outside.specs.Views.{inputs_view, sink_view}
 use Rattle.log_reader.specs.Readers.{Reader}
-use Rattle.log_reader.specs.declared.limits.Limits.{Limits}
 use Rattle.lone_worker.proofs.ChunkLemmas.{finished, lines_stop, one_more_chunk, settles}
 use Rattle.lone_worker.proofs.ReadStops.{read_stopped}
 use Rattle.worker_pool.proofs.FollowLemmas.{plan_read}
@@ -9,12 +8,6 @@ use Rattle.worker_pool.proofs.following.MainLoop.take_chunk.Goals as goal
 
 pub route_complete-requires-clause-works : goal.route_complete-requires-clause-works
 route_complete-requires-clause-works g c = c.requires.under_way.1.works
-
-pub route_complete-requires-clause-few : goal.route_complete-requires-clause-few
-route_complete-requires-clause-few g c =
-    let course = c.requires.under_way.1.course in
-    let most : c.args.self.now.log.now.limits.points ≡ 2 ^ 32 - 1 = ap (λ (l : Limits). l.points) course.limits_is in
-    omega (arith, most)
 
 pub route_complete-requires-clause-routed : goal.route_complete-requires-clause-routed
 route_complete-requires-clause-routed g c = c.requires.under_way.1.routed
