@@ -16,7 +16,7 @@ pub struct LoopContext<'o, R, W: Work, G> {
     pub gate: &'o G,
     pub bells: &'o Bells,
     pub cells: u32,
-    ghost seated: { cells ≤ cell_count hub.now },
+    pub ghost seated: { cells ≤ cell_count hub.now },
 }
 
 impl<R: Wait, W: Work, G> LoopContext<'_, R, W, G> {
