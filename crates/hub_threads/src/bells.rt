@@ -1,5 +1,6 @@
 //! The bells of main and of its threads.
-ghost use Rattle.std.specs.Prelude.{◌≡◌, IfOk, length};
+ghost use Rattle.std.specs.Prelude.{◌≡◌, IfOk};
+ghost use Rattle.hub_threads.specs.Bells.{bell_count};
 
 use crate::bell::Bell;
 use std::alloc::{AllocError, Global};
@@ -14,7 +15,7 @@ pub struct Bells {
 impl Bells {
     /// Bells for so many threads.
     pub(crate) fn new(alloc: Global, count: usize) -> Result<Self, AllocError>
-        ensures { IfOk result (λ bells. length bells.threads.items ≡ count) }
+        ensures { IfOk result (λ bells. bell_count bells ≡ count) }
     {
         let mut threads = Vec::with_capacity(alloc, count)?;
         for _ in 0..count {

@@ -1,6 +1,7 @@
 //! How hands are dealt to threads.
 ghost use Rattle.std.specs.Prelude.{◌≡◌, ◌<◌, [], IfOk, length};
 ghost use Rattle.turn_hub.specs.declared.hub.Hub.{Hub};
+ghost use Rattle.hub_threads.specs.Bells.{bell_count};
 ghost use Rattle.hub_threads.specs.Hands.{AreDealt, AreGroupsOf, AreHandsOf, cells_of, dealt, group_cells};
 
 use crate::bells::Bells;
@@ -75,6 +76,7 @@ pub fn deal_with_bells<W: Work>(
         (hub : Hub W W.Item W.Out W.Seed) → AreHandsOf hub hands.items → AreGroupsOf hub r.0.items) }
     ensures own { IfOk result (λ r.
         (hub : Hub W W.Item W.Out W.Seed) → AreHandsOf hub hands.items → AreHandsOf hub r.1.items) }
+    ensures bells { IfOk result (λ r. bell_count r.2 ≡ length r.0.items) }
 {
     let (groups, own) = deal(alloc, hands, threads)?;
     let bells = Bells::new(alloc, groups.len())?;

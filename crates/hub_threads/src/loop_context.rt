@@ -1,10 +1,13 @@
 //! What main's loop is lent and does not change.
+ghost use Rattle.std.specs.Prelude.{◌≤◌};
+ghost use Rattle.turn_hub.specs.Ends.{cell_count};
+
 use crate::bells::Bells;
 use std::alloc::Global;
 use std::sync::Wait;
 use turn_hub::{Hub, Work};
 
-/// The hub with the number of its cells, and what main needs to wait and to serve.
+/// The hub with the number of the cells that main turns, and what main needs to wait and to serve.
 #[derive(Drop)]
 pub struct LoopContext<'o, R, W: Work, G> {
     pub rt: &'o R,
@@ -13,6 +16,7 @@ pub struct LoopContext<'o, R, W: Work, G> {
     pub gate: &'o G,
     pub bells: &'o Bells,
     pub cells: u32,
+    pub ghost seated: { cells ≤ cell_count hub.now },
 }
 
 impl<R: Wait, W: Work, G> LoopContext<'_, R, W, G> {

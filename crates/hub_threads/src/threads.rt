@@ -1,5 +1,6 @@
 //! Runs the threads beside main's task.
-ghost use Rattle.std.specs.Prelude.{◌≡◌, List};
+ghost use Rattle.std.specs.Prelude.{◌≡◌, List, length};
+ghost use Rattle.hub_threads.specs.Bells.{bell_count};
 ghost use Rattle.hub_threads.specs.Hands.{AreGroupsOf, AreHandsOf};
 ghost use Rattle.turn_hub.specs.declared.hub.Hand.{Hand};
 
@@ -56,14 +57,12 @@ where
     W::Item: Send,
     W::Out: Send,
     requires groups { AreGroupsOf context.now.hub.now groups.items }
+    requires bells { length groups.items ≡ bell_count context.now.bells.now }
     requires own { AreHandsOf context.now.hub.now own.old.items }
     ensures own { AreHandsOf context.now.hub.now own.new.items }
 {
-    let mut left = groups.into_iter();
-    for t in 0..context.bells.threads.len() {
-        let Some(hands) = left.next() else {
-            return Ok(());
-        };
+    let mut t = 0usize;
+    for hands in groups {
         start_one(
             context,
             scope,
@@ -72,6 +71,7 @@ where
             own,
             threads,
         )?;
+        t += 1;
     }
     Ok(())
 }
@@ -95,6 +95,7 @@ where
     W::Item: Send,
     W::Out: Send,
     requires groups { AreGroupsOf context.now.hub.now groups.items }
+    requires bells { length groups.items ≡ bell_count context.now.bells.now }
     requires own { AreHandsOf context.now.hub.now own.items }
     requires can { (hands : List (Hand W W.Item W.Out W.Seed))
         → AreHandsOf context.now.hub.now hands → T.can task.old hands }
@@ -109,9 +110,8 @@ where
     (answer, task)
 }
 
-/// Does main's task beside a thread for each group of hands, and ends each thread. There is to be a bell for each
-/// group, as `deal_with_bells` makes them: a group without one is let go. Main gets the hands of a thread that couldn't
-/// be started.
+/// Does main's task beside a thread for each group of hands, and ends each thread. Main gets the hands of a thread that
+/// couldn't be started.
 pub fn beside<R: Threads + Wait + Sync, W: Work + Send, G: Gate + Sync, T: MainTask<W>>(
     context: &LoopContext<'_, R, W, G>,
     groups: Vec<Vec<Hand<W>>>,
@@ -122,6 +122,7 @@ where
     W::Item: Send,
     W::Out: Send,
     requires groups { AreGroupsOf context.now.hub.now groups.items }
+    requires bells { length groups.items ≡ bell_count context.now.bells.now }
     requires own { AreHandsOf context.now.hub.now own.items }
     requires can { (hands : List (Hand W W.Item W.Out W.Seed))
         → AreHandsOf context.now.hub.now hands → T.can task.old hands }
@@ -132,6 +133,7 @@ where
         context.rt,
         move |scope|
             requires groups { AreGroupsOf context.now.hub.now groups.items }
+            requires bells { length groups.items ≡ bell_count context.now.bells.now }
             requires own { AreHandsOf context.now.hub.now own.items }
             requires can { (hands : List (Hand W W.Item W.Out W.Seed))
                 → AreHandsOf context.now.hub.now hands → T.can task.now hands }

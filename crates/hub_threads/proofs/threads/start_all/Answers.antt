@@ -1,17 +1,16 @@
-use Rattle.std.proofs.{lemmas.List.Elements.All-head, lemmas.List.Elements.All-tail}
+use Rattle.std.proofs.Common.{arith, ap, length}
+use Rattle.std.proofs.lemmas.List.Elements.{All-tail}
 use Rattle.hub_threads.specs.Hands.{AreHandsOf}
 use Rattle.hub_threads.proofs.threads.start_all.Goals as goal
 
--- the next group's hands are the hub's
-pub start_one-requires-clause-hands : goal.start_one-requires-clause-hands
-start_one-requires-clause-hands g c κs within =
-    All-head (λ h. AreHandsOf c.args.context.now.hub.now h.items) _ _
-    (rw c.in-Some.ensures.items at c.loop-t.invariant.groups)
-
--- and so are those of the groups after it
-pub loop-t-preserved : goal.loop-t-preserved
-loop-t-preserved g c = record {
-  groups = All-tail (λ h. AreHandsOf c.args.context.now.hub.now h.items) _ _
-      (rw c.in-Some.ensures.items at c.loop-t.invariant.groups);
-  own = c.start_one.ensures.own;
-}
+-- the groups behind the next one are the hub's, too, and each has its bell
+pub loop-hands-preserved : goal.loop-hands-preserved
+loop-hands-preserved g c =
+    let steps = c.in-Some.ensures.steps.0 in
+    let count = ap (λ gs. length gs) steps in
+    record {
+      groups = All-tail (λ h. AreHandsOf c.args.context.now.hub.now h.items) _ _
+          (rw steps at c.loop-hands.invariant.groups);
+      bells = omega (arith, c.loop-hands.invariant.bells, count);
+      own = c.start_one.ensures.own;
+    }
