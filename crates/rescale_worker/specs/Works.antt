@@ -28,6 +28,10 @@ ToldBy s taken gave = Told (seen s) taken gave
 abbrev pub MayBy : Seed → List Item → Type 0
 MayBy s items = May (seen s) items
 
+-- of a worker to which memory was refused nothing more is known
+abbrev pub RefusedBy : Worker → Type 0
+RefusedBy w = Unit {0}
+
 -- ---- laws
 
 -- what stands is told

@@ -98,7 +98,8 @@ impl Worker {
 }
 
 impl Work for Worker {
-    ghost use Rattle.rescale_worker.specs.Works.{MayBy, StandsBy, ToldBy, begun, may_less_by, may_none_by, tells_by};
+    ghost use Rattle.rescale_worker.specs.Works.{MayBy, RefusedBy, StandsBy, ToldBy, begun};
+    ghost use Rattle.rescale_worker.specs.Works.{may_less_by, may_none_by, tells_by};
 
     type Item = Item;
 
@@ -113,6 +114,8 @@ impl Work for Worker {
     ghost told = { ToldBy };
 
     ghost may = { MayBy };
+
+    ghost refused = { RefusedBy };
 
     ghost tells = { tells_by };
 

@@ -14,6 +14,10 @@ Told name took gave = gave ≡ took
 abbrev pub May : ℕ → List ℕ → Type 0
 May name items = Unit {0}
 
+-- of one to which memory was refused nothing more is known
+abbrev pub Refused : Echo → Type 0
+Refused w = Unit {0}
+
 -- what stands is told
 pub tells : (name : ℕ) (took gave : List ℕ) (w : Echo) → StandsFor name took gave w → Told name took gave
 tells name took gave w s = s.0

@@ -1,5 +1,5 @@
 //! A work that gives back what it takes, and may run out of memory.
-ghost use Rattle.std.specs.Prelude.{◌≡◌, ◌++◌, List, [], ◌∷◌, IfOk};
+ghost use Rattle.std.specs.Prelude.{◌≡◌, ◌++◌, List, [], ◌∷◌, IfErr, IfOk};
 ghost use Rattle.turn_hub.specs.Work.{Leads, Takes};
 
 use std::alloc::{AllocError, Global};
@@ -15,7 +15,7 @@ pub struct Echo {
 }
 
 impl Work for Echo {
-    ghost use Rattle.thread_cases.specs.Echoes.{May, StandsFor, Told, less, none, tells};
+    ghost use Rattle.thread_cases.specs.Echoes.{May, Refused, StandsFor, Told, less, none, tells};
 
     type Item = u32;
 
@@ -30,6 +30,8 @@ impl Work for Echo {
     ghost told = { Told };
 
     ghost may = { May };
+
+    ghost refused = { Refused };
 
     ghost tells = { tells };
 

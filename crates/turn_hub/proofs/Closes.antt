@@ -8,10 +8,11 @@ use Rattle.turn_hub.specs.Rule.{Ruled}
 use Rattle.turn_hub.specs.Ends.{AllMine, AllHaveCells, HaveWorks, StandEach}
 use Rattle.turn_hub.proofs.Keeps.{there}
 
-module _ {W S I O : Type 0} (stands : S → List I → List O → W → Type 0) (may : S → List I → Type 0) where
+module _ {W S I O : Type 0} (stands : S → List I → List O → W → Type 0) (may : S → List I → Type 0)
+    (refused : W → Type 0) where
   -- each slot has the cell of its line, and the works of the slots stand for the lines
   pub settled : (words : List ℕ) (slots : List (Option (Cell W I O))) (id : ℕ) (v : View W S I O) → id ≡ 0
-      → v.has ≡ None → AllMine v → Final (Seen (Ruled stands may) id v) words slots
+      → v.has ≡ None → AllMine v → Final (Seen (Ruled stands may refused) id v) words slots
       → AllHaveCells slots × ((works : List W) → HaveWorks slots works → StandEach stands v.lines works)
   settled words slots id v is_first nothing mine f =
       let r = f.1.0 in

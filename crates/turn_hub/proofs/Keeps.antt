@@ -40,19 +40,20 @@ module _ {W S I O : Type 0} where
       → (o : Out views k) → (o.1 ≡ v → ⊥) → Out (set views id w) k
   still_out views id v w k seated o other = grind (arith, set_else, some-injective)
 
-module _ {W S I O : Type 0} (stands : S → List I → List O → W → Type 0) (may : S → List I → Type 0) where
+module _ {W S I O : Type 0} (stands : S → List I → List O → W → Type 0) (may : S → List I → Type 0)
+    (refused : W → Type 0) where
   -- a word that was written is read
-  pub same_word : (s : State (Option (Cell W I O)) (View W S I O)) (k n : ℕ) → Ruled stands may s → k < length s.homes
-      → slice_index (set s.words k n) k ≡ n
+  pub same_word : (s : State (Option (Cell W I O)) (View W S I O)) (k n : ℕ) → Ruled stands may refused s
+      → k < length s.homes → slice_index (set s.words k n) k ≡ n
   same_word s k n r near = get_or-set_same s.words k n 0 (omega (arith, r.wide))
 
   -- the seat id has no cell and gets another view, and what main knows stays
-  pub renewed : (s : State (Option (Cell W I O)) (View W S I O)) (r : Ruled stands may s) (id : ℕ)
+  pub renewed : (s : State (Option (Cell W I O)) (View W S I O)) (r : Ruled stands may refused s) (id : ℕ)
       (v w main' : View W S I O) → get_elem? s.views id ≡ some v → v.has ≡ None → w.has ≡ None
       → ((q : ℕ) → w.number ≡ Some q → v.number ≡ Some q) → get_elem? (set s.views id w) 0 ≡ some main'
       → (main'.number ≡ None) × (main'.lines ≡ r.main.lines) × (main'.made ≡ r.main.made)
       × (main'.has ≡ r.main.has) × (r.main.has ≢ None → main'.cell ≡ r.main.cell)
-      → Ruled stands may record { words = s.words; homes = s.homes; views = set s.views id w }
+      → Ruled stands may refused record { words = s.words; homes = s.homes; views = set s.views id w }
   renewed s r id v w main' seated none_held none_left number first like = record {
     main = main';
     first = first;
@@ -68,6 +69,7 @@ module _ {W S I O : Type 0} (stands : S → List I → List O → W → Type 0) 
           mine = ok.mine;
           ready = λ z. ⊎_map (λ t. t) (λ t. (rw like.3 t.0, like.4 t.0 ∙ t.1)) (ok.ready z);
           due = λ one. ⊎_map (λ t. t) (λ o. still_out s.views id v w k seated o (grind arith)) (ok.due one);
+          marked = ok.marked;
         };
     each_hand = λ j u k e num. let o = was s.views id v w seated number j u k e num in
         record {
@@ -80,7 +82,7 @@ module _ {W S I O : Type 0} (stands : S → List I → List O → W → Type 0) 
   }
 
   -- the cell k and the seat id move, and what main knows of the others stays
-  pub record Moved (s : State (Option (Cell W I O)) (View W S I O)) (r : Ruled stands may s) (k n id : ℕ)
+  pub record Moved (s : State (Option (Cell W I O)) (View W S I O)) (r : Ruled stands may refused s) (k n id : ℕ)
       (home : maybe.Option (Option (Cell W I O))) (v w main' : View W S I O) (l : Line S I O) : Type 0 where
     pub seated : get_elem? s.views id ≡ some v
     pub near : k < length s.homes
@@ -89,7 +91,7 @@ module _ {W S I O : Type 0} (stands : S → List I → List O → W → Type 0) 
     pub number : (q : ℕ) → w.number ≡ Some q → v.number ≡ Some q
     pub lines : (q : ℕ) → q ≢ k → get_elem? main'.lines q ≡ get_elem? r.main.lines q
     pub line : get_elem? main'.lines k ≡ some l
-    pub here : CellOk stands may (set s.homes k home) (set s.views id w) main' k n l
+    pub here : CellOk stands may refused (set s.homes k home) (set s.views id w) main' k n l
     pub has : (c : Cell W I O) → main'.has ≡ Some c
         → Has stands (set s.words k n) main'.lines main'.cell 0 c (Ready stands)
     pub others : (q : ℕ) → q ≢ k → r.main.has ≢ None → r.main.cell ≡ q → (main'.has ≢ None) × (main'.cell ≡ q)
@@ -99,10 +101,10 @@ module _ {W S I O : Type 0} (stands : S → List I → List O → W → Type 0) 
     pub alone : (j : ℕ) (u : View W S I O) (c : Cell W I O) → j ≢ id → get_elem? s.views j ≡ some u
         → u.number ≡ Some k → u.has ≡ Some c → ⊥
 
-  pub moved : (s : State (Option (Cell W I O)) (View W S I O)) (r : Ruled stands may s) (k n id : ℕ)
+  pub moved : (s : State (Option (Cell W I O)) (View W S I O)) (r : Ruled stands may refused s) (k n id : ℕ)
       (home : maybe.Option (Option (Cell W I O))) (v w main' : View W S I O) (l : Line S I O)
-      → Moved s r k n id home v w main' l
-      → Ruled stands may record { words = set s.words k n; homes = set s.homes k home; views = set s.views id w }
+      → Moved s r k n id home v w main' l → Ruled stands may refused
+      record { words = set s.words k n; homes = set s.homes k home; views = set s.views id w }
   moved s r k n id home v w main' l m = record {
     main = main';
     first = m.first;
@@ -120,6 +122,7 @@ module _ {W S I O : Type 0} (stands : S → List I → List O → W → Type 0) 
           ready = λ z. ⊎_map (λ t. (t.0, grind (arith, set_else), t.2)) (λ t. grind arith) (ok.ready z);
           due = λ z. ⊎_map (λ t. (t.0, grind (arith, set_else), t.2))
               (λ o. still_out s.views id v w q m.seated o (grind arith)) (ok.due z);
+          marked = λ z. let t = ok.marked z in (t.0, grind (arith, set_else), t.2);
         });
     each_hand = λ j u q e num. let o = was s.views id v w m.seated m.number j u q e num in
         record {
@@ -136,7 +139,7 @@ module _ {W S I O : Type 0} (stands : S → List I → List O → W → Type 0) 
         was s.views id v w m.seated m.number j y q f num' in r.once i j a.0 b.0 q a.1 b.1 a.2 b.2;
   }
 
-  module _ (s : State (Option (Cell W I O)) (View W S I O)) (r : Ruled stands may s) (k : ℕ)
+  module _ (s : State (Option (Cell W I O)) (View W S I O)) (r : Ruled stands may refused s) (k : ℕ)
       (near : k < length s.homes) (l : Line S I O) (line : get_elem? r.main.lines k ≡ some l) where
     new_first : (w : View W S I O) → get_elem? (set s.views 0 w) 0 ≡ some w
     new_first w = set_here s.views 0 w (within s.views 0 r.main r.first)
@@ -146,9 +149,10 @@ module _ {W S I O : Type 0} (stands : S → List I → List O → W → Type 0) 
         → slice_index s.words k ≡ 0 → (r.main.has ≢ None → r.main.cell ≡ k)
         → (w.number ≡ None) × (w.made ≡ r.main.made) × (length w.lines ≡ length r.main.lines)
         → ((q : ℕ) → q ≢ k → get_elem? w.lines q ≡ get_elem? r.main.lines q) → get_elem? w.lines k ≡ some next
-        → CellOk stands may (set s.homes k home) (set s.views 0 w) w k n next
+        → CellOk stands may refused (set s.homes k home) (set s.views 0 w) w k n next
         → ((c : Cell W I O) → w.has ≡ Some c → (n ≡ 0) × (w.cell ≡ k) × Ready stands next c)
-        → Ruled stands may record { words = set s.words k n; homes = set s.homes k home; views = set s.views 0 w }
+        → Ruled stands may refused
+        record { words = set s.words k n; homes = set s.homes k home; views = set s.views 0 w }
     main_moves n home w next z held like lines is here has = moved s r k n 0 home r.main w w next record {
       seated = r.first;
       near = near;
@@ -166,7 +170,7 @@ module _ {W S I O : Type 0} (stands : S → List I → List O → W → Type 0) 
     }
 
   pub main_loads : (n id k : ℕ) (me : Seated W S I O) → id ≡ 0 → me.0.has ≡ None → length me.0.lines ≡ n → k < n
-      → Allows (Ruled stands may) n id me k (λ y. y) (main_looks stands (step n k 0 0 none) me)
+      → Allows (Ruled stands may refused) n id me k (λ y. y) (main_looks stands (step n k 0 0 none) me)
   main_loads n id k me is_first none_held lined near s r wide seated small =
       let is : me.0 ≡ r.main = some-injective me.0 r.main (sym seated ∙ rw is_first r.first) in
       let nothing : r.main.has ≡ None = rw (← is) none_held in
@@ -186,6 +190,7 @@ module _ {W S I O : Type 0} (stands : S → List I → List O → W → Type 0) 
               mine = o.mine;
               ready = λ _. inr ((λ e. none-some h.0 (sym e)), refl);
               due = λ one. absurd (omega arith);
+              marked = λ two. absurd (omega arith);
             } (λ c e. (z, refl, rw (same_Some h.0 c e) at h.2)),
         (((λ _. (h.0, refl, (t.0, t.1, h.2))), (λ nz. absurd (nz z)), o.known), (λ nz. absurd (nz z))),
       ))
@@ -207,7 +212,7 @@ module _ {W S I O : Type 0} (stands : S → List I → List O → W → Type 0) 
       → me ≡ (looked v k x (Some cf), (k, Some c') ∷ more) → c ≡ cf → get_elem? v.lines k ≡ some l → c'.work ≡ c.work
       → c'.outs.items ≡ [] → c'.count ≡ length c'.items.items → may l.seed (l.handed ++ c'.items.items)
       → ((new ≡ 0) × (c'.items.items ≡ [])) ⊎ ((new ≡ 1) × (c'.items.items ≢ []))
-      → Allows (Ruled stands may) n id me k (λ _. new) (λ _ m'. hands_over (step n k new 0 none) me new m')
+      → Allows (Ruled stands may refused) n id me k (λ _. new) (λ _ m'. hands_over (step n k new 0 none) me new m')
   main_stores n id k x me v more l c cf c' new is_first near holds same line work outs count allowed turn s r wide
       seated small =
       let is : me.0 ≡ r.main = some-injective me.0 r.main (sym seated ∙ rw is_first r.first) in
@@ -220,17 +225,18 @@ module _ {W S I O : Type 0} (stands : S → List I → List O → W → Type 0) 
       let held : Has stands s.words r.main.lines k 0 c (Ready stands) = rw cell at (r.has c has) in
       let stood : stands l.seed l.handed (l.back ++ c.outs.items) c'.work =
       rw (work, sym (some-injective held.0 l (sym held.1 ∙ line'))) held.3.0 in
-      let kept = main_moves s r k near' l line' new (some (Some c')) (with_line r.main k next) next held.2 (λ _. cell)
-      (r.no_hand, refl, length-set r.main.lines k next) (λ q other. set_else r.main.lines k q next other)
+      let kept = main_moves s r k near' l line' new (some (Some c')) (with_line r.main k new next) next held.2
+      (λ _. cell) (r.no_hand, refl, length-set r.main.lines k next) (λ q other. set_else r.main.lines k q next other)
       (set_here r.main.lines k next (within r.main.lines k l line')) record {
         known = grind arith;
         allowed = allowed;
         mine = λ e. eqb-true new 0 e;
         ready = λ z. inl (c', home, (grind (arith, append-nil), count, λ _. outs));
         due = λ one. inl (c', home, (l.handed, refl, stood, outs, count));
+        marked = λ two. absurd (grind arith);
       } (λ y e. absurd (none-some y e)) in
       rw (is_first, is) (
-        with_line r.main k next,
+        with_line r.main k new next,
         gives,
         tt,
         rw holds kept,

@@ -26,12 +26,13 @@ module _ {A : Type 0} where
   from_map f (x ∷ xs) zero y e = (x, refl, some-injective (f x) y e)
   from_map f (x ∷ xs) (suc k) y e = from_map f xs k y e
 
-module _ {W S I O : Type 0} (stands : S → List I → List O → W → Type 0) (may : S → List I → Type 0) where
+module _ {W S I O : Type 0} (stands : S → List I → List O → W → Type 0) (may : S → List I → Type 0)
+    (refused : W → Type 0) where
   pub opens : (seed : W → S) (works : List W) (words : List ℕ) (slots : List (Option (Cell W I O)))
       → ((s : S) → may s []) → ((k : ℕ) (w : W) → get_elem? works k ≡ some w → stands (seed w) [] [] w)
       → length words ≡ length works → ((k : ℕ) → k < length words → slice_index words k ≡ 0)
       → length slots ≡ length works → ((k : ℕ) (w : W) → get_elem? works k ≡ some w → IsFresh slots k w)
-      → Ruled stands may (opening words slots (first_view seed works))
+      → Ruled stands may refused (opening words slots (first_view seed works))
   opens seed works words slots none_may starts long zeros wide fresh =
       let homes = length-map slots some in record {
         main = first_view seed works;
@@ -49,6 +50,7 @@ module _ {W S I O : Type 0} (stands : S → List I → List O → W → Type 0) 
               mine = λ _. zero_word;
               ready = λ _. inl (f.0, at_map some slots k (Some f.0) f.1, grind arith);
               due = λ one. absurd (omega (arith, zero_word, one));
+              marked = λ two. absurd (omega (arith, zero_word, two));
             };
         each_hand = λ j v k seated num. absurd (alone j v k seated num);
         once = λ i j v w k seated _ num _. absurd (alone i v k seated num);
@@ -59,7 +61,7 @@ module _ {W S I O : Type 0} (stands : S → List I → List O → W → Type 0) 
       alone zero v k seated num = grind arith
       alone (suc j) v k seated num = grind arith
 
-  module _ (s : State (Option (Cell W I O)) (View W S I O)) (r : Ruled stands may s) where
+  module _ (s : State (Option (Cell W I O)) (View W S I O)) (r : Ruled stands may refused s) where
     -- a seat with a number is an old hand, or the new one
     split : (j : ℕ) (u : View W S I O) (k : ℕ)
         → get_elem? (set s.views 0 (one_more r.main) ++ new_hand r.main ∷ []) j ≡ some u → u.number ≡ Some k
@@ -67,7 +69,7 @@ module _ {W S I O : Type 0} (stands : S → List I → List O → W → Type 0) 
         ⊎ ((j ≡ length (set s.views 0 (one_more r.main))) × (k ≡ r.main.made) × (u.has ≡ None))
     split j u k e num = grind (arith, ⊎_map, ⊎_elim, none-some, at_set, at_end)
 
-    splits : Ruled stands may record {
+    splits : Ruled stands may refused record {
       words = s.words;
       homes = s.homes;
       views = set s.views 0 (one_more r.main) ++ new_hand r.main ∷ [];
@@ -88,6 +90,7 @@ module _ {W S I O : Type 0} (stands : S → List I → List O → W → Type 0) 
         due = λ one. ⊎_map (λ t. t)
             (λ o. let p = still_out s.views 0 r.main (one_more r.main) k r.first o (grind arith) in
             (p.0, p.1, at_longer old _ p.0 p.1 p.2, p.3, p.4)) (ok.due one);
+        marked = ok.marked;
       };
       each_hand = λ j u k e num. ⊎_elim
           (λ t. record { below = omega (arith, t.1); has = (r.each_hand j u k t.0 num).has })
@@ -98,7 +101,8 @@ module _ {W S I O : Type 0} (stands : S → List I → List O → W → Type 0) 
           let old = r.once i j u y k in grind arith;
     }
 
-  pub new_hands : (id : ℕ) (v : View W S I O) → id ≡ 0 → Splits (Ruled stands may) id v (one_more v) (new_hand v)
+  pub new_hands : (id : ℕ) (v : View W S I O) → id ≡ 0
+      → Splits (Ruled stands may refused) id v (one_more v) (new_hand v)
   new_hands id v is_first s r seated = grind (arith, some-injective, splits)
 
 -- what holds in each place holds of each

@@ -7,7 +7,7 @@ use lib.ListN.{get_elem?}
 use Rattle.atomic_table.specs.Table.{step}
 use Rattle.turn_hub.specs.declared.{view.Cell.Cell, view.Line.Line}
 use Rattle.turn_hub.specs.Steps.{Seated, looked, main_looks, IsLeft, hands_over, ReadyAt}
-use Rattle.turn_hub.specs.Answers.{LooksOnce, swapped_line}
+use Rattle.turn_hub.specs.{Words.next_turn, Answers.LooksOnce, Answers.swapped_line}
 use Rattle.turn_hub.proofs.Slots.{same_slot}
 
 -- no items, or some
@@ -15,9 +15,14 @@ pub turn_is : {A : Type 0} (xs : List A) (n g : ℕ) → g ≡ length xs → ((n
     → ((n ≡ 0) × (xs ≡ [])) ⊎ ((n ≡ 1) × (xs ≢ []))
 turn_is xs n g e = grind (arith, ⊎_map, nil_from_length, none)
 
-pub turn_same : {A : Type 0} (xs : List A) (n g : ℕ) → g ≡ length xs → ((n ≡ 0) × (g ≡ 0)) ⊎ ((n ≡ 1) × (g ≢ 0))
-    → (n == 0) ≡ (length xs == 0)
-turn_same xs n g e turn = grind (arith, nat_tests)
+pub turn_next : {A : Type 0} (xs : List A) (n g : ℕ) → g ≡ length xs → ((n ≡ 0) × (g ≡ 0)) ⊎ ((n ≡ 1) × (g ≢ 0))
+    → n ≡ next_turn xs
+turn_next [] n g e turn = grind arith
+turn_next (x ∷ xs) n g e turn = grind arith
+
+turn_same : {A : Type 0} (xs : List A) → (next_turn xs == 0) ≡ (length xs == 0)
+turn_same [] = refl
+turn_same (x ∷ xs) = grind (arith, nat_tests)
 
 module _ {W S I O : Type 0} (stands : S → List I → List O → W → Type 0) where
   -- a look that found another's word changes the look alone
@@ -31,9 +36,10 @@ module _ {W S I O : Type 0} (stands : S → List I → List O → W → Type 0) 
       → (n k a x : ℕ) (m0 me me' : Seated W S I O) (y cf c' : Cell W I O)
       → me ≡ (looked m0.0 k x (Some cf), (k, Some c') ∷ m0.1) → x ≡ 0 → y ≡ cf → hands_over (step n k a 0 none) me a me'
       → ReadyAt stands m0.0.lines k cf → (count : ℕ) (outs : List O) (items : List I) → count ≡ y.count
-      → outs ≡ y.outs.items → c'.items.items ≡ items → (a == 0) ≡ (length items == 0)
+      → outs ≡ y.outs.items → c'.items.items ≡ items → a ≡ next_turn items
       → LooksOnce m0.0 k 0 me'.0 × ((l : Line S I O) × (get_elem? m0.0.lines k ≡ some l) × (count ≡ l.last)
       × told l.seed l.handed (l.back ++ outs) × (me'.0.lines ≡ set m0.0.lines k (swapped_line l outs items)))
+      × (me'.0.left ≡ next_turn items)
   swaps told tells n k a x m0 me me' y cf c' e zero same h ready count outs items count-is outs-are items-are turn =
       let l = ready.0 in
       let outs-of : outs ≡ cf.outs.items = rw (← same) outs-are in
@@ -47,6 +53,7 @@ module _ {W S I O : Type 0} (stands : S → List I → List O → W → Type 0) 
           ready.1,
           rw (count-is, same) ready.2.1,
           rw outs-of (tells l.seed l.handed (l.back ++ cf.outs.items) cf.work ready.2.0),
-          rw (l-is, c-is, c'-is, items-are, outs-of, turn),
+          rw (l-is, c-is, c'-is, items-are, outs-of, turn, turn_same items),
         ),
+        turn,
       )

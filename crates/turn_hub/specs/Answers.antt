@@ -1,8 +1,9 @@
 -- What a swap and a serve answer, by the view before and after.
-use Rattle.std.specs.Prelude.{◌≡◌, ◌≢◌, ℕ, ◌+◌, ◌==◌, List, ◌++◌, length, slice_set}
+use Rattle.std.specs.Prelude.{◌≡◌, ◌≢◌, ℕ, ◌+◌, ◌==◌, List, ◌++◌, length, Some, slice_set}
 use mathlib.Core.Option.{some}
 use lib.ListN.{get_elem?}
-use Rattle.turn_hub.specs.Words.{main_turn, hand_turn, broken}
+use Rattle.turn_hub.specs.Words.{main_turn, hand_turn, broken, next_turn}
+use Rattle.turn_hub.specs.declared.view.Cell.{Cell}
 use Rattle.turn_hub.specs.declared.view.Line.{Line}
 use Rattle.turn_hub.specs.declared.view.View.{View}
 use Rattle.turn_hub.specs.declared.hub.Swap.{Swap}
@@ -30,21 +31,28 @@ module _ {W S I O : Type 0} where
   abbrev pub LooksOnce : View W S I O → ℕ → ℕ → View W S I O → Type 0
   LooksOnce v k n w = (w.looks ≡ v.looks + 1) × (w.cell ≡ k) × (w.word ≡ n) × (w.made ≡ v.made)
 
-  -- What came back is told of all that was handed over before, and one line has changed. At the other answers
-  -- the items are those given, no line has changed, and main had not left the turn with itself
+  -- What came back is told of all that was handed over before, one line has changed, and the turn was left with the
+  -- hand exactly where there are items. At the other answers the items are those given, no line has changed, and main
+  -- had not left the turn with itself
   abbrev pub Swapped : (S → List I → List O → Type 0) → ℕ → List I → View W S I O → Swap I O → View W S I O → Type 0
   Swapped told k items v (Back n outs) w = LooksOnce v k main_turn w
       × ((l : Line S I O) × (get_elem? v.lines k ≡ some l) × (n ≡ l.last)
       × told l.seed l.handed (l.back ++ outs.items)
       × (w.lines ≡ slice_set v.lines k (swapped_line l outs.items items)))
+      × (w.left ≡ next_turn items)
   Swapped told k items v (NotYet same) w =
       LooksOnce v k hand_turn w × (same.items ≡ items) × (w.lines ≡ v.lines) × IsLeft v.lines k
   Swapped told k items v (Broken same) w =
       LooksOnce v k broken w × (same.items ≡ items) × (w.lines ≡ v.lines) × IsLeft v.lines k
 
-  -- The cell was given back with the word of main's turn after as many items as lay there, or was marked broken,
-  -- or it was not the hand's turn
-  abbrev pub ServedAs : View W S I O → ℕ → Served → View W S I O → Type 0
-  ServedAs v k (Worked n) w = LooksOnce v k hand_turn w × (n ≡ w.worked) × (w.left ≡ main_turn)
-  ServedAs v k NotGiven w = (w.word ≢ hand_turn) × LooksOnce v k w.word w × (w.worked ≡ v.worked) × (w.left ≡ v.left)
-  ServedAs v k Memory w = LooksOnce v k hand_turn w × (w.left ≡ broken)
+  -- the hand gave back a cell to whose work memory was refused
+  abbrev pub GaveRefused : (W → Type 0) → View W S I O → Type 0
+  GaveRefused refused v = (c : Cell W I O) × (v.gave_back ≡ Some c) × refused c.work
+
+  -- The cell was given back with the word of main's turn after as many items as lay there, or was marked broken
+  -- since memory was refused to its work, or it was not the hand's turn
+  abbrev pub ServedAs : (W → Type 0) → View W S I O → ℕ → Served → View W S I O → Type 0
+  ServedAs refused v k (Worked n) w = LooksOnce v k hand_turn w × (n ≡ w.worked) × (w.left ≡ main_turn)
+  ServedAs refused v k NotGiven w = (w.word ≢ hand_turn) × LooksOnce v k w.word w × (w.worked ≡ v.worked)
+      × (w.left ≡ v.left) × (w.gave_back ≡ v.gave_back)
+  ServedAs refused v k Memory w = LooksOnce v k hand_turn w × (w.left ≡ broken) × GaveRefused refused w

@@ -4,7 +4,7 @@ use mathlib.Core.Option.{some}
 use mathlib.Core.Option as maybe
 use lib.ListN.{get_elem?}
 use Rattle.atomic_table.specs.Table.{State}
-use Rattle.turn_hub.specs.Words.{main_turn, hand_turn}
+use Rattle.turn_hub.specs.Words.{main_turn, hand_turn, broken}
 use Rattle.turn_hub.specs.declared.view.Cell.{Cell}
 use Rattle.turn_hub.specs.declared.view.Line.{Line}
 use Rattle.turn_hub.specs.declared.view.View.{View}
@@ -37,8 +37,8 @@ module _ {W S I O : Type 0} (stands : S → List I → List O → W → Type 0) 
   abbrev pub Has : List ℕ → List (Line S I O) → ℕ → ℕ → Cell W I O → (Line S I O → Cell W I O → Type 0) → Type 0
   Has words lines k n c P = (l : Line S I O) × (get_elem? lines k ≡ some l) × (slice_index words k ≡ n) × P l c
 
-  module _ (may : S → List I → Type 0) where
-    -- The cell k, whose word is n
+  module _ (may : S → List I → Type 0) (refused : W → Type 0) where
+    -- The cell k, whose word is n. A broken one is at home, and memory was refused to its work
     pub record CellOk (homes : Homes (Cell W I O)) (views : List (View W S I O)) (main : View W S I O) (k n : ℕ)
         (l : Line S I O) : Type 0 where
       pub known : n < 3
@@ -46,6 +46,7 @@ module _ {W S I O : Type 0} (stands : S → List I → List O → W → Type 0) 
       pub mine : l.mine ≡ true → n ≡ main_turn
       pub ready : n ≡ main_turn → Rests homes k (Ready l) ⊎ ((main.has ≢ None) × (main.cell ≡ k))
       pub due : n ≡ hand_turn → Rests homes k (Due l) ⊎ Out views k
+      pub marked : n ≡ broken → Rests homes k (λ c. refused c.work)
 
     -- the hand of the cell k was made, and where it has the cell, the word is the hand's
     pub record HandOk (words : List ℕ) (main : View W S I O) (v : View W S I O) (k : ℕ) : Type 0 where

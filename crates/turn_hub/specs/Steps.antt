@@ -30,6 +30,7 @@ first_view seed works = record {
   number = None;
   worked = 0;
   left = 0;
+  gave_back = None;
   has = None;
 }
 
@@ -49,12 +50,13 @@ module _ {W S I O : Type 0} where
     number = v.number;
     worked = v.worked;
     left = v.left;
+    gave_back = v.gave_back;
     has = c;
   }
 
-  -- a hand's view once it has left its cell with the word n after m items
-  abbrev pub emptied : View W S I O → ℕ → ℕ → View W S I O
-  emptied v n m = record {
+  -- a hand's view once it has left its cell as c with the word n after m items
+  abbrev pub emptied : View W S I O → ℕ → ℕ → Cell W I O → View W S I O
+  emptied v n m c = record {
     lines = v.lines;
     made = v.made;
     looks = v.looks;
@@ -63,6 +65,7 @@ module _ {W S I O : Type 0} where
     number = v.number;
     worked = m;
     left = n;
+    gave_back = Some c;
     has = None;
   }
 
@@ -76,9 +79,9 @@ module _ {W S I O : Type 0} where
     mine = n == main_turn;
   }
 
-  -- main's view with another line of the cell k, once it has left the cell
-  abbrev pub with_line : View W S I O → ℕ → Line S I O → View W S I O
-  with_line v k l = record {
+  -- main's view with another line of the cell k, once it has left the cell with the word n
+  abbrev pub with_line : View W S I O → ℕ → ℕ → Line S I O → View W S I O
+  with_line v k n l = record {
     lines = slice_set v.lines k l;
     made = v.made;
     looks = v.looks;
@@ -86,7 +89,8 @@ module _ {W S I O : Type 0} where
     word = v.word;
     number = v.number;
     worked = v.worked;
-    left = v.left;
+    left = n;
+    gave_back = v.gave_back;
     has = None;
   }
 
@@ -101,6 +105,7 @@ module _ {W S I O : Type 0} where
     number = v.number;
     worked = v.worked;
     left = v.left;
+    gave_back = v.gave_back;
     has = v.has;
   }
 
@@ -115,6 +120,7 @@ module _ {W S I O : Type 0} where
     number = Some v.made;
     worked = 0;
     left = 0;
+    gave_back = None;
     has = None;
   }
 
@@ -133,6 +139,7 @@ module _ {W S I O : Type 0} where
     number = None;
     worked = 0;
     left = 0;
+    gave_back = None;
     has = None;
   }
 
@@ -159,13 +166,14 @@ module _ {W S I O : Type 0} where
   hand_looks stands may st m n m' =
       Looks hand_turn (λ c. Takes stands may c.work c.items.items × (c.outs.items ≡ [])) st.word m n m'
 
-  -- main's store: the line of the cell has what came back and what was handed over
+  -- main's store: the line of the cell has what came back and what was handed over, and the view the word that it left
   abbrev pub hands_over : Step (Option (Cell W I O)) → Seated W S I O → ℕ → Seated W S I O → Type 0
   hands_over st m n m' = (l : Line S I O) × (c : Cell W I O) × (c' : Cell W I O)
       × (get_elem? m.0.lines st.word ≡ some l) × (m.0.has ≡ Some c) × (m.1 ≡ (st.word, Some c') ∷ rest m.1)
-      × (m' ≡ (with_line m.0 st.word (handed_over l c c' st.first), rest m.1))
+      × (m' ≡ (with_line m.0 st.word st.first (handed_over l c c' st.first), rest m.1))
 
-  -- a hand's store: its view has the word that it left, and how many items it had found
+  -- a hand's store: its view has the word and the cell that it left, and how many items it had found
   abbrev pub gives_back : Step (Option (Cell W I O)) → Seated W S I O → ℕ → Seated W S I O → Type 0
-  gives_back st m n m' = (c : Cell W I O) × (m.0.has ≡ Some c)
-      × (m' ≡ (emptied m.0 st.first (length c.items.items), rest m.1))
+  gives_back st m n m' = (c : Cell W I O) × (c' : Cell W I O) × (m.0.has ≡ Some c)
+      × (m.1 ≡ (st.word, Some c') ∷ rest m.1)
+      × (m' ≡ (emptied m.0 st.first (length c.items.items) c', rest m.1))

@@ -1,7 +1,8 @@
 //! Laws of works, stated by the contract of a function that does nothing.
 
 ghost use Rattle.turn_hub.specs.Laws.{StandsTakes, StandsOn, LeadsNone, LeadsOn, TakesLess, TakesOn};
-ghost use Rattle.turn_hub.specs.Turns.{WordsDiffer, BrokenIsLeft, BackIsLeft, NotYetIsWorked, WorkedIsFound};
+ghost use Rattle.turn_hub.specs.Turns.{WordsDiffer, BrokenIsLeft, BackIsLeft, NotYetIsWorked};
+ghost use Rattle.turn_hub.specs.Turns.{GivenIsWorked, WorkedIsFound};
 
 use crate::work::Work;
 
@@ -15,11 +16,12 @@ pub fn takes_and_leads<W: Work>()
     ensures takes_on { TakesOn W.stands W.may }
 {}
 
-/// What a hand leaves is what a swap finds.
+/// What one side leaves is what the other side finds.
 pub fn turns_agree<W: Work>()
     ensures differ { WordsDiffer }
-    ensures broken { BrokenIsLeft W.stands W.told }
-    ensures back { BackIsLeft W.stands W.told }
-    ensures not_yet { NotYetIsWorked W.stands W.told }
-    ensures worked { WorkedIsFound W.stands W.told }
+    ensures broken { BrokenIsLeft W.told W.refused }
+    ensures back { BackIsLeft W.told W.refused }
+    ensures not_yet { NotYetIsWorked W.told W.refused }
+    ensures given { GivenIsWorked W.told W.refused }
+    ensures worked { WorkedIsFound W.told W.refused }
 {}

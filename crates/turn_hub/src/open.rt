@@ -51,7 +51,8 @@ impl<W: Work> Hub<W> {
         slots: Vec<Place<W>>,
         about: &Snapshot<Vec<W>>,
     ) -> Result<(Hub<W>, Main<W>), AllocError>
-        requires rule { Ruled W.stands W.may (opening words.now slots.items (first_view W.seed about.now.value.items)) }
+        requires rule { Ruled W.stands W.may W.refused
+            (opening words.now slots.items (first_view W.seed about.now.value.items)) }
         requires sizes { (length words.now ≡ length slots.items) × (length about.now.value.items ≡ length slots.items) }
         ensures { IfOk result (λ r. (cell_count r.0 ≡ length slots.items) × IsMainOf r.0 r.1
             × (main_view r.1 ≡ first_view W.seed about.now.value.items)) }

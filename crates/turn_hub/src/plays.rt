@@ -22,7 +22,7 @@ pub struct Turns<W> {
 }
 
 impl<W: Work> TableRule<Place<W>, Sight<W>, Snapshot<Vec<W>>> for Turns<W> {
-    ghost holds = { λ _. Ruled W.stands W.may };
+    ghost holds = { λ _. Ruled W.stands W.may W.refused };
 
     ghost first = { λ key. first_view W.seed key.value.items };
 }

@@ -1,6 +1,6 @@
 //! A hand's side: working what was handed over.
 
-ghost use Rattle.std.specs.Prelude.{◌≡◌, ◌++◌, List, [], ◌∷◌, IfOk};
+ghost use Rattle.std.specs.Prelude.{◌≡◌, ◌++◌, List, [], ◌∷◌, IfErr, IfOk};
 ghost use Rattle.turn_hub.specs.Work.{Takes, Leads};
 ghost use Rattle.turn_hub.specs.Ends.{IsHandOf, hand_cell, hand_view};
 ghost use Rattle.turn_hub.specs.Answers.{ServedAs};
@@ -26,6 +26,7 @@ fn work_one<W: Work, G: Gate>(
     ensures count { IfOk result (λ _. cell.new.count ≡ cell.old.count) }
     ensures did { IfOk result (λ _. (gave : List W.Out) × (cell.new.outs.items ≡ cell.old.outs.items ++ gave)
         × Leads W.stands W.may cell.old.work (item ∷ []) cell.new.work gave) }
+    ensures failed { IfErr result (λ _. W.refused cell.new.work) }
 {
     gate.pass(number, cell.taken);
     cell.taken = cell.taken.saturating_add(1);
@@ -52,6 +53,7 @@ fn work_all<W: Work, G: Gate>(
     ensures count { IfOk result (λ _. cell.new.count ≡ cell.old.count) }
     ensures did { IfOk result (λ _. (gave : List W.Out) × (cell.new.outs.items ≡ cell.old.outs.items ++ gave)
         × Leads W.stands W.may cell.old.work cell.old.items.items cell.new.work gave) }
+    ensures failed { IfErr result (λ _. W.refused cell.new.work) }
 {
     let items = take_items(alloc, cell);
     for item in items {
@@ -66,7 +68,7 @@ impl<W: Work> Hub<W> {
     pub fn serve<G: Gate>(&self, alloc: Global, hand: &mut Hand<W>, gate: &G) -> Served
         requires hand { IsHandOf self.now hand.old }
         ensures hand { IsHandOf self.now hand.new × (hand_cell hand.new ≡ hand_cell hand.old) }
-        ensures did { ServedAs (hand_view hand.old) (hand_cell hand.old) result (hand_view hand.new) }
+        ensures did { ServedAs W.refused (hand_view hand.old) (hand_cell hand.old) result (hand_view hand.new) }
     {
         let shared = &self.table.shared;
         let place = hand.cell as usize;

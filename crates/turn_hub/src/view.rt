@@ -46,8 +46,10 @@ pub struct View<W, S, I, O> {
     pub number: Option<u64>,
     /// A hand's: how many items lay in the cell when it last gave one back.
     pub worked: u64,
-    /// A hand's: the word that it left when it last gave the cell back.
+    /// The word that it left when it last gave a cell back.
     pub left: u64,
+    /// A hand's: the cell as it last gave it back.
+    pub gave_back: Option<Cell<W, I, O>>,
     /// The cell that it has, as it was found.
     pub has: Option<Cell<W, I, O>>,
 }

@@ -1,6 +1,6 @@
 //! What a cell does with the items that it is handed.
 
-ghost use Rattle.std.specs.Prelude.{◌≡◌, ◌++◌, List, [], ◌∷◌, IfOk};
+ghost use Rattle.std.specs.Prelude.{◌≡◌, ◌++◌, List, [], ◌∷◌, IfErr, IfOk};
 ghost use Rattle.turn_hub.specs.Work.{Takes, Leads};
 
 use std::alloc::{AllocError, Global};
@@ -28,7 +28,10 @@ pub trait Work: Drop {
     /// With this seed, these items may be handed over in this order.
     ghost may: { Self.Seed → List Self.Item → Type 0 };
 
-    /// Takes the item, and appends what it gives. After an error the value is only dropped.
+    /// This is what a work is once memory was refused to it: it is only dropped.
+    ghost refused: { Self → Type 0 };
+
+    /// Takes the item, and appends what it gives.
     fn work(
         &mut self,
         alloc: Global,
@@ -36,8 +39,9 @@ pub trait Work: Drop {
         outs: &mut Vec<Self::Out>,
     ) -> Result<(), AllocError>
         requires { Takes stands may self.old (item ∷ []) }
-        ensures { IfOk result (λ _. (gave : List Self.Out) × (outs.new.items ≡ outs.old.items ++ gave)
-            × Leads stands may self.old (item ∷ []) self.new gave) };
+        ensures did { IfOk result (λ _. (gave : List Self.Out) × (outs.new.items ≡ outs.old.items ++ gave)
+            × Leads stands may self.old (item ∷ []) self.new gave) }
+        ensures failed { IfErr result (λ _. refused self.new) };
 
     /// What stands is told.
     ghost tells: { (s : Self.Seed) (t : List Self.Item) (g : List Self.Out) (w : Self) → stands s t g w → told s t g };

@@ -25,7 +25,7 @@ work-requires c =
 
 pub returns : goal.returns
 returns c = λ w k sound is.
-    let g = c.in_ok-work.ensures in
+    let g = c.in_ok-work.ensures.did in
     let r = took w k c.args.self.now _ c.in-Some.item g.0 sound is c.in-Some.ensures.items
     c.in_ok-self.ensures g.1 (leads_seen c.args.self.now.worker (c.in-Some.item ∷ []) _ g.0 g.2) in
     (g.0, r.0, r.1)

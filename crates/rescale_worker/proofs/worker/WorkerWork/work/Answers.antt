@@ -5,8 +5,8 @@ use Rattle.rescale_worker.proofs.worker.WorkerWork.work.Goals as goal
 pub take-requires : goal.take-requires
 take-requires c = can_take c.args.self.now c.args.item (takes_seen c.args.self.now (c.args.item ∷ []) c.requires)
 
-pub returns : goal.returns
-returns c =
+pub returns-clause-did : goal.returns-clause-did
+returns-clause-did c =
     let g = c.in_ok-take.ensures in (
       g.0,
       g.1,

@@ -12,7 +12,7 @@ join_seat-requires g c =
       h.0,
       h.1,
       omega (arith, h.4, c.args.self.now.sized),
-      hands_join g.W.Work.stands g.W.Work.may main.id main.me.0 hand.id hand.me.0 m.1 h.2,
+      hands_join g.W.Work.stands g.W.Work.may g.W.Work.refused main.id main.me.0 hand.id hand.me.0 m.1 h.2,
     )
 
 pub loop-hand-preserved : goal.loop-hand-preserved

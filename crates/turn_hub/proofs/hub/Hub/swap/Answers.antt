@@ -1,5 +1,5 @@
 use Rattle.std.proofs.Common.{◌≡◌, ◌<◌, refl, ap, ◌∙◌, arith}
-use Rattle.turn_hub.proofs.Swaps.{turn_is, turn_same, looks_once, swaps}
+use Rattle.turn_hub.proofs.Swaps.{turn_is, turn_next, looks_once, swaps}
 use Rattle.turn_hub.proofs.{Keeps.main_loads, Keeps.main_stores, Slots.swapped_out}
 use Rattle.turn_hub.proofs.hub.Hub.swap.Goals as goal
 
@@ -7,7 +7,8 @@ pub load-found-requires : goal.load-found-requires
 load-found-requires g c = let m = c.requires.main in (
   m.0.0,
   rw c.args.self.now.sized m.1,
-  main_loads g.W.Work.stands g.W.Work.may _ _ c.args.number c.args.main.now.seat.me m.0.1 m.0.3 m.0.4 m.1,
+  main_loads g.W.Work.stands g.W.Work.may g.W.Work.refused _ _ c.args.number c.args.main.now.seat.me m.0.1
+      m.0.3 m.0.4 m.1,
 )
 
 pub take_cell-cell-requires-clause-has : goal.take_cell-cell-requires-clause-has
@@ -27,8 +28,8 @@ store-requires g c =
     let laid = ap (λ v. v.items) new.1 in (
       back.0 ∙ out.0 ∙ l.0 ∙ m.0.0,
       rw c.args.self.now.sized m.1,
-      main_stores g.W.Work.stands g.W.Work.may _ _ _ _ _ c.args.main.now.seat.me.0 _ may.0 c.take_cell-cell.result _ _
-          _ (back.1 ∙ out.1 ∙ l.1 ∙ m.0.1) m.1 left.1 left.0 may.1 new.0
+      main_stores g.W.Work.stands g.W.Work.may g.W.Work.refused _ _ _ _ _ c.args.main.now.seat.me.0 _ may.0
+          c.take_cell-cell.result _ _ _ (back.1 ∙ out.1 ∙ l.1 ∙ m.0.1) m.1 left.1 left.0 may.1 new.0
           (ap (λ v. v.items) new.2 ∙ c.new.ensures.items) (rw laid new.3) (rw laid may.2)
           (rw laid (turn_is c.args.items.items _ _ (c.len.ensures ∙ c.args.items.ok.0) c.turn_after-turn.ensures)),
     )
@@ -44,7 +45,7 @@ returns-clause-did g c =
     c.take_cell-cell.result p.0 c.refill-count.new.cell left.1 c.if-found-ne-MAIN_TURN.false left.0 c.store.ensures.2
     p.2 c.refill-count.result.0 c.refill-count.result.1.items c.args.items.items (ap (λ r. r.0) new.result)
     (ap (λ r. r.1.items) new.result) (ap (λ v. v.items) new.cell.1)
-    (turn_same c.args.items.items _ _ (c.len.ensures ∙ c.args.items.ok.0) c.turn_after-turn.ensures)
+    (turn_next c.args.items.items _ _ (c.len.ensures ∙ c.args.items.ok.0) c.turn_after-turn.ensures)
 
 pub returns-then-found-eq-HAND_TURN-clause-did : goal.returns-then-found-eq-HAND_TURN-clause-did
 returns-then-found-eq-HAND_TURN-clause-did g c =

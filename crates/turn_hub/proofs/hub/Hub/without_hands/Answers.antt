@@ -10,6 +10,6 @@ over-requires-clause-rule g c = let cells = c.in_ok-slots.ensures {u = tt} in le
     let zeros : c.as_slice.result.now ≡ replicate n 0 =
     c.as_slice.ensures.value ∙ (c.in_ok-words.ensures {u = tt}).items_if_clones_equal (λ y e. e) in
     let wide : length c.as_slice.result.now ≡ n = ap length zeros ∙ length-replicate n 0 in
-    rw c.of-about.ensures (opens g.W.Work.stands g.W.Work.may g.W.Work.seed c.args.works.items c.as_slice.result.now
-    c.in_ok-slots.slots.items g.met.W.Work.may_none c.requires.starts (wide ∙ long)
+    rw c.of-about.ensures (opens g.W.Work.stands g.W.Work.may g.W.Work.refused g.W.Work.seed c.args.works.items
+    c.as_slice.result.now c.in_ok-slots.slots.items g.met.W.Work.may_none c.requires.starts (wide ∙ long)
     (λ k near. rw zeros (get_or-replicate n k 0 0 (rw wide at near))) cells.0 cells.1)
