@@ -82,7 +82,7 @@ inner_times (suc n) s i = (i, inner_times n s i)
 pub turn_moves : (d e : Driver) (k : ℕ) (turn : Turn) (w : World) → TurnsTo d k turn e → IsDriverOf d w
     → (steps : List StepKind) × AllByRecursion IsInner steps × (x : World) × Reaches w steps x × IsDriverOf e x
 turn_moves d e k (Moved n m) w t is =
-    let r = t w is in (
+    let r = t.0 w is in (
       (replicate n (Takes k) ++ collects k n) ++ replicate m (Feeds k),
       every_append IsInner (replicate n (Takes k) ++ collects k n) (replicate m (Feeds k))
           (every_append IsInner (replicate n (Takes k)) (collects k n) (inner_times n (Takes k) tt)

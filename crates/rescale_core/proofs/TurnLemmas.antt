@@ -8,7 +8,8 @@ use Rattle.turn_hub.proofs.Keeps.{within}
 use Rattle.rescale_core.proofs.{CellLemmas.seat_else, CellLemmas.seat_here, FeedLemmas.handed_all}
 use Rattle.rescale_core.proofs.DriverLemmas.{answered_last, driver_on, get_here, line_kept, lines_set, may_fed}
 use Rattle.rescale_core.proofs.Taking.{Took, reaches_on, takes_all}
-use Rattle.rescale_core.specs.Moving.{CellLine, HasTurn, IsDriverOf, DriverMoves, Reaches, collects, lines_of}
+use Rattle.rescale_core.specs.Moving.{CellLine, HasTurn, IsDriverOf, DriverMoves, LookedAtItsTurn, Reaches}
+use Rattle.rescale_core.specs.Moving.{collects, lines_of}
 use Rattle.rescale_core.specs.Moving.StepKind.{Collects, Feeds, Takes}
 use Rattle.rescale_core.specs.Routing.{HasTaken, IsRouterOf, feeds}
 use Rattle.rescale_core.specs.{Soundly.IsSound, Worlds.Step.Collect, Worlds.Step.Feed}
@@ -137,17 +138,20 @@ module _ (d e : Driver) (k n : ℕ) (outs : List Out) (c : CellSwapped d k n out
       )
 
   -- nothing was handed over before
-  pub moves_none_back : n ≡ 0 → e.router ≡ d.router
-      → DriverMoves d (replicate n (Takes k) ++ collects k n) e × HasTurn (lines_of e) k
-  moves_none_back z same =
-      (rw z (moves_over d e k n outs [] c (sym c.2 ∙ z) (λ w is. (tt, rw same is))), has_turn d e k n outs [] c refl)
+  pub moves_none_back : LookedAtItsTurn e → n ≡ 0 → e.router ≡ d.router
+      → DriverMoves d (replicate n (Takes k) ++ collects k n) e × HasTurn (lines_of e) k × LookedAtItsTurn e
+  moves_none_back looked z same = (
+    rw z (moves_over d e k n outs [] c (sym c.2 ∙ z) (λ w is. (tt, rw same is))),
+    has_turn d e k n outs [] c refl,
+    looked,
+  )
 
   -- it is collected
-  pub moves_back : n ≢ 0
+  pub moves_back : LookedAtItsTurn e → n ≢ 0
       → ((w : World) → IsRouterOf d.router w → HasTaken w k n outs → IsRouterOf e.router (world_after w (Collect k)))
-      → DriverMoves d (replicate n (Takes k) ++ collects k n) e × HasTurn (lines_of e) k
+      → DriverMoves d (replicate n (Takes k) ++ collects k n) e × HasTurn (lines_of e) k × LookedAtItsTurn e
   unfolding taken_back
-  moves_back more collected = (
+  moves_back looked more collected = (
     (λ w is.
         let t = taken w is in
         let b = taken_back w is in
@@ -168,4 +172,5 @@ module _ (d e : Driver) (k n : ℕ) (outs : List Out) (c : CellSwapped d k n out
               })) (collected b.0 b.1 b.2),
         )),
     has_turn d e k n outs [] c refl,
+    looked,
   )

@@ -8,8 +8,8 @@ use Rattle.monitor_state.specs.{Verdicts.violations_at, Verdicts.settled_in}
 use Rattle.monitor_state.specs.Verdicts.{verdict_on}
 use Rattle.rescale_core.proofs.{Soundness.step_sound, WorldLemmas.spot_more}
 use Rattle.rescale_core.proofs.Settling.{level_rises, viol_stays, time_stays, slice_below}
-use Rattle.rescale_core.specs.{Soundly.IsSound, Laws.EmitsVerdicts}
-use Rattle.rescale_worker.specs.{Lines.first_spot, Lines.moved}
+use Rattle.rescale_core.specs.{Soundly.IsSound, Laws.EmitsVerdicts, Laws.VerdictStays}
+use Rattle.rescale_worker.specs.Lines.{AreSound, first_spot, spot_after}
 use Rattle.mfotl_model.specs.Strategies.{Strategy}
 use Rattle.monitorable.specs.CoreForms.{CoreForm}
 use Rattle.rescale_core.specs.Worlds.{World, first_world, Step, spot_in, Allowed, AreAllowed, world_after, run_steps}
@@ -22,33 +22,33 @@ map_same f g j zero h = refl
 map_same f g j (suc n) h = let x : f j ≡ g j = h j (omega arith) in
     let r = map_same f g (j + 1) n (λ i l. h i (omega arith)) in cc
 
--- the verdicts on what was read stay where more is read
-verdict_stays : (w : World) (e : Entry) (i : ℕ) → IsSound w → Allowed w (Read e)
-    → i < settled_in w.core (spot_in w).points
-    → verdict_on w.core (spot_in w).points i ≡ verdict_on w.core (spot_in (world_after w (Read e))).points i
-verdict_stays w e i r may h =
-    let more : spot_in (world_after w (Read e)) ≡ moved (spot_in w) e = search (spot_more) in
-    let v : violations_at w.core (spot_in w).points i ≡ violations_at w.core (moved (spot_in w) e).points i =
-    viol_stays w.core r.first.evaluable.fits (e ∷ []) (spot_in w) i (may, tt) h in
-    let n = settled_within w.core (spot_in w).points in
-    let t = time_stays (e ∷ []) (spot_in w) i (omega arith) in
-    rw (more, ← v, t)
+-- the verdict on a settled position stays where more entries are read
+pub verdict_stays : VerdictStays
+verdict_stays core a more i is may low =
+    let v : violations_at core a.points i ≡ violations_at core (spot_after a more).points i =
+    viol_stays core is.fits more a i may low in
+    let n = settled_within core a.points in
+    let t = time_stays more a i (omega arith) in
+    rw (← v, t)
 
-read_verdicts : (w : World) (e : Entry) → IsSound w → Allowed w (Read e) → EmitsVerdicts w
-    → EmitsVerdicts (world_after w (Read e))
-read_verdicts w e r may v = let more : spot_in (world_after w (Read e)) ≡ moved (spot_in w) e =
-    spot_more (first_spot w.first) w.read (e ∷ []) in record {
-      are = v.are ∙ map_same (verdict_on w.core (spot_in w).points)
-          (verdict_on w.core (spot_in (world_after w (Read e))).points) 0 (length w.emitted)
-          (λ i h. (let s = v.settled in verdict_stays w e i r may (omega arith)));
-      settled = let s = v.settled in
-          let up : settled_in w.core (spot_in w).points ≤ settled_in w.core (moved (spot_in w) e).points =
-          level_rises w.core (e ∷ []) (spot_in w) (may, tt) in
-          rw more (omega arith);
+-- so what was emitted are the first verdicts, had these been read too
+pub read_on : (w : World) (more : List Entry) → IsSound w → AreSound w.core (spot_in w) more → EmitsVerdicts w
+    → EmitsVerdicts (record w { read = w.read ++ more })
+read_on w more r may v =
+    let all : spot_after (first_spot w.first) (w.read ++ more) ≡ spot_after (spot_in w) more =
+    spot_more (first_spot w.first) w.read more in
+    let s = v.settled in
+    let up : settled_in w.core (spot_in w).points ≤ settled_in w.core (spot_after (spot_in w) more).points =
+    level_rises w.core more (spot_in w) may in
+    record {
+      are = rw all (v.are ∙ map_same (verdict_on w.core (spot_in w).points)
+          (verdict_on w.core (spot_after (spot_in w) more).points) 0 (length w.emitted)
+          (λ i h. sym (verdict_stays w.core (spot_in w) more i r.first.evaluable may (omega arith))));
+      settled = rw all (omega arith);
     }
 
 pub step_verdicts : (w : World) (s : Step) → IsSound w → Allowed w s → EmitsVerdicts w → EmitsVerdicts (world_after w s)
-step_verdicts w (Read e) r a v = read_verdicts w e r a v
+step_verdicts w (Read e) r a v = read_on w (e ∷ []) r (a, tt) v
 step_verdicts w (Feed k i) r a v = record { are = v.are; settled = v.settled }
 step_verdicts w (Take k gave) r a v = record { are = v.are; settled = v.settled }
 step_verdicts w (Collect k) r a v = record { are = v.are; settled = v.settled }

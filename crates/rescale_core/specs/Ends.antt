@@ -1,5 +1,5 @@
 -- What the worlds of a machine and of a driver are, and how they end.
-use Rattle.std.specs.Prelude.{◌≡◌, ◌≤◌, ℕ, List, [], map}
+use Rattle.std.specs.Prelude.{◌≡◌, ◌≤◌, ℕ, List, [], length, map}
 use mathlib.Core.Option.{some}
 use lib.ListN.{get_elem?}
 use Rattle.std.specs.List.{range_with_len}
@@ -17,6 +17,7 @@ use Rattle.rescale_core.specs.Moving.{IsDriverOf, IsOpened, StepKind, Reaches, T
 use Rattle.rescale_core.specs.Routing.{HasEnded}
 use Rattle.rescale_core.specs.Soundly.{IsSound}
 use Rattle.rescale_core.specs.Waiting.{waiting_in}
+use Rattle.rescale_worker.specs.Lines.{AreSound, first_spot, spot_after}
 use Rattle.rescale_worker.specs.Workers.{owner}
 use Rattle.rescale_worker.specs.Working.{StandsFor, seed_of}
 use Rattle.rescale_worker.specs.Works.{StandsBy, begun}
@@ -37,6 +38,24 @@ abbrev pub MachineWorlds : Type 0
 MachineWorlds =
     (m : Machine) (entries : List Entry) (w : World) → IsMachineOf m entries w
     → ((k : ℕ) → FitsAndAnswers w k) × EmitsVerdicts w
+
+-- whatever entries are left, what was emitted are the first verdicts on all of them, of positions that are settled then
+abbrev pub MachineVerdicts : Type 0
+MachineVerdicts =
+    (m : Machine) (entries : List Entry) (w : World) → IsMachineOf m entries w
+    → (w.emitted
+    ≡ map (verdict_on w.core (spot_after (first_spot w.first) entries).points)
+    (range_with_len 0 (length w.emitted)))
+    × (length w.emitted ≤ settled_in w.core (spot_after (first_spot w.first) entries).points)
+
+-- so it is of a driver, whatever it reads behind what it has read, where that may be read
+abbrev pub DriverVerdicts : Type 0
+DriverVerdicts =
+    (d : Driver) (w : World) (more : List Entry) → IsDriverOf d w → EmitsVerdicts w
+    → AreSound w.core (spot_in w) more
+    → (w.emitted
+    ≡ map (verdict_on w.core (spot_after (spot_in w) more).points) (range_with_len 0 (length w.emitted)))
+    × (length w.emitted ≤ settled_in w.core (spot_after (spot_in w) more).points)
 
 -- where no step can be done, all entries were read, and all verdicts on them were emitted
 abbrev pub MachineEnds : Type 0

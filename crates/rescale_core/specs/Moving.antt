@@ -7,7 +7,7 @@ use Rattle.monitorable.specs.CoreForms.{CoreForm}
 use Rattle.monitorable.specs.Cores.{core_form}
 use Rattle.turn_hub.specs.Answers.{LooksOnce}
 use Rattle.turn_hub.specs.Ends.{main_view}
-use Rattle.turn_hub.specs.Words.{broken, hand_turn}
+use Rattle.turn_hub.specs.Words.{broken, hand_turn, main_turn}
 use Rattle.turn_hub.specs.declared.hub.Main.{Main}
 use Rattle.turn_hub.specs.declared.view.Line.{Line}
 use Rattle.verdict_merge.specs.declared.rows.Verdict.{Verdict}
@@ -97,12 +97,17 @@ abbrev pub HandsOver : World → ℕ → ℕ → Driver → Type 0
 HandsOver w k m e =
     (m ≡ length (ready_in w k)) × (x : World) × Reaches w (replicate m (Feeds k)) x × IsDriverOf e x
 
--- The worker took the n items that it had, which was collected, and was handed the m items that were ready then; or
--- nothing happened, as this call found the worker's turn, or a broken cell.
+-- the word that main looked at last was its own turn
+abbrev pub LookedAtItsTurn : Driver → Type 0
+LookedAtItsTurn d = (main_view d.main).word ≡ main_turn
+
+-- The worker took the n items that it had, which was collected, and was handed the m items that were ready then, where
+-- main looked last at its own turn; or nothing happened, as this call found the worker's turn, or a broken cell.
 abbrev pub TurnsTo : Driver → ℕ → Turn → Driver → Type 0
 TurnsTo d k (Moved n m) e =
-    (w : World) → IsDriverOf d w
-    → (x : World) × Reaches w (replicate n (Takes k) ++ collects k n) x × HandsOver x k m e
+    ((w : World) → IsDriverOf d w
+    → (x : World) × Reaches w (replicate n (Takes k) ++ collects k n) x × HandsOver x k m e)
+    × LookedAtItsTurn e
 TurnsTo d k NotYet e = DriverMoves d [] e × LooksOnce (main_view d.main) k hand_turn (main_view e.main)
 TurnsTo d k Broken e = DriverMoves d [] e × LooksOnce (main_view d.main) k broken (main_view e.main)
 
@@ -110,8 +115,10 @@ TurnsTo d k Broken e = DriverMoves d [] e × LooksOnce (main_view d.main) k brok
 abbrev pub HasTurn : List CellLine → ℕ → Type 0
 HasTurn lines k = (l : CellLine) × (get_elem? lines k ≡ some l) × (l.mine ≡ true) × (l.last ≡ 0)
 
--- the worker took the n items that it had, which was collected, and main has the turn; or nothing happened
+-- the worker took the n items that it had, which was collected, and main looked last at its own turn, which it has
+-- still; or nothing happened
 abbrev pub TakesBack : Driver → ℕ → Turn → Driver → Type 0
-TakesBack d k (Moved n m) e = DriverMoves d (replicate n (Takes k) ++ collects k n) e × HasTurn (lines_of e) k
+TakesBack d k (Moved n m) e =
+    DriverMoves d (replicate n (Takes k) ++ collects k n) e × HasTurn (lines_of e) k × LookedAtItsTurn e
 TakesBack d k NotYet e = DriverMoves d [] e × LooksOnce (main_view d.main) k hand_turn (main_view e.main)
 TakesBack d k Broken e = DriverMoves d [] e × LooksOnce (main_view d.main) k broken (main_view e.main)

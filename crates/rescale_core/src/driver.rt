@@ -4,7 +4,8 @@ ghost use Rattle.mfotl_model.specs.Strategies.{Strategy as OneStrategy};
 ghost use Rattle.monitorable.specs.CoreForms.{CoreForm};
 ghost use Rattle.monitor_state.specs.Verdicts.{MayFollow};
 ghost use Rattle.turn_hub.specs.Ends.{AllMine, IsMainOf, cell_count, main_view};
-ghost use Rattle.rescale_core.specs.Moving.{HandsOver, HasTurn, IsDriverOf, IsOpened, Reaches, TakesBack, TurnsTo};
+ghost use Rattle.rescale_core.specs.Moving.{HandsOver, HasTurn, IsDriverOf, IsOpened, LookedAtItsTurn, Reaches};
+ghost use Rattle.rescale_core.specs.Moving.{TakesBack, TurnsTo};
 ghost use Rattle.rescale_core.specs.Moving.StepKind.{Reads};
 ghost use Rattle.rescale_core.specs.Routing.{HasEnded, IsRouterOf};
 ghost use Rattle.rescale_worker.specs.Workers.{IsFor};
@@ -158,7 +159,9 @@ impl Driver {
         requires stands { (w : World) × IsDriverOf self.old w }
         requires main { IsMainOf hub.now self.old.main × (worker < cell_count hub.now) }
         requires mine { HasTurn (main_view self.old.main).lines worker }
+        requires looked { LookedAtItsTurn self.old }
         ensures did { IfOk result (λ m. (w : World) → IsDriverOf self.old w → HandsOver w worker m self.new) }
+        ensures looked { IfOk result (λ _. LookedAtItsTurn self.new) }
         ensures main { IfOk result (λ _. IsMainOf hub.now self.new.main) }
     {
         let items = self.router.take_ready(alloc, worker, u64::MAX)?;

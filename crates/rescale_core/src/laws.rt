@@ -1,7 +1,7 @@
 //! Laws of worlds, as theorems on the definitions. Each call does nothing: its clause is the law.
-ghost use Rattle.rescale_core.specs.Ends.{DriverCore, DriverEnds, DriverWorlds, MachineEnds, MachineWorlds};
-ghost use Rattle.rescale_core.specs.Ends.{OpenedWorkers, RowsPartition, TurnKeeps};
-ghost use Rattle.rescale_core.specs.Laws.{ReachedWorlds};
+ghost use Rattle.rescale_core.specs.Ends.{DriverCore, DriverEnds, DriverVerdicts, DriverWorlds, MachineEnds};
+ghost use Rattle.rescale_core.specs.Ends.{MachineVerdicts, MachineWorlds, OpenedWorkers, RowsPartition, TurnKeeps};
+ghost use Rattle.rescale_core.specs.Laws.{ReachedWorlds, VerdictStays};
 ghost use Rattle.rescale_core.specs.Waiting.{WaitsFor};
 
 /// In each world that steps reach from the first one, what each worker was handed fits, what it gave answers that,
@@ -13,6 +13,21 @@ pub fn reached_worlds()
 /// So it is in each world that a machine stands for.
 pub fn machine_worlds()
     ensures { MachineWorlds }
+{}
+
+/// The verdict on a settled position is the same behind all entries that are read later.
+pub fn verdict_stays()
+    ensures { VerdictStays }
+{}
+
+/// What a machine emitted so far are the first verdicts on all its entries, also on those that it hasn't read.
+pub fn machine_verdicts()
+    ensures { MachineVerdicts }
+{}
+
+/// What a driver emitted so far are the first verdicts on all that it reads, also later.
+pub fn driver_verdicts()
+    ensures { DriverVerdicts }
 {}
 
 /// Where a machine can do no step, it emitted all verdicts on all entries.
