@@ -1,5 +1,5 @@
 -- The lines in which refusals are told, worked out in full: each kind once.
-use Rattle.std.specs.Prelude.{◌≡◌, List, [], ◌∷◌, ◌++◌, codes, map}
+use Rattle.std.specs.Prelude.{◌≡◌, [], ◌∷◌, ◌++◌, codes, map}
 use Rattle.mfotl_lex.specs.declared.fault.LexFaultKind.TheVariants.{BadByte, OpenText, NumberRange, TextLong, BadUtf8}
 use Rattle.mfotl_sig.specs.declared.fault.SigFault.TheVariants as sig
 use Rattle.mfotl_parse.specs.declared.fault.PolicyFault.TheVariants as policy
