@@ -13,16 +13,19 @@ use crate::command::{Command, Sources};
 use crate::limits::{DEFAULT_THREADS, MAX_THREADS};
 use crate::options::monitor_command;
 use crate::run_options::RunOptions;
+use clap::ArgMatches;
 use clap::error::ErrorKind;
-use clap::{ArgMatches, Error};
 use std::alloc::Global;
+use thiserror::Error;
 
 /// Why no command was read.
-#[derive(Clone, Copy)]
+#[derive(Clone, Copy, Debug, Error)]
 pub enum WordsFault {
-    /// The words are no command line.
+    /// The words are no command line, or two of the files that they name are standard input.
+    #[error("Usage")]
     Usage,
     /// Memory was refused.
+    #[error("Memory")]
     Memory,
 }
 
@@ -31,10 +34,7 @@ pub enum WordsFault {
 fn value_in<'a>(options: &ArgMatches<'a>, name: &str) -> &'a str
     ensures { result.now ≡ option_value name.now (rows_of (found_of options.now)) }
 {
-    match options.get_str(name) {
-        Some(text) => text,
-        None => "",
-    }
+    options.get_str(name).unwrap_or("")
 }
 
 // The signature and the policy among the options.
@@ -127,7 +127,7 @@ fn command_given<'a>(matches: &ArgMatches<'a>) -> Option<Command<'a>>
 
 // The matches of the words, where `clap` takes them.
 #[tactic(auto, unfolding(crate::specs::Words::words_fault))]
-fn matches_of<'a>(alloc: Global, words: &'a [String]) -> Result<ArgMatches<'a>, Error>
+fn matches_of<'a>(alloc: Global, words: &'a [String]) -> Result<ArgMatches<'a>, clap::Error>
     ensures rows { IfOk result (λ m.
         subcommand_rows_of m ≡ subcommand_of monitor_app (texts_of words.now)) }
     ensures fault { FailsBy (words_fault (texts_of words.now)) result }

@@ -9,6 +9,7 @@ use Rattle.command_line.specs.declared.words.WordsFault.{WordsFault}
 use Rattle.monitor_main.specs.declared.refusal.Refusal.TheVariants.{Usage, Write, Memory}
 use Rattle.monitor_main.specs.Answer.{Answer, answer, refused}
 use Rattle.monitor_main.specs.Decisions.{CarriesOut, ComesTo, Ends, FailsAt, HandsOn, HasCauses, Obeys, Refuses}
+use Rattle.monitor_main.specs.Decisions.{RefusesWords}
 use Rattle.lone_worker.specs.Effects.{Effect}
 use Rattle.monitor_main.specs.{FilesAsked.AsksInOrder, Refusals.words_refusal}
 use Rattle.command_line.specs.Words.{Command, command_of}
@@ -71,9 +72,9 @@ module _ {words : List Text} {inputs : InputsView} {out : SinkView} where
 
   not_read : (r : Refusal) → ((files : Files) → ComesTo (answer words files) (FailsAt words files
       (unwritten inputs inputs out)) out.written out.written (Err r))
-      → HasCauses (command_of words ≡ None) (unwritten inputs inputs out) r
+      → HasCauses (command_of words ≡ None) (unwritten inputs inputs out) r → RefusesWords words (Err r)
       → Obeys words (unwritten inputs inputs out) (Err r)
-  not_read r comes causes = grind (arith, asks_nothing, told_all)
+  not_read r comes causes refuses = grind (arith, asks_nothing, told_all)
 
   -- the words were not read
   pub words_refused : (f : WordsFault) (r : Refusal) → r ≡ words_refusal f → (f ≡ fault.Usage → command_of words ≡ None)

@@ -1,5 +1,5 @@
 -- How a run's decision is the answer's.
-use Rattle.std.specs.Prelude.{◌≡◌, ◌⊎◌, ◌≤◌, ℕ, Bool, List, [], ◌∷◌, Option, None, Some}
+use Rattle.std.specs.Prelude.{◌≡◌, ◌≢◌, ◌⊎◌, ◌≤◌, ℕ, Bool, List, [], ◌∷◌, Option, None, Some}
 use Rattle.std.specs.Prelude.{Result, Err, IfOk, IfErr, MatchOption}
 use Rattle.clap.specs.Words.{Text}
 use Rattle.mon_outside.specs.Causes.{Rose}
@@ -113,9 +113,15 @@ abbrev pub AsksByWords : List Text → InputsView → InputsView → Type 0
 AsksByWords words before after =
     MatchOption (command_of words) (after.asked ≡ before.asked) (λ command. AsksInOrder command before after)
 
+-- words that give no command are refused, unless the output failed or memory was refused
+abbrev pub RefusesWords : List Text → Result Bool Refusal → Type 0
+RefusesWords words result =
+    command_of words ≡ None → result ≢ Err Write → result ≢ Err Memory → result ≡ Err Usage
+
 -- what the words say was carried out
 pub record Obeys (words : List Text) (e : Effect) (result : Result Bool Refusal) : Type 0 where
   pub asks : AsksByWords words e.before e.after
+  pub refuses : RefusesWords words result
   pub decides : Decides (command_of words ≡ None) (answer words) (λ files. FailsAt words files e) e result
 
 -- ---- what is held back

@@ -11,6 +11,7 @@ pub mod Answer
 pub mod Unread
 pub mod AnswerLaws
 pub mod WorkedAnswers
+pub mod WorkedLines
 pub mod FilesAsked
 pub mod CheckedPolicies
 pub mod ReadyTasks

@@ -77,7 +77,7 @@ pub record StopsInSources (sources : Sources) (before after : InputsView) (r : R
 
 -- ---- a run's strategy and its change script
 
--- why the changes in the file of this name are refused; where there is no such file, none are
+-- why the changes in the file of this name are refused; where no file is named, none are
 abbrev pub AreRefused : List Var → Option Name → InputsView → InputsView → Refusal → Type 0
 AreRefused vars None before after r = ⊥
 AreRefused vars (Some name) before after r = IsRefused file.Changes name (changes_in vars) before after r

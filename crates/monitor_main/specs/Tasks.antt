@@ -87,7 +87,7 @@ changes_in vars bytes =
     if is_long bytes then Err refusal.LongChanges
     else or_refuse_by refusal.Changes (changes_read vars bytes)
 
--- the changes in the file of this name, and none where there is no such file
+-- the changes in the file of this name, and none where no file is named
 unfoldable pub changes_at : List Var → Option (List ℕ) → Files → Result (List Change) Refusal
 changes_at vars None files = Ok []
 changes_at vars (Some name) files = changes_in vars (content files name)

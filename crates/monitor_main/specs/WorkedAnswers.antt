@@ -4,7 +4,7 @@ use Rattle.mfotl_model.specs.declared.policy.Sort.TheVariants as sorts
 use Rattle.monitor_main.specs.declared.status.Status.TheVariants.{Clean, Violated, Usage}
 use Rattle.monitor_main.specs.declared.status.Status.TheVariants.{Signature, Policy, Strategy, Log}
 use Rattle.monitor_main.specs.declared.status.Status.TheVariants.{Read, Write, Memory}
-use Rattle.monitor_main.specs.Answer.{verdict_status}
+use Rattle.monitor_main.specs.Answer.{demo_line, verdict_status}
 use Rattle.monitor_main.specs.CheckLine.{monitorable_line}
 use Rattle.monitor_main.specs.Limits.{max_file}
 use Rattle.monitor_main.specs.Status.{code_of}
@@ -26,6 +26,10 @@ ColumnsInFull =
     monitorable_line
     (record { name = codes "i"; sort = sorts.Int } ∷ record { name = codes "w"; sort = sorts.Text } ∷ [])
     ≡ codes "monitorable (i:int,w:string)\n"
+
+-- the line of demo 7
+abbrev pub DemoInFull : Type 0
+DemoInFull = demo_line 7 1987 1173 1932 ≡ codes "demo 7: settled 1987 violated 1173 rows 1932\n"
 
 -- how many bytes a file may have
 abbrev pub LimitsInFull : Type 0

@@ -83,7 +83,7 @@ fn load_script<I: Inputs>(
     }
 }
 
-/// The changes in the file of this name, and none where there is no such file.
+/// The changes in the file of this name, and none where no file is named.
 #[tactic(auto, unfolding(crate::specs::Tasks::changes_at), using(crate::proofs::ToldLemmas::asked_none))]
 pub fn load_changes<I: Inputs>(
     alloc: Global,

@@ -134,8 +134,11 @@ pub fn run<R: Threads + Wait + Sync, I: Inputs, O: Sink, E: Sink, G: Gate + Sync
     ensures front { ToldFiles (I.files inputs.old) (λ files. AppendsFront
         (O.written out.old) (O.written out.new) (answer (texts_of words.items) files).out) }
 
-    // The words alone decide whether they are refused: told files or not.
+    // Only words that give no command are refused, and these always are, unless the output failed or memory was
+    // refused: told files or not.
     ensures usage { result ≡ Status.Usage → command_of (texts_of words.items) ≡ None }
+    ensures refused { command_of (texts_of words.items) ≡ None
+        → result ≢ Status.Write → result ≢ Status.Memory → result ≡ Status.Usage }
 
     // No file is asked for before all before it in the order are accepted.
     ensures asks { AsksByWords (texts_of words.items)

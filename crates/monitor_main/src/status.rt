@@ -5,7 +5,7 @@ ghost use Rattle.monitor_main.specs.Status.{code_of};
 /// How a run ended: the exit status of the program is its number.
 #[derive(Clone, Copy)]
 pub enum Status {
-    /// The log was read to its end, and no line has a row.
+    /// The log was read to its end, and no line has a row; `check` accepts the policy, or `demo` has told its line.
     Clean,
     /// The log was read to its end, and some line has a row.
     Violated,
