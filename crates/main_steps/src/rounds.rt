@@ -2,7 +2,7 @@
 ghost use Rattle.std.specs.Prelude.{◌≡◌, ◌≤◌, ℕ, IfErr, List, OnOk, OnErr, Option};
 ghost use Rattle.rescale_core.specs.Moving.{IsDriverOf};
 ghost use Rattle.rescale_core.specs.Worlds.{World};
-ghost use Rattle.turn_hub.specs.Ends.{IsMainOf, cell_count};
+ghost use Rattle.turn_hub.specs.Ends.{IsMainOf};
 ghost use Rattle.hub_threads.specs.Hands.{AreHandsOf};
 ghost use Rattle.lone_worker.specs.Verdicts.{IsOutputStop};
 ghost use Rattle.lone_worker.specs.declared.tally.Tally.{Tally};
@@ -68,7 +68,6 @@ fn write_ready<R: Wait, O: Sink>(
 fn turn_all<R, G>(context: &LoopContext<'_, R, G>, driver: &mut Driver) -> Result<bool, AllocError>
     requires stands { (w : World) × IsDriverOf driver.old w }
     requires main { IsMainOf context.now.hub.now driver.old.main }
-    requires cells { context.now.cells ≤ cell_count context.now.hub.now }
     ensures main { OnOk result (IsMainOf context.now.hub.now driver.new.main) }
     ensures ok { OnOk result ((written : Option (List ℕ)) (tally : Tally)
         → WritesOnly driver.old written tally driver.new written tally) }
@@ -100,7 +99,6 @@ pub(crate) fn round<R: Wait, O: Sink, G: Gate>(
 ) -> Result<bool, Stop>
     requires runs { Runs driver.old (O.written out.old) writer.old.tally }
     requires main { IsMainOf context.now.hub.now driver.old.main }
-    requires cells { context.now.cells ≤ cell_count context.now.hub.now }
     requires hands { AreHandsOf context.now.hub.now own.old.items }
     ensures hands { AreHandsOf context.now.hub.now own.new.items }
     ensures main { OnOk result (IsMainOf context.now.hub.now driver.new.main) }
