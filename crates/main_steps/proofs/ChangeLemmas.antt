@@ -1,6 +1,6 @@
 -- Changes of the strategy: what is to come fits, and just what is due is read.
 use Rattle.std.proofs.Common.{◌≡◌, ◌≤◌, ◌∙◌, arith, ℕ, List, [], ◌∷◌, ◌++◌, Option, Some, OnOk, Ok, Err, sym, subst}
-use Rattle.std.proofs.Common.{refl, suc, append-nil, append_assoc}
+use Rattle.std.proofs.Common.{refl, suc, append-nil, append_assoc, ◌<◌, ◌⊎◌, inl, inr, length, get_or, max, Any}
 use Rattle.std.specs.Prelude.{Result}
 use Rattle.mfotl_model.specs.Strategies.{Strategy, workers_of}
 use Rattle.mfotl_model.specs.declared.event.TimePoint.{TimePoint}
@@ -163,3 +163,22 @@ point_adds {f} {b} {u} {p} n changes adds reads core read start may w0 =
     subst (λ es. Writes core es start f b u) (append_assoc read (changes_due n changes) (Point p ∷ []))
     (one_read (Point p) w (reads w.world
     (rw (points_are w, points_with read (changes_due n changes) (points_due n changes)) may) w.stands))
+
+-- ---- the most workers
+
+-- the higher of two is one of them
+higher_is : (a b m : ℕ) → m ≡ max a b → (a ≡ m) ⊎ (b ≡ m)
+higher_is a b m e = grind arith
+
+-- so the highest so far is the first's or a change's, with the next change too
+pub highest_more : (first most next now k : ℕ) (changes : List Change) (c : Change) → now ≡ max most next
+    → next ≡ workers_of c.strategy → c ≡ get_or changes k c → k < length changes
+    → (first ≡ most) ⊎ Any (λ (d : Change). workers_of d.strategy ≡ most) changes
+    → (first ≡ now) ⊎ Any (λ (d : Change). workers_of d.strategy ≡ now) changes
+highest_more first most next now k changes c higher count at low of = by (higher_is most next now higher) of
+  where
+    by : (most ≡ now) ⊎ (next ≡ now) → (first ≡ most) ⊎ Any (λ (d : Change). workers_of d.strategy ≡ most) changes
+        → (first ≡ now) ⊎ Any (λ (d : Change). workers_of d.strategy ≡ now) changes
+    by (inl same) (inl is) = inl (is ∙ same)
+    by (inl same) (inr any) = inr (any.0, any.1, any.2, any.3, any.4 ∙ same)
+    by (inr same) before = inr (k, c, low, sym at, sym count ∙ same)

@@ -8,7 +8,7 @@ use Rattle.main_steps.specs.{Hands.WorkerHand, Hands.WorkerHub, Writing.Runs}
 use Rattle.main_steps.specs.Steps.{MainState, MakesDue, MakesRoom}
 use Rattle.main_steps.specs.declared.schedule.Schedule.{Schedule}
 use Rattle.main_steps.proofs.{ChangeLemmas.adds_falls, ChangeLemmas.suits_drained, EntryLemmas.points_due}
-use Rattle.main_steps.proofs.{WritingLemmas.adds_keeps, WritingLemmas.runs_with}
+use Rattle.main_steps.proofs.{WaitLemmas.roomy_narrow, WritingLemmas.adds_keeps, WritingLemmas.runs_with}
 
 -- what stopped main since then did so since before
 pub output_later : (before mid now : ℕ) (stop : Stop) → before ≤ mid → IsOutputStop mid now stop
@@ -31,6 +31,7 @@ due_with_room {after = after} {mid = mid} {new = new} (Ok x) runs due room = rec
   seated = due.seated;
   all = due.all;
   left = due.left;
+  narrow = λ was_due. roomy_narrow room.room;
   routed = due.routed;
   ok = adds_keeps due.ok room.ok;
   err = tt;
@@ -44,6 +45,7 @@ due_with_room {before = before} {old = old} {mid = mid} {new = new} (Err stop) r
   seated = tt;
   all = tt;
   left = tt;
+  narrow = tt;
   routed = due.routed;
   ok = tt;
   err = adds_falls (points_due before.routed before.changes.items) due.ok room.err;

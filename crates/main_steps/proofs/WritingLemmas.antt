@@ -7,7 +7,7 @@ use Rattle.mon_outside.specs.Sink.{Appends, AppendsFront}
 use Rattle.mfotl_model.specs.VerdictText.{VerdictOf, line_of}
 use Rattle.mfotl_model.specs.declared.event.TimePoint.{TimePoint}
 use Rattle.monitorable.specs.CoreForms.{CoreForm}
-use Rattle.rescale_core.proofs.{Ending.world_emitted, Keeping.by_steps, Keeping.turn_keeps}
+use Rattle.rescale_core.proofs.{Ending.world_emitted, Keeping.by_steps, Keeping.turn_keeps, Keeping.turn_moves}
 use Rattle.rescale_core.proofs.{Verdicts.first_verdicts as none_emitted}
 use Rattle.rescale_core.specs.{Laws.EmitsVerdicts, Moving.StepKind.Emits, Moving.StepKind.Reads, Routing.HasEnded}
 use Rattle.rescale_core.specs.{Worlds.Step.Emit, Worlds.Step.Read}
@@ -74,6 +74,13 @@ pub points_are : {core : CoreForm} {read : List Entry} {start now : Option (List
 points_are w = spot_reads (first_spot w.world.first) w.world.read ∙ ap points_in w.read_is
 
 -- ---- a turn
+
+-- behind a turn the driver stands for a world still
+pub turn_stands : (d e : Driver) (k : ℕ) (turn : Turn) → TurnsTo d k turn e → (w : World) × IsDriverOf d w
+    → (x : World) × IsDriverOf e x
+turn_stands d e k turn to before =
+    let moves = turn_moves d e k turn before.0 to before.1 in
+    (moves.2, moves.4)
 
 -- a turn reads and writes nothing
 pub turn_written : (d e : Driver) (now : Option (List ℕ)) (t : Tally) (k : ℕ) (turn : Turn) → TurnsTo d k turn e

@@ -1,5 +1,5 @@
 -- What main has read and written, by the world of its driver.
-use Rattle.std.specs.Prelude.{◌≡◌, ℕ, List, [], ◌∷◌, ◌++◌, Option, map}
+use Rattle.std.specs.Prelude.{◌≡◌, ◌≤◌, ℕ, List, [], ◌∷◌, ◌++◌, Option, map}
 use Rattle.mon_outside.specs.Sink.{Appends}
 use Rattle.mfotl_model.specs.Strategies.{Strategy}
 use Rattle.mfotl_model.specs.declared.event.TimePoint.{TimePoint}
@@ -8,7 +8,7 @@ use Rattle.monitor_state.specs.Verdicts.{MayFollow}
 use Rattle.rescale_core.specs.Laws.{EmitsVerdicts}
 use Rattle.rescale_core.specs.Moving.{IsDriverOf, Reaches}
 use Rattle.rescale_core.specs.Moving.StepKind.{Reads}
-use Rattle.rescale_core.specs.Waiting.{HasRoom}
+use Rattle.rescale_core.specs.Waiting.{HasRoom, waiting_in}
 use Rattle.rescale_worker.specs.Workers.{IsFor}
 use Rattle.rescale_core.specs.Worlds.{World, first_world, spot_in}
 use Rattle.rescale_core.specs.declared.driver.Driver.{Driver}
@@ -75,6 +75,10 @@ FallsShort d now t then =
 -- so few items wait for each worker that one more may be read
 abbrev pub IsRoomy : Driver → Type 0
 IsRoomy d = (w : World) → IsDriverOf d w → HasRoom w
+
+-- at most so many items wait for each worker
+abbrev pub WaitAtMost : ℕ → Driver → Type 0
+WaitAtMost n d = (w : World) → IsDriverOf d w → (k : ℕ) → waiting_in w k ≤ n
 
 -- from each world in which the time-point may follow, the driver comes to one in which it was read
 abbrev pub ReadsIn : Driver → TimePoint → Driver → Type 0

@@ -4,15 +4,16 @@ ghost use Rattle.mfotl_model.specs.Strategies.{workers_of};
 ghost use Rattle.monitor_state.specs.Verdicts.{MayFollow};
 ghost use Rattle.rescale_core.specs.Moving.{IsDriverOf, core_of};
 ghost use Rattle.rescale_worker.specs.Workers.{IsFor};
+ghost use Rattle.rescale_core.specs.Waiting.{most_waiting};
 ghost use Rattle.rescale_core.specs.Worlds.{World, spot_in};
-ghost use Rattle.turn_hub.specs.Ends.{IsMainOf, cell_count};
+ghost use Rattle.turn_hub.specs.Ends.{IsMainOf};
 ghost use Rattle.rescale_worker.specs.declared.item.Entry.TheVariants.{Change as ToStrategy};
 ghost use Rattle.hub_threads.specs.Hands.{AreHandsOf};
 ghost use Rattle.lone_worker.specs.Verdicts.{IsOutputStop};
 ghost use Rattle.main_steps.specs.Changes.{HaveCells, NoneDue, Suits, changes_due, changes_later};
 ghost use Rattle.main_steps.specs.Steps.{MakesDue, main_state};
 ghost use Rattle.main_steps.specs.Writing.{AddsEntries, AddsPoint, ChangesIn, FallsShort, IsRoomy, ReadsIn, Runs};
-ghost use Rattle.main_steps.specs.Writing.{RunsTo};
+ghost use Rattle.main_steps.specs.Writing.{RunsTo, WaitAtMost};
 
 use crate::hands::{LoopContext, WorkerHand};
 use crate::schedule::Schedule;
@@ -64,12 +65,12 @@ fn make_change<R: Wait, O: Sink, G: Gate>(
     requires suits { IsFor (core_of driver.old) strategy }
     requires seated { workers_of strategy ≤ context.now.cells }
     requires main { IsMainOf context.now.hub.now driver.old.main }
-    requires cells { context.now.cells ≤ cell_count context.now.hub.now }
     requires hands { AreHandsOf context.now.hub.now own.old.items }
     ensures hands { AreHandsOf context.now.hub.now own.new.items }
     ensures main { OnOk result (IsMainOf context.now.hub.now driver.new.main) }
     ensures ok { OnOk result (AddsEntries driver.old (O.written out.old) writer.old.tally (ToStrategy strategy ∷ [])
         driver.new (O.written out.new) writer.new.tally) }
+    ensures narrow { OnOk result (WaitAtMost (most_waiting + 1) driver.new) }
     ensures err { OnErr result (FallsShort driver.old (O.written out.old) writer.old.tally (O.written out.new)) }
     ensures stop { IfErr result (λ stop. IsOutputStop (O.faults out.old) (O.faults out.new) stop) }
     ensures later { O.faults out.old ≤ O.faults out.new }
@@ -92,7 +93,6 @@ fn make_due<R: Wait, O: Sink, G: Gate>(
     requires suits { Suits driver.old schedule.old }
     requires seated { HaveCells context.now.cells schedule.old }
     requires main { IsMainOf context.now.hub.now driver.old.main }
-    requires cells { context.now.cells ≤ cell_count context.now.hub.now }
     requires hands { AreHandsOf context.now.hub.now own.old.items }
     ensures { MakesDue context.now.hub.now context.now.cells own.new.items schedule.old schedule.new
         (main_state O.Sink driver.old out.old writer.old.tally)
@@ -120,7 +120,6 @@ fn make_changes<R: Wait, O: Sink, G: Gate>(
     requires suits { Suits driver.old schedule.old }
     requires seated { HaveCells context.now.cells schedule.old }
     requires main { IsMainOf context.now.hub.now driver.old.main }
-    requires cells { context.now.cells ≤ cell_count context.now.hub.now }
     requires hands { AreHandsOf context.now.hub.now own.old.items }
     ensures { MakesDue context.now.hub.now context.now.cells own.new.items schedule.old schedule.new
         (main_state O.Sink driver.old out.old writer.old.tally)
@@ -147,7 +146,6 @@ fn make_way<R: Wait, O: Sink, G: Gate>(
     requires suits { Suits driver.old schedule.old }
     requires seated { HaveCells context.now.cells schedule.old }
     requires main { IsMainOf context.now.hub.now driver.old.main }
-    requires cells { context.now.cells ≤ cell_count context.now.hub.now }
     requires hands { AreHandsOf context.now.hub.now own.old.items }
     ensures due { MakesDue context.now.hub.now context.now.cells own.new.items schedule.old schedule.new
         (main_state O.Sink driver.old out.old writer.old.tally)
@@ -175,7 +173,6 @@ pub fn route<R: Wait, O: Sink, G: Gate>(
     requires seated { HaveCells context.now.cells schedule.old }
     requires few { schedule.old.routed < 2 ^ 63 }
     requires main { IsMainOf context.now.hub.now driver.old.main }
-    requires cells { context.now.cells ≤ cell_count context.now.hub.now }
     requires hands { AreHandsOf context.now.hub.now own.old.items }
     ensures hands { AreHandsOf context.now.hub.now own.new.items }
     ensures main { OnOk result (IsMainOf context.now.hub.now driver.new.main) }
@@ -187,6 +184,7 @@ pub fn route<R: Wait, O: Sink, G: Gate>(
     ensures ok { OnOk result (AddsPoint driver.old (O.written out.old) writer.old.tally
         (changes_due schedule.old.routed schedule.old.changes.items) point
         driver.new (O.written out.new) writer.new.tally) }
+    ensures narrow { OnOk result (WaitAtMost most_waiting driver.new) }
     ensures err { OnErr result (FallsShort driver.old (O.written out.old) writer.old.tally (O.written out.new)) }
     ensures stop { IfErr result (λ stop. IsOutputStop (O.faults out.old) (O.faults out.new) stop) }
     ensures later { O.faults out.old ≤ O.faults out.new }

@@ -1,8 +1,9 @@
 //! One round of main's loop: what is ready is handed over, collected and written.
-ghost use Rattle.std.specs.Prelude.{◌≡◌, ◌≤◌, ℕ, IfErr, List, OnOk, OnErr, Option};
+ghost use Rattle.std.specs.Prelude.{◌≡◌, ◌≢◌, ◌<◌, ◌≤◌, ℕ, IfErr, List, OnOk, OnErr, Option};
 ghost use Rattle.rescale_core.specs.Moving.{IsDriverOf};
 ghost use Rattle.rescale_core.specs.Worlds.{World};
-ghost use Rattle.turn_hub.specs.Ends.{IsMainOf, cell_count};
+ghost use Rattle.turn_hub.specs.Ends.{IsMainOf, main_view};
+ghost use Rattle.turn_hub.specs.Words.{broken};
 ghost use Rattle.hub_threads.specs.Hands.{AreHandsOf};
 ghost use Rattle.lone_worker.specs.Verdicts.{IsOutputStop};
 ghost use Rattle.lone_worker.specs.declared.tally.Tally.{Tally};
@@ -64,28 +65,47 @@ fn write_ready<R: Wait, O: Sink>(
     unreachable!()
 }
 
+// Collects from the worker what it gave, and hands over what is ready for it. Answers whether there was any of it.
+#[tactic(auto, using(crate::proofs::WritingLemmas::turn_stands, crate::proofs::WritingLemmas::turn_written))]
+fn turn_one<R, G>(
+    context: &LoopContext<'_, R, G>,
+    driver: &mut Driver,
+    worker: u32,
+) -> Result<bool, AllocError>
+    requires stands { (w : World) × IsDriverOf driver.old w }
+    requires main { IsMainOf context.now.hub.now driver.old.main }
+    requires within { worker < context.now.cells }
+    ensures stands { OnOk result ((w : World) × IsDriverOf driver.new w) }
+    ensures main { OnOk result (IsMainOf context.now.hub.now driver.new.main) }
+    ensures ok { OnOk result ((written : Option (List ℕ)) (tally : Tally)
+        → WritesOnly driver.old written tally driver.new written tally) }
+    ensures whole { OnOk result ((main_view driver.new.main).word ≢ broken) }
+{
+    let turn = driver.turn(context.alloc, context.hub, worker)?;
+    match turn {
+        Turn::NotYet => Ok(false),
+        Turn::Broken => Err(AllocError),
+        Turn::Moved(given, handed) => {
+            if handed != 0 {
+                context.bells.ring(worker);
+            }
+            Ok(given != 0 || handed != 0)
+        }
+    }
+}
+
 // Collects from each worker what it gave, and hands over what is ready for it. Answers whether there was any of it.
 fn turn_all<R, G>(context: &LoopContext<'_, R, G>, driver: &mut Driver) -> Result<bool, AllocError>
     requires stands { (w : World) × IsDriverOf driver.old w }
     requires main { IsMainOf context.now.hub.now driver.old.main }
-    requires cells { context.now.cells ≤ cell_count context.now.hub.now }
     ensures main { OnOk result (IsMainOf context.now.hub.now driver.new.main) }
     ensures ok { OnOk result ((written : Option (List ℕ)) (tally : Tally)
         → WritesOnly driver.old written tally driver.new written tally) }
 {
     let mut busy = false;
     for k in 0..context.cells {
-        let turn = driver.turn(context.alloc, context.hub, k)?;
-        match turn {
-            Turn::NotYet => {}
-            Turn::Broken => return Err(AllocError),
-            Turn::Moved(given, handed) => {
-                busy |= given != 0 || handed != 0;
-                if handed != 0 {
-                    context.bells.ring(k);
-                }
-            }
-        }
+        let turned = turn_one(context, driver, k)?;
+        busy |= turned;
     }
     Ok(busy)
 }
@@ -100,7 +120,6 @@ pub(crate) fn round<R: Wait, O: Sink, G: Gate>(
 ) -> Result<bool, Stop>
     requires runs { Runs driver.old (O.written out.old) writer.old.tally }
     requires main { IsMainOf context.now.hub.now driver.old.main }
-    requires cells { context.now.cells ≤ cell_count context.now.hub.now }
     requires hands { AreHandsOf context.now.hub.now own.old.items }
     ensures hands { AreHandsOf context.now.hub.now own.new.items }
     ensures main { OnOk result (IsMainOf context.now.hub.now driver.new.main) }

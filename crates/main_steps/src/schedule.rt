@@ -1,5 +1,5 @@
 //! When the strategy changes.
-ghost use Rattle.std.specs.Prelude.{◌≡◌, ◌+◌, ◌<◌, ◌≤◌, ◌^◌, All};
+ghost use Rattle.std.specs.Prelude.{◌≡◌, ◌+◌, ◌<◌, ◌≤◌, ◌^◌, ◌⊎◌, All, Any};
 ghost use Rattle.mfotl_model.specs.Strategies.{workers_of};
 ghost use Rattle.main_steps.specs.Changes.{DueTells, TakesDue};
 
@@ -69,10 +69,11 @@ pub fn most_workers(first: &Strategy, changes: &[Change]) -> u32
     ensures some { 0 < result }
     ensures first { workers_of first.now ≤ result }
     ensures changes { All (λ c. workers_of c.strategy ≤ result) changes.now }
+    ensures attained { (workers_of first.now ≡ result) ⊎ Any (λ c. workers_of c.strategy ≡ result) changes.now }
 {
     let mut most = first.workers();
-    for k in 0..changes.len() {
-        most = most.max(changes[k].strategy.workers());
+    for change in changes {
+        most = most.max(change.strategy.workers());
     }
     most
 }

@@ -1,6 +1,6 @@
 //! Main's turns: it goes on until what it waits for is so.
 ghost use Rattle.std.specs.Prelude.{◌≡◌, ◌≤◌, IfErr, IfOk, OnOk, OnErr, true};
-ghost use Rattle.turn_hub.specs.Ends.{IsMainOf, cell_count};
+ghost use Rattle.turn_hub.specs.Ends.{IsMainOf};
 ghost use Rattle.hub_threads.specs.Hands.{AreHandsOf};
 ghost use Rattle.lone_worker.specs.Verdicts.{IsOutputStop};
 ghost use Rattle.main_steps.specs.Steps.{IsReached, MakesRoom, main_state};
@@ -51,7 +51,6 @@ fn round_until<R: Wait, O: Sink, G: Gate>(
 ) -> Result<bool, Stop>
     requires runs { Runs driver.old (O.written out.old) writer.old.tally }
     requires main { IsMainOf context.now.hub.now driver.old.main }
-    requires cells { context.now.cells ≤ cell_count context.now.hub.now }
     requires hands { AreHandsOf context.now.hub.now own.old.items }
     ensures hands { AreHandsOf context.now.hub.now own.new.items }
     ensures main { OnOk result (IsMainOf context.now.hub.now driver.new.main) }
@@ -82,7 +81,6 @@ fn turn_until<R: Wait, O: Sink, G: Gate>(
 ) -> Result<(), Stop>
     requires runs { Runs driver.old (O.written out.old) writer.old.tally }
     requires main { IsMainOf context.now.hub.now driver.old.main }
-    requires cells { context.now.cells ≤ cell_count context.now.hub.now }
     requires hands { AreHandsOf context.now.hub.now own.old.items }
     ensures hands { AreHandsOf context.now.hub.now own.new.items }
     ensures main { OnOk result (IsMainOf context.now.hub.now driver.new.main) }
@@ -112,7 +110,6 @@ pub fn drain<R: Wait, O: Sink, G: Gate>(
 ) -> Result<(), Stop>
     requires runs { Runs driver.old (O.written out.old) writer.old.tally }
     requires main { IsMainOf context.now.hub.now driver.old.main }
-    requires cells { context.now.cells ≤ cell_count context.now.hub.now }
     requires hands { AreHandsOf context.now.hub.now own.old.items }
     ensures hands { AreHandsOf context.now.hub.now own.new.items }
     ensures main { OnOk result (IsMainOf context.now.hub.now driver.new.main) }
@@ -137,7 +134,6 @@ pub(crate) fn make_room<R: Wait, O: Sink, G: Gate>(
 ) -> Result<(), Stop>
     requires runs { Runs driver.old (O.written out.old) writer.old.tally }
     requires main { IsMainOf context.now.hub.now driver.old.main }
-    requires cells { context.now.cells ≤ cell_count context.now.hub.now }
     requires hands { AreHandsOf context.now.hub.now own.old.items }
     ensures { MakesRoom context.now.hub.now own.new.items
         (main_state O.Sink driver.old out.old writer.old.tally)

@@ -1,15 +1,18 @@
-use Rattle.std.proofs.Common.{◌≤◌}
+use Rattle.std.proofs.Common.{◌≡◌, ◌+◌, ◌≤◌, ◌⊎◌}
 use Rattle.turn_hub.specs.Ends.{IsMainOf}
 use Rattle.hub_threads.specs.Hands.{AreHandsOf}
-use Rattle.main_steps.specs.{Changes.HaveCells, Changes.Suits}
+use Rattle.rescale_core.specs.Waiting.{most_waiting}
+use Rattle.main_steps.specs.{Changes.HaveCells, Changes.Suits, Writing.WaitAtMost}
 use Rattle.main_steps.proofs.ChangeLemmas.{Made}
 use Rattle.main_steps.proofs.entries.make_due.Given as goal
 
--- some of the changes that are due were made, and the others are to come
+-- Some of the changes that are due were made, and the others are to come. Behind the last one at most 1,025 items wait
+-- for each worker.
 abbrev pub invariant-loop : goal.invariant-loop
 invariant-loop g l = record {
   made : Made l.fn.schedule l.schedule l.fn.driver (g.O.Sink.written l.fn.out) l.fn.writer.tally l.driver
       (g.O.Sink.written l.out) l.writer.tally;
+  narrow : (l.schedule ≡ l.fn.schedule) ⊎ WaitAtMost (most_waiting + 1) l.driver;
   suits : Suits l.driver l.schedule;
   seated : HaveCells l.context.cells l.schedule;
   main : IsMainOf l.context.hub.now l.driver.main;

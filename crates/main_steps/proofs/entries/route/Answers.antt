@@ -1,6 +1,7 @@
 use Rattle.lone_worker.proofs.ErrorLemmas.{on_err}
 use Rattle.main_steps.proofs.{EntryLemmas.points_due, WritingLemmas.runs_of, WritingLemmas.stops}
 use Rattle.main_steps.proofs.ChangeLemmas.{adds_falls, may_point, point_adds, suits_routed}
+use Rattle.main_steps.proofs.WaitLemmas.{point_narrow}
 use Rattle.main_steps.proofs.entries.route.Goals as goal
 
 pub make_way-requires-clause-runs : goal.make_way-requires-clause-runs
@@ -21,6 +22,14 @@ pub returns-clause-ok : goal.returns-clause-ok
 returns-clause-ok g c =
     let schedule = c.args.schedule.now in
     point_adds schedule.routed schedule.changes.items c.in_ok-make_way.ensures.due.ok c.in_ok-admit.ensures.reads
+
+-- there was room for it
+pub returns-clause-narrow : goal.returns-clause-narrow
+returns-clause-narrow g c =
+    let schedule = c.args.schedule.now in
+    let way = c.in_ok-make_way.ensures in
+    point_narrow (may_point schedule.routed schedule.changes.items way.due.ok c.requires.runs) way.room
+    c.in_ok-admit.ensures.reads
 
 pub returns-clause-suits : goal.returns-clause-suits
 returns-clause-suits g c =
