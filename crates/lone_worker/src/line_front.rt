@@ -8,15 +8,21 @@ use itoa::write_digits;
 pub(crate) const ROOM: usize = 64;
 
 /// Where a front ends.
-pub(crate) const END: usize = 63;
+pub(crate) const END: usize = ROOM - 1;
 
 // What stands between the two numbers.
-const WORDS: [u8; 13] = *b" (time point ";
+const WORDS: [u8; WORDS_LENGTH] = *b" (time point ";
+
+// How many bytes that has.
+const WORDS_LENGTH: usize = 13;
+
+// The most bytes of a mark and a timestamp behind it.
+const TIME_ROOM: usize = 21;
 
 // The last two bytes of a front, and where they begin.
 fn put_end(room: &mut [u8; ROOM]) -> usize
-    ensures at { result ≡ 61 }
-    ensures written { drop result room.new ≡ codes "):" ++ drop 63 room.old }
+    ensures at { result + 2 ≡ END }
+    ensures written { drop result room.new ≡ codes "):" ++ drop END room.old }
 {
     room[END - 1] = b':';
     room[END - 2] = b')';
@@ -25,19 +31,19 @@ fn put_end(room: &mut [u8; ROOM]) -> usize
 
 // The words that end at a place, and where they begin.
 fn put_words(room: &mut [u8; ROOM], end: usize) -> usize
-    requires { (13 ≤ end) × (end ≤ 64) }
-    ensures at { result + 13 ≡ end }
+    requires { (WORDS_LENGTH ≤ end) × (end ≤ ROOM) }
+    ensures at { result + WORDS_LENGTH ≡ end }
     ensures written { drop result room.new ≡ codes " (time point " ++ drop end room.old }
 {
-    let start = end - WORDS.len();
+    let start = end - WORDS_LENGTH;
     room[start..end].copy_from_slice(&WORDS);
     start
 }
 
 // A mark and a timestamp behind it that ends at a place, and where the mark stands.
 fn put_time(room: &mut [u8; ROOM], end: usize, ts: u64) -> usize
-    requires { (21 ≤ end) × (end ≤ 64) }
-    ensures within { result ≤ 63 }
+    requires { (TIME_ROOM ≤ end) × (end ≤ ROOM) }
+    ensures within { result ≤ END }
     ensures written { drop result room.new ≡ codes "@" ++ decimal ts ++ drop end room.old }
 {
     let start = write_digits(ts, room, end) - 1;
@@ -47,8 +53,8 @@ fn put_time(room: &mut [u8; ROOM], end: usize, ts: u64) -> usize
 
 /// Writes the front so that it ends before the last byte, and answers where it begins.
 pub(crate) fn put_front(room: &mut [u8; ROOM], point: u64, ts: u64) -> usize
-    ensures within { result ≤ 63 }
-    ensures written { drop result room.new ≡ line_front ts point ++ drop 63 room.old }
+    ensures within { result ≤ END }
+    ensures written { drop result room.new ≡ line_front ts point ++ drop END room.old }
 {
     let end = put_end(room);
     let number = write_digits(point, room, end);

@@ -1,17 +1,22 @@
 //! Why a run stops before the end of a log without faults.
 use log_reader::LogFault;
 use std::alloc::AllocError;
+use thiserror::Error;
 
 /// What stops a run.
-#[derive(Drop)]
+#[derive(Debug, Drop, Error)]
 pub enum Stop {
     /// The first fault of the log, behind all lines.
+    #[error("Log {0}")]
     Log(LogFault),
     /// The log could not be read on.
+    #[error("Read")]
     Read,
     /// The output took no more bytes.
+    #[error("Sink")]
     Sink,
     /// Memory was refused.
+    #[error("Memory")]
     Memory,
 }
 

@@ -24,7 +24,7 @@ impl Tally {
         }
     }
 
-    /// One verdict more, with so many rows.
+    /// One verdict more, with so many rows. Where a count has no room for them it errs, as for want of memory.
     pub(crate) fn count(&mut self, rows: usize) -> Result<(), AllocError>
         ensures settled { OnOk result (self.new.settled ≡ self.old.settled + 1) }
         ensures violated { OnOk result (self.new.violated ≡ self.old.violated + cond (nat_lt 0 rows) 1 0) }

@@ -44,7 +44,9 @@ impl<'a, R: Files, S: Read + Drop> RealInputs<'a, R, S> {
         }
     }
 
+    // Reads of the open file or of standard input.
     fn read_source(&mut self, buffer: &mut [u8]) -> Result<usize, Failed>
+        requires opened { IsTrue (is_opened self.old.source) }
         ensures opened { is_opened self.new.source ≡ is_opened self.old.source }
         ensures within { IfOk result (λ count. count ≤ length buffer.new) }
         ensures told { ReadConsumes
@@ -53,7 +55,7 @@ impl<'a, R: Files, S: Read + Drop> RealInputs<'a, R, S> {
         ensures failures { self.new.failures ≡ self.old.failures }
     {
         match &mut self.source {
-            Source::Closed => Err(Failed),
+            Source::Closed => unreachable!(),
             Source::Input => read_some(&mut self.input, buffer),
             Source::File(file) => read_some(file, buffer),
         }

@@ -17,7 +17,8 @@ pub struct RealSink<W: Write + Drop> {
 }
 
 impl<W: Write + Drop> RealSink<W> {
-    /// No call has failed, and nothing is written here.
+    /// No call has failed, and nothing is written here. The stream is one that keeps nothing back itself, as the standard
+    /// streams do.
     pub fn new(stream: W) -> Self
         ensures stream { result.stream ≡ stream }
         ensures unfailed { result.failures ≡ 0 }

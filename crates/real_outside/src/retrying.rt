@@ -2,6 +2,7 @@
 ghost use Rattle.std.specs.Prelude.{◌≡◌, ◌<◌, ◌≤◌, length, IfOk};
 ghost use Rattle.std.specs.Io.KnownBytes.{Keeps, ReadConsumes, WriteAppends};
 ghost use Rattle.mon_outside.specs.Causes.{Rose};
+ghost use Rattle.mon_outside.specs.Memory.{one_more};
 
 use mon_outside::Failed;
 use std::io::{ErrorKind, Read, Write};
@@ -56,7 +57,7 @@ pub fn flush_all<W: Write>(writer: &mut W) -> Result<(), Failed>
 
 /// One failure more; the greatest count stays as it is.
 pub fn one_more(failures: u64) -> u64
-    ensures later { failures ≤ result }
+    ensures count { result ≡ one_more failures }
     ensures rose { Rose failures result }
 {
     failures.saturating_add(1)

@@ -130,10 +130,10 @@ fn end_after(done: Result<Tally, Stop>) -> End
     }
 }
 
-/// Monitors the open log by the plan, with so many threads beside the caller's, and writes the line of each position
-/// as soon as it is settled. A change is made just before the time-point of its number is read, and never where the log
-/// ends before it. What is written is handed on before each read. However many threads there are and however they run,
-/// this holds, and so do the clauses.
+/// Monitors the open log by the plan, with so many threads beside the caller's, and writes the line of each settled
+/// position, in order, before more of the log is read. A change is made just before the time-point of its number is
+/// read, and never where the log ends before it. What is written is handed on before each read. However many threads
+/// there are and however they run, this holds, and so do the clauses.
 pub fn monitor<R: Threads + Wait + Sync, I: Inputs, O: Sink, G: Gate + Sync>(
     rt: &R,
     alloc: Global,

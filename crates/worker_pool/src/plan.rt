@@ -19,6 +19,7 @@ impl Plan {
     /// How many workers the strategy with the most of them has.
     pub(crate) fn most_workers(&self) -> u32
         ensures some { 0 < result }
+        ensures first { workers_of self.now.first ≤ result }
         ensures changes { All (λ c. workers_of c.strategy ≤ result) self.now.changes.items }
     {
         most_workers(&self.first, self.changes.as_slice())
