@@ -32,7 +32,7 @@ fn answer(alloc: Global, case: &str) -> Result<String, Stop> {
 fn answer_of_tokens(alloc: Global, kind: &str, case: &str) -> Result<String, Stop> {
     match kind {
         "tokens" | "contents" | "twice" | "front" | "integer" => tokens::answer(alloc, kind, case),
-        "points" | "limited" | "unfinished" | "pieces" => points::answer(alloc, kind, case),
+        "points" | "limited" | "unfinished" | "fed" | "pieces" => points::answer(alloc, kind, case),
         _ => Err(Stop::Malformed),
     }
 }

@@ -14,6 +14,7 @@ pub fn answer(alloc: Global, kind: &str, case: &str) -> Result<String, Stop> {
     match kind {
         "limited" => limited(alloc, case),
         "unfinished" => unfinished(alloc, case),
+        "fed" => fed(alloc, case),
         "pieces" => pieces(alloc, case),
         _ => within(alloc, Limits::standard(), case),
     }
@@ -73,13 +74,54 @@ fn told_unfinished(alloc: Global, signature: &Signature, log: &str) -> Result<St
 
 fn told_thrice(alloc: Global, reader: &mut LogReader<'_>) -> Result<String, Stop> {
     let mut told = String::new(alloc);
-    put_points(alloc, &mut told, reader)?;
-    reader.finish();
-    for _ in 0..2 {
-        told.push(';')?;
-        put_points(alloc, &mut told, reader)?;
-    }
+    put_part(alloc, &mut told, reader)?;
+    put_end(alloc, &mut told, reader)?;
     Ok(told)
+}
+
+// What is told behind each piece of a log, and twice what is told behind its end.
+fn fed(alloc: Global, case: &str) -> Result<String, Stop> {
+    let (signature, pieces) = halves(case)?;
+    let signature = signature_of(alloc, signature)?;
+    told_fed(alloc, &signature, pieces)
+}
+
+fn told_fed(alloc: Global, signature: &Signature, pieces: &str) -> Result<String, Stop> {
+    let mut reader = LogReader::new(alloc, signature, Limits::standard());
+    let mut told = String::new(alloc);
+    for piece in pieces.split(" | ") {
+        let bytes = bytes_of(alloc, piece)?;
+        put_fed(alloc, &mut told, &mut reader, bytes.as_slice())?;
+    }
+    put_end(alloc, &mut told, &mut reader)?;
+    Ok(told)
+}
+
+// Feeds a piece, and puts what is told then.
+fn put_fed(
+    alloc: Global,
+    told: &mut String,
+    reader: &mut LogReader<'_>,
+    piece: &[u8],
+) -> Result<(), Stop> {
+    if reader.is_broken() || reader.is_finished() {
+        return Ok(());
+    }
+    reader.feed(alloc, piece)?;
+    put_part(alloc, told, reader)
+}
+
+// Puts what is told before the log's end is, and a mark behind it.
+fn put_part(alloc: Global, told: &mut String, reader: &mut LogReader<'_>) -> Result<(), Stop> {
+    put_points(alloc, told, reader)?;
+    Ok(told.push(';')?)
+}
+
+// Tells the log's end, and puts twice what is told then.
+fn put_end(alloc: Global, told: &mut String, reader: &mut LogReader<'_>) -> Result<(), Stop> {
+    reader.finish();
+    put_part(alloc, told, reader)?;
+    put_points(alloc, told, reader)
 }
 
 // The time-points of a log that is fed in pieces of so many bytes, and the most that is held between two.
