@@ -7,12 +7,14 @@ use std::thread;
 /// So many looks a worker waits for the other.
 const LOOKS: u64 = 100_000_000;
 
-/// Two workers meet here at their first items. It counts how often each passes.
+/// Two workers meet here at their first items. It counts how often each passes, and notes whether one passed with
+/// another number than that of its passes before.
 #[derive(Drop)]
 pub struct Meeting {
     first: AtomicU64,
     second: AtomicU64,
     gave_up: AtomicBool,
+    misnumbered: AtomicBool,
 }
 
 impl Meeting {
@@ -22,6 +24,7 @@ impl Meeting {
             first: AtomicU64::new(0),
             second: AtomicU64::new(0),
             gave_up: AtomicBool::new(false),
+            misnumbered: AtomicBool::new(false),
         }
     }
 
@@ -33,6 +36,11 @@ impl Meeting {
     /// Whether a worker let go before the other came.
     pub fn gave_up(&self) -> bool {
         self.gave_up.load(SeqCst)
+    }
+
+    /// Whether a worker passed with another number than that of its passes before.
+    pub fn misnumbered(&self) -> bool {
+        self.misnumbered.load(SeqCst)
     }
 
     // Waits until the other has come.
@@ -53,7 +61,9 @@ impl Gate for Meeting {
             0 => (&self.first, &self.second),
             _ => (&self.second, &self.first),
         };
-        mine.fetch_add(1, SeqCst);
+        if item != mine.fetch_add(1, SeqCst) {
+            self.misnumbered.store(true, SeqCst);
+        }
         if item == 0 {
             self.wait(other);
         }

@@ -56,7 +56,7 @@ fn two_workers_overlap(rt: HostRuntime) -> Result<(), Fail> {
     assert!(rt; out.inner().written() == LINES);
     assert!(rt; err.written().is_empty());
     assert!(rt; meeting.passes() == (3, 3));
-    assert!(rt; !meeting.gave_up());
+    assert!(rt; !meeting.gave_up() && !meeting.misnumbered());
     assert_eq!(rt; out.lines(), 3);
     assert!(rt; !out.was_early());
     Ok(())
