@@ -36,6 +36,7 @@ pub(crate) fn prepare(
     requires suits { IsFor (core_form plan.core) plan.first }
     requires changes { AllSuit (core_form plan.core) plan.changes.items }
     requires some { 0 < cells }
+    requires first { workers_of plan.first ≤ cells }
     requires wide { All (λ c. workers_of c.strategy ≤ cells) plan.changes.items }
     ensures count { IfOk result (λ r. cells ≤ cell_count r.0.hub) }
     ensures begins { IfOk result (λ r. HasReadNothing (core_form plan.core) r.0.driver) }
