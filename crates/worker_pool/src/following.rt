@@ -3,7 +3,7 @@ ghost use Rattle.std.specs.Prelude.{◌≡◌, ◌<◌, ◌≤◌, IsTrue, OnOk,
 ghost use Rattle.log_reader.specs.Progress.{nothing_fed};
 ghost use Rattle.log_reader.specs.Readers.{Reads, progress};
 ghost use Rattle.monitorable.specs.CoreForms.{CoreForm};
-ghost use Rattle.turn_hub.specs.Ends.{IsMainOf, cell_count};
+ghost use Rattle.turn_hub.specs.Ends.{IsMainOf};
 ghost use Rattle.hub_threads.specs.Hands.{AreHandsOf};
 ghost use Rattle.lone_worker.specs.Chunks.{run_end};
 ghost use Rattle.lone_worker.specs.Effects.{effect};
@@ -53,7 +53,6 @@ impl<R: Wait, G: Gate, I: Inputs, O: Sink> MainLoop<'_, '_, R, G, I, O> {
         requires unread { self.old.schedule.now.routed ≡ 0 }
         requires uncounted { writer.old.tally ≡ tally_of [] }
         requires main { IsMainOf self.old.context.now.hub.now self.old.driver.now.main }
-        requires cells { self.old.context.now.cells ≤ cell_count self.old.context.now.hub.now }
         requires hands { AreHandsOf self.old.context.now.hub.now own.old.items }
         ensures hands { AreHandsOf self.old.context.now.hub.now own.new.items }
         ensures same_log { self.new.log.ghost_name ≡ self.old.log.ghost_name }

@@ -1,6 +1,6 @@
 //! One chunk of main's loop.
 ghost use Rattle.std.specs.Prelude.{◌≡◌, ◌<◌, ◌≤◌, IsTrue, OnOk, length};
-ghost use Rattle.turn_hub.specs.Ends.{IsMainOf, cell_count};
+ghost use Rattle.turn_hub.specs.Ends.{IsMainOf};
 ghost use Rattle.hub_threads.specs.Hands.{AreHandsOf};
 ghost use Rattle.main_steps.specs.Changes.{HaveCells, Suits};
 ghost use Rattle.worker_pool.specs.Following.{Beginning, ComesTo, HasCome, loop_state};
@@ -27,7 +27,6 @@ impl<R: Wait, G: Gate, I: Inputs, O: Sink> MainLoop<'_, '_, R, G, I, O> {
         requires suits { Suits self.old.driver.now self.old.schedule.now }
         requires seated { HaveCells self.old.context.now.cells self.old.schedule.now }
         requires main { IsMainOf self.old.context.now.hub.now self.old.driver.now.main }
-        requires cells { self.old.context.now.cells ≤ cell_count self.old.context.now.hub.now }
         requires hands { AreHandsOf self.old.context.now.hub.now own.old.items }
         ensures hands { AreHandsOf self.new.context.now.hub.now own.new.items }
         ensures same_context { self.new.context ≡ self.old.context }

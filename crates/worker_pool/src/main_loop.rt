@@ -3,7 +3,8 @@ ghost use Rattle.std.specs.Prelude.{◌≡◌, ◌≤◌, ◌<◌, [], IsTrue, O
 ghost use Rattle.log_reader.specs.Progress.{nothing_fed};
 ghost use Rattle.log_reader.specs.Readers.{Reads, progress};
 ghost use Rattle.monitorable.specs.CoreForms.{CoreForm};
-ghost use Rattle.turn_hub.specs.Ends.{IsMainOf, cell_count};
+ghost use Rattle.turn_hub.specs.Ends.{IsMainOf};
+ghost use Rattle.hub_threads.specs.Bells.{bell_count};
 ghost use Rattle.hub_threads.specs.Hands.{AreGroupsOf, AreHandsOf};
 ghost use Rattle.lone_worker.specs.Chunks.{run_end};
 ghost use Rattle.lone_worker.specs.Effects.{effect};
@@ -30,7 +31,7 @@ impl<'o, 's, R: Wait, G: Gate, I: Inputs, O: Sink> MainTask<Worker>
     ghost use Rattle.log_reader.specs.Progress.{nothing_fed};
     ghost use Rattle.log_reader.specs.Readers.{Reads, progress};
     ghost use Rattle.monitorable.specs.CoreForms.{CoreForm};
-    ghost use Rattle.turn_hub.specs.Ends.{IsMainOf, cell_count};
+    ghost use Rattle.turn_hub.specs.Ends.{IsMainOf};
     ghost use Rattle.hub_threads.specs.Hands.{AreHandsOf};
     ghost use Rattle.lone_worker.specs.Chunks.{run_end};
     ghost use Rattle.lone_worker.specs.Effects.{effect};
@@ -51,7 +52,6 @@ impl<'o, 's, R: Wait, G: Gate, I: Inputs, O: Sink> MainTask<Worker>
         × HaveCells d.context.now.cells d.schedule.now
         × (d.schedule.now.routed ≡ 0)
         × IsMainOf d.context.now.hub.now d.driver.now.main
-        × (d.context.now.cells ≤ cell_count d.context.now.hub.now)
         × AreHandsOf d.context.now.hub.now own };
 
     ghost did = { λ d r e. (e.log.ghost_name ≡ d.log.ghost_name)
@@ -101,8 +101,8 @@ pub(crate) fn follow_beside<'o, 's, R: Threads + Wait + Sync, I: Inputs, O: Sink
     requires seated { HaveCells context.now.cells schedule.old }
     requires unread { schedule.old.routed ≡ 0 }
     requires main { IsMainOf context.now.hub.now driver.old.main }
-    requires cells { context.now.cells ≤ cell_count context.now.hub.now }
     requires groups { AreGroupsOf context.now.hub.now groups.items }
+    requires bells { length groups.items ≡ bell_count context.now.bells.now }
     requires hands { AreHandsOf context.now.hub.now own.items }
     ensures files { I.files inputs.new ≡ I.files inputs.old }
     ensures stays_open { I.is_open inputs.new ≡ I.is_open inputs.old }

@@ -1,14 +1,16 @@
 //! The whole run over a log.
-ghost use Rattle.std.specs.Prelude.{◌≡◌, ◌<◌, ◌≤◌, [], IsTrue, length};
+ghost use Rattle.std.specs.Prelude.{◌≡◌, ◌<◌, ◌≤◌, [], IsTrue, OnOk, length};
 ghost use Rattle.log_reader.specs.Progress.{nothing_fed};
 ghost use Rattle.log_reader.specs.Readers.{Reads, progress};
 ghost use Rattle.monitorable.specs.Cores.{core_form};
+ghost use Rattle.rescale_core.specs.declared.driver.Driver.{Driver};
 ghost use Rattle.rescale_worker.specs.Workers.{IsFor};
 ghost use Rattle.lone_worker.specs.Effects.{effect};
 ghost use Rattle.lone_worker.specs.Endings.{FollowsLog};
 ghost use Rattle.lone_worker.specs.Chunks.{run_end};
 ghost use Rattle.lone_worker.specs.Policies.{ForEachPolicy};
 ghost use Rattle.main_steps.specs.Changes.{AllSuit};
+ghost use Rattle.worker_pool.specs.Chunks.{ReadsPlan};
 
 use crate::by_one::follow_by_one;
 use crate::main_loop::follow_beside;
@@ -48,6 +50,8 @@ fn follow_together<R: Threads + Wait + Sync, I: Inputs, O: Sink, G: Gate + Sync>
     ensures later_out { O.faults out.old ≤ O.faults out.new }
     ensures follows { ForEachPolicy (core_form plan.core) (λ policy. FollowsLog log.old.sig log.old.limits policy
         (effect I.Inputs O.Sink inputs.old inputs.new out.old out.new) (run_end result)) }
+    ensures planned { OnOk result ((driver : Driver) × ReadsPlan log.old.sig log.old.limits plan.changes.items
+        (I.rest inputs.old) (I.rest inputs.new) driver) }
 {
     let cells = plan.most_workers();
     let Ok((mut prepared, groups, own)) = prepare(alloc, plan, cells, threads) else {
@@ -146,7 +150,6 @@ pub fn monitor<R: Threads + Wait + Sync, I: Inputs, O: Sink, G: Gate + Sync>(
 ) -> End
     requires suits { IsFor (core_form plan.core) plan.first }
     requires changes { AllSuit (core_form plan.core) plan.changes.items }
-    requires few { threads ≤ 64 }
     requires opened { IsTrue (I.is_open inputs.old) }
     requires fresh { progress log.old [] ≡ nothing_fed log.old.sig log.old.limits }
     requires reads { Reads log.old [] }

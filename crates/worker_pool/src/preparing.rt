@@ -1,10 +1,11 @@
 //! What main and the threads work with.
-ghost use Rattle.std.specs.Prelude.{◌≡◌, ◌<◌, ◌≤◌, All, IfOk};
+ghost use Rattle.std.specs.Prelude.{◌≡◌, ◌<◌, ◌≤◌, All, IfOk, length};
 ghost use Rattle.std.specs.List.{range_with_len};
 ghost use Rattle.mfotl_model.specs.Strategies.{workers_of};
 ghost use Rattle.monitorable.specs.Cores.{core_form};
 ghost use Rattle.rescale_worker.specs.Workers.{IsFor};
 ghost use Rattle.turn_hub.specs.Ends.{IsMainOf, cell_count};
+ghost use Rattle.hub_threads.specs.Bells.{bell_count};
 ghost use Rattle.hub_threads.specs.Hands.{AreDealt, AreGroupsOf, AreHandsOf};
 ghost use Rattle.main_steps.specs.Changes.{AllSuit, HaveCells, Suits};
 ghost use Rattle.main_steps.specs.Writing.{HasReadNothing};
@@ -36,6 +37,7 @@ pub(crate) fn prepare(
     requires suits { IsFor (core_form plan.core) plan.first }
     requires changes { AllSuit (core_form plan.core) plan.changes.items }
     requires some { 0 < cells }
+    requires first { workers_of plan.first ≤ cells }
     requires wide { All (λ c. workers_of c.strategy ≤ cells) plan.changes.items }
     ensures count { IfOk result (λ r. cells ≤ cell_count r.0.hub) }
     ensures begins { IfOk result (λ r. HasReadNothing (core_form plan.core) r.0.driver) }
@@ -46,6 +48,7 @@ pub(crate) fn prepare(
     ensures main { IfOk result (λ r. IsMainOf r.0.hub r.0.driver.main) }
     ensures groups { IfOk result (λ r. AreGroupsOf r.0.hub r.1.items) }
     ensures own { IfOk result (λ r. AreHandsOf r.0.hub r.2.items) }
+    ensures bells { IfOk result (λ r. bell_count r.0.bells ≡ length r.1.items) }
     ensures dealt { IfOk result (λ r. AreDealt (range_with_len 0 cells) threads r.1.items r.2.items) }
 {
     let Plan {

@@ -3,7 +3,7 @@ ghost use Rattle.std.specs.Prelude.{◌≡◌, ◌≤◌, IfErr, IfOk, OnOk, fal
 ghost use Rattle.mon_outside.specs.Sink.{AppendsFront};
 ghost use Rattle.log_reader.specs.Progress.{read};
 ghost use Rattle.log_reader.specs.Readers.{ForEach, progress};
-ghost use Rattle.turn_hub.specs.Ends.{IsMainOf, cell_count};
+ghost use Rattle.turn_hub.specs.Ends.{IsMainOf};
 ghost use Rattle.hub_threads.specs.Hands.{AreHandsOf};
 ghost use Rattle.lone_worker.specs.Chunks.{StopsLines};
 ghost use Rattle.lone_worker.specs.Courses.{HasDoneAll};
@@ -35,7 +35,6 @@ fn stop_behind_lines<R: Wait, O: Sink, G: Gate>(
 ) -> Stop
     requires runs { Runs driver.old (O.written out.old) writer.old.tally }
     requires main { IsMainOf context.now.hub.now driver.old.main }
-    requires cells { context.now.cells ≤ cell_count context.now.hub.now }
     requires hands { AreHandsOf context.now.hub.now own.old.items }
     ensures hands { AreHandsOf context.now.hub.now own.new.items }
     ensures short { FallsShort driver.old (O.written out.old) writer.old.tally (O.written out.new) }
@@ -68,7 +67,6 @@ fn route_next<R: Wait, O: Sink, G: Gate>(
     requires under_way { IsUnderWay reader.old driver.old schedule.old.changes.items (O.written out.old)
         writer.old.tally }
     requires main { IsMainOf context.now.hub.now driver.old.main }
-    requires cells { context.now.cells ≤ cell_count context.now.hub.now }
     requires hands { AreHandsOf context.now.hub.now own.old.items }
     ensures hands { AreHandsOf context.now.hub.now own.new.items }
     ensures ok { OnOk result (Routed context.now.hub.now context.now.cells schedule.old schedule.new
@@ -109,7 +107,6 @@ fn route_points<R: Wait, O: Sink, G: Gate>(
     requires under_way { IsUnderWay reader.old driver.old schedule.old.changes.items (O.written out.old)
         writer.old.tally }
     requires main { IsMainOf context.now.hub.now driver.old.main }
-    requires cells { context.now.cells ≤ cell_count context.now.hub.now }
     requires hands { AreHandsOf context.now.hub.now own.old.items }
     ensures hands { AreHandsOf context.now.hub.now own.new.items }
     ensures ok { OnOk result (Routed context.now.hub.now context.now.cells schedule.old schedule.new
@@ -152,7 +149,6 @@ pub(crate) fn route_complete<R: Wait, O: Sink, G: Gate>(
     requires under_way { IsUnderWay reader.old driver.old schedule.old.changes.items (O.written out.old)
         writer.old.tally }
     requires main { IsMainOf context.now.hub.now driver.old.main }
-    requires cells { context.now.cells ≤ cell_count context.now.hub.now }
     requires hands { AreHandsOf context.now.hub.now own.old.items }
     ensures hands { AreHandsOf context.now.hub.now own.new.items }
     ensures main { OnOk result (IsMainOf context.now.hub.now driver.new.main) }
