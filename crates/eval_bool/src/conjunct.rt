@@ -13,7 +13,7 @@ use std::marker::Model;
 #[derive(Drop)]
 pub enum Conjunct {
     Child {
-        columns: Vec<u32>,
+        cols: Vec<u32>,
         negated: bool,
     },
     Test {
@@ -46,7 +46,7 @@ fn with_own_columns(
         both.items ≡ joined columns.items (own_columns (conjunct_of conjunct.now))) }
 {
     match conjunct {
-        Conjunct::Child { columns: own, .. } => joined(alloc, columns, own.as_slice()),
+        Conjunct::Child { cols, .. } => joined(alloc, columns, cols.as_slice()),
         Conjunct::Test { comparison, .. } => {
             let own = comparison.variables(alloc)?;
             joined(alloc, columns, own.as_slice())
@@ -84,8 +84,8 @@ impl Parts {
             ≡ self.old.children.items ++ children_of (conjunct_of conjunct ∷ [])) }
     {
         match conjunct {
-            Conjunct::Child { columns, negated } => {
-                self.children.push(Child::new(alloc, columns, negated))?;
+            Conjunct::Child { cols, negated } => {
+                self.children.push(Child::new(alloc, cols, negated))?;
             }
             Conjunct::Test { comparison, wanted } => {
                 self.tests.push(Test { comparison, wanted })?;

@@ -5,6 +5,10 @@ use Rattle.std.specs.Prelude.{ℕ, ◌+◌, ◌*◌, ◌/◌, ◌%◌, ◌^◌}
 abbrev pub moved_on : ℕ → ℕ
 moved_on s = (s * 6364136223846793005 + 1442695040888963407) % 2 ^ 64
 
+-- the number that is drawn behind s: the upper 31 bits of the next one
+abbrev pub draw : ℕ → ℕ
+draw s = moved_on s / 2 ^ 33
+
 -- the number below m that is drawn behind s
 abbrev pub drawn : ℕ → ℕ → ℕ
-drawn m s = moved_on s / 2 ^ 33 % m
+drawn m s = draw s % m

@@ -13,6 +13,7 @@ use Rattle.log_reader.specs.declared.fault.LogFault.TheVariants.{Lex, Syntax, Un
 use Rattle.log_reader.specs.declared.fault.LogFault.TheVariants.{IntRange, TimestampRange, FallingTime, TooManyEvents}
 use Rattle.log_reader.specs.declared.fault.LogFault.TheVariants.{TooManyPoints, TooLong}
 use Rattle.log_reader.specs.declared.limits.Limits.{Limits}
+use Rattle.log_reader.specs.DemoDraws.{draw, moved_on}
 use Rattle.log_reader.specs.DemoEvents.{moments, line_of}
 use Rattle.log_reader.specs.FaultTexts.{fault_text}
 use Rattle.log_reader.specs.Symbols.{Says, Quoted, symbol_of}
@@ -117,6 +118,8 @@ first_lines count seed = flat_map line_of (moments count 0 seed)
 
 -- for two seeds, worked out beside the definitions
 pub record WorkedDemo : Type 0 where
+  pub first_draw : draw 0 ≡ 167951807
+  pub second_draw : draw (moved_on 0) ≡ 218396424
   pub seed_0 : first_lines 3 0 ≡ codes "@3;\n@4 grant(91) req(75,eve) req(3,cat) grant(45);\n@4;\n"
   pub seed_42 : first_lines 4 42
       ≡ codes "@2 req(3,eve) grant(69);\n@4 grant(4) grant(82);\n@6 grant(10) req(69,eve) req(8,eve) drop(60);\n"

@@ -93,9 +93,9 @@ fn own_conjunct(alloc: Global, part: &Part) -> Result<Conjunct, AllocError>
 {
     match part {
         Part::Child(node, negated) => {
-            let columns = node.free_vars(alloc)?;
+            let cols = node.free_vars(alloc)?;
             Ok(Conjunct::Child {
-                columns,
+                cols,
                 negated: *negated,
             })
         }
