@@ -9,5 +9,4 @@ pub mod DemoLemmas
 pub mod DemoTexts
 pub mod DivisionLemmas
 pub mod ReportLemmas
-pub mod UsageLemmas
 pub mod AnswerLemmas

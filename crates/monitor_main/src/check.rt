@@ -80,9 +80,7 @@ fn write_columns<O: Sink>(alloc: Global, vars: &[Var], out: &mut O) -> Result<()
         (monitorable_line vars.now) }
     ensures later { O.faults out.old ≤ O.faults out.new }
 {
-    let Ok(line) = monitorable_line(alloc, vars) else {
-        return Err(Refusal::Memory);
-    };
+    let line = monitorable_line(alloc, vars)?;
     write_line(line.as_slice(), out)
 }
 
@@ -100,8 +98,6 @@ pub fn tell_columns<O: Sink>(
         (check_answer (Ok (checked_in checked.now))).out }
     ensures later { O.faults out.old ≤ O.faults out.new }
 {
-    match write_columns(alloc, checked.policy.vars.as_slice(), out) {
-        Ok(()) => Ok(false),
-        Err(refusal) => Err(refusal),
-    }
+    write_columns(alloc, checked.policy.vars.as_slice(), out)?;
+    Ok(false)
 }

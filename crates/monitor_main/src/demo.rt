@@ -47,9 +47,7 @@ fn write_counts<O: Sink>(
         (demo_line seed settled violated rows) }
     ensures later { O.faults out.old ≤ O.faults out.new }
 {
-    let Ok(line) = demo_line(alloc, seed, settled, violated, rows) else {
-        return Err(Refusal::Memory);
-    };
+    let line = demo_line(alloc, seed, settled, violated, rows)?;
     write_line(line.as_slice(), out)
 }
 
@@ -65,10 +63,10 @@ fn tell_end<O: Sink>(alloc: Global, seed: u64, end: End, out: &mut O) -> Result<
             settled,
             violated,
             rows,
-        } => match write_counts(alloc, seed, settled, violated, rows, out) {
-            Ok(()) => Ok(false),
-            Err(refusal) => Err(refusal),
-        },
+        } => {
+            write_counts(alloc, seed, settled, violated, rows, out)?;
+            Ok(false)
+        }
         End::LogEnds(fault) => Err(Refusal::from(fault)),
         End::ReadFailed | End::SinkFailed => unreachable!(),
         End::Memory => Err(Refusal::Memory),

@@ -13,7 +13,6 @@ ghost use Rattle.monitor_main.specs.CheckedPolicies.{checked_in};
 ghost use Rattle.command_line.specs.CommandViews.{text_in};
 ghost use Rattle.monitor_main.specs.Decisions.{MonitorsLog};
 ghost use Rattle.monitor_main.specs.Divisions.{BeginsBy, ChangesAt};
-ghost use Rattle.command_line.specs.Limits.{max_threads};
 ghost use Rattle.monitor_main.specs.LogRuns.{outcome_of};
 ghost use Rattle.monitor_main.specs.ReadyTasks.{IsReady};
 
@@ -62,7 +61,6 @@ fn follow_plan<R: Threads + Wait + Sync, I: Inputs, O: Sink, G: Gate + Sync>(
 ) -> End
     requires suits { IsFor (core_form plan.core) plan.first }
     requires changes { AllSuit (core_form plan.core) plan.changes.items }
-    requires few { threads ≤ max_threads }
     requires opened { IsTrue (I.is_open inputs.old) }
     ensures files { I.files inputs.new ≡ I.files inputs.old }
     ensures stays_open { I.is_open inputs.new ≡ I.is_open inputs.old }

@@ -1,6 +1,5 @@
 //! What is monitored: a policy, and how the work on it is divided among workers and threads.
-ghost use Rattle.std.specs.Prelude.{◌≡◌, ◌≤◌, Err};
-ghost use Rattle.command_line.specs.Limits.{max_threads};
+ghost use Rattle.std.specs.Prelude.{◌≡◌, Err};
 
 use crate::checked_policy::CheckedPolicy;
 use crate::division::Division;
@@ -17,13 +16,11 @@ pub struct Task {
     pub first: Strategy,
     pub changes: Vec<Change>,
     pub threads: u32,
-    ghost few: { threads ≤ max_threads },
 }
 
 impl Task {
     /// The task of a policy, the work on which is divided so, among so many threads.
     pub fn new(checked: CheckedPolicy, division: Division, threads: u32) -> Task
-        requires few { threads ≤ max_threads }
         ensures checked { result.checked ≡ checked }
         ensures first { result.first ≡ division.first }
         ensures changes { result.changes ≡ division.changes }

@@ -103,6 +103,8 @@ impl Monitor {
     pub fn resume(alloc: Global, core: Core, state: State) -> Result<Self, AllocError>
         requires rule { StateRule (core_form core) state }
         ensures core { IfOk result (λ monitor. (monitor_of monitor).core ≡ core_form core) }
+        ensures first { IfOk result (λ monitor.
+            (monitor_of monitor).state.first ≡ state.taken - length state.times.items) }
         ensures stands { IfOk result (λ monitor. Resumes (core_form core) state (monitor_of monitor).state) }
     {
         let fresh = begun_nodes(alloc, core.root())?;

@@ -24,6 +24,11 @@ nodes_resumed-requires c =
     (subst (λ f. Adds (nodes_of f) [] fresh) c.root.ensures c.in_ok-fresh.ensures))
     c.requires.rule)
 
+pub returns-clause-first : goal.returns-clause-first
+returns-clause-first c =
+    let kept = c.args.state in
+    c.saturating_sub-first.ensures ∙ ap (λ n. kept.taken - n) (c.len.ensures ∙ kept.times.ok.0)
+
 pub returns-clause-stands : goal.returns-clause-stands
 returns-clause-stands c view suits stands =
     let core = core_form c.args.core in
