@@ -1,5 +1,6 @@
 //! Cells that main and the hands of other threads work on by turns. Each cell has a work, to which main hands
-//! items over, and which gives outs back. Whatever the threads do, what comes back is what one thread would give.
+//! items over, and which gives outs back. Whatever the threads do, what the work tells (`Work`: `told`) holds of all
+//! items that were handed over and all outs that came back.
 #![tactic(auto)]
 
 mod close;
