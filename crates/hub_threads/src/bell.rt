@@ -5,9 +5,9 @@ use std::sync::atomic::Ordering::SeqCst;
 use std::sync::atomic::{AtomicBool, AtomicU64};
 use std::time::Duration;
 
-/// From the round of this number on, of those without work in a row, each ends with a sleep; the ones before it take some
-/// microseconds. A yield would hand the processor of a busy machine to others for milliseconds, while a sleeper is woken
-/// at once.
+/// From the round of this number on, of those without work in a row, each ends with a sleep; the ones before it take
+/// some microseconds. A yield would hand the processor of a busy machine to others for milliseconds, while a sleeper is
+/// woken at once.
 const PATIENCE: u64 = 100;
 
 /// The longest sleep.
