@@ -25,16 +25,6 @@ later_time s due = grind arith
 module _ (s : NextOf) (now then : ℕ) (ts : List ℕ) (table : TableOf) (rest : List TableOf)
     (times : s.times ≡ now ∷ ts) (due : next_due s ≡ true) (tables : s.tables ≡ table ∷ rest)
     (t : List ℕ) (a : List Bool) (v : Valuation) (f : FollowsNext s t a v) where
-  pub next_pulled : FollowsNext (record {
-    interval = s.interval;
-    columns = s.columns;
-    pulled = s.pulled + 1;
-    times = ts;
-    started = s.started;
-    tables = rest;
-  }) t a v
-  next_pulled = grind arith
-
   stands_next : (xs : List ℕ) → StandFrom (λ i x. x ≡ time_at t i) (s.pulled + 1) xs → 0 < length xs
       → then ≡ get_or xs 0 then → then ≡ time_at t (s.pulled + 1)
   stands_next xs all l e = grind (arith, common_steps)

@@ -327,13 +327,6 @@ impl Ahead {
         &self.interval
     }
 
-    /// Whether the left operand is negated.
-    pub fn negated(&self) -> bool
-        ensures { result ≡ self.now.negated }
-    {
-        self.negated
-    }
-
     /// The left operand's columns.
     pub fn left(&self) -> &[u32]
         ensures { result.now ≡ self.now.left }

@@ -17,4 +17,4 @@ mod until_steps;
 pub use next::NextState;
 pub use recalled::{NextData, UntilData};
 pub use until::UntilState;
-pub use until_rows::{Entry, KeptMarks, KeptStart, Mark};
+pub use until_rows::{KeptMarks, KeptStart, Mark};

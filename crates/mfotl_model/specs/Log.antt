@@ -1,4 +1,4 @@
--- A log: its time-points in order, with timestamps that never fall.
+-- A log: its time-points in order. That their timestamps never fall is said apart (`NeverFalls` of `Times`).
 use Rattle.std.specs.Prelude.{ℕ, List, map}
 use Rattle.mfotl_model.specs.declared.event.TimePoint.{TimePoint}
 

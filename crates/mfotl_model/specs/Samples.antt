@@ -46,7 +46,7 @@ at_x_y pred = at pred (Var 0 ∷ Var 1 ∷ [])
 abbrev pub bound : ℕ → Bound
 bound x = record { number = x; name = codes "x" }
 
--- an integer that isn't negative, and a text
+-- an integer that isn't negative
 abbrev pub int : ℕ → Value
 int n = Int (pos n)
 

@@ -42,7 +42,7 @@ abbrev pub workers_of : Strategy → ℕ
 workers_of [] = 1
 workers_of (e ∷ es) = parts_of e * workers_of es
 
--- the same of the variables from y on
+-- the number whose digits are the parts of the values of the variables from y on
 abbrev pub owner_from : ℕ → Strategy → Valuation → ℕ
 owner_from y [] v = 0
 owner_from y (e ∷ es) v = strategy_part e (v y) * workers_of es + owner_from (y + 1) es v

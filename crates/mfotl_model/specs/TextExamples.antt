@@ -11,7 +11,7 @@ use Rattle.mfotl_model.specs.declared.term.Sign.TheVariants.{Equal}
 use Rattle.mfotl_model.specs.declared.term.Term.TheVariants.{Const, Var}
 use Rattle.mfotl_model.specs.declared.value.Value.TheVariants.{Int, Text}
 
--- the text of a log of these time-points, to which further ones may come
+-- the text of a log of these time-points
 abbrev pub text_of : List TimePoint → Form → List ℕ
 text_of points policy = text (record { points = points }) policy
 

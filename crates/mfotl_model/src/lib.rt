@@ -29,5 +29,5 @@ pub use row::{Row, RowList};
 pub use term::{Atom, Comparison, Sign, Term, Terms};
 pub use text::{Name, Text};
 pub use value::Value;
-pub use variables::{is_among, joined, others, without};
+pub use variables::{is_among, joined, without};
 pub use verdict_text::{push_rows, push_verdict};

@@ -13,7 +13,7 @@ use std::alloc::{AllocError, Global};
 
 impl Term {
     /// Whether the term is the variable of this number.
-    pub fn is_variable(&self, variable: u32) -> bool
+    pub(crate) fn is_variable(&self, variable: u32) -> bool
         ensures { result ≡ is_variable variable self.now }
     {
         match self {
@@ -30,15 +30,6 @@ impl Atom {
         ensures { result ≡ is_match self.now event.now }
     {
         self.pred == event.pred && give_back(self.args.as_slice(), event.args.values())
-    }
-
-    /// The event's value at the first place where the atom has the variable, whether or not it stands for
-    /// the event. `None` where it lacks the variable, or the event has no such place.
-    pub fn value_of<'a>(&self, event: &'a Event, variable: u32) -> Option<&'a Value>
-        ensures { option_map (λ value. value.now) result
-            ≡ first_value self.now.args event.now.args variable }
-    {
-        first_value(self.args.as_slice(), event.args.values(), variable)
     }
 
     /// What the event has at each of the columns, in their order. A variable that reads nothing off it is 0.

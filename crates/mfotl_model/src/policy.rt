@@ -59,12 +59,6 @@ impl Vars {
         self.items.as_slice()
     }
 
-    pub fn into_vec(self) -> Vec<Var>
-        ensures { result.items ≡ self }
-    {
-        self.items
-    }
-
     pub fn copy(&self, alloc: Global) -> Result<Self, AllocError>
         ensures { IfOk result (λ vars. vars ≡ self.now) }
     {

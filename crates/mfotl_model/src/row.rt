@@ -338,14 +338,4 @@ impl RowList {
     {
         self.rows
     }
-
-    pub fn copy(&self, alloc: Global) -> Result<Self, AllocError>
-        ensures { IfOk result (λ rows. rows ≡ self.now) }
-    {
-        let mut rows = Vec::with_capacity(alloc, self.rows.len())?;
-        for row in self.rows() {
-            rows.push(row.copy(alloc)?)?;
-        }
-        Ok(RowList { rows })
-    }
 }

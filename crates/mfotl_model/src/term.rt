@@ -53,12 +53,6 @@ impl Terms {
         self.items.as_slice()
     }
 
-    pub fn into_vec(self) -> Vec<Term>
-        ensures { result.items ≡ self }
-    {
-        self.items
-    }
-
     pub fn copy(&self, alloc: Global) -> Result<Self, AllocError>
         ensures { IfOk result (λ terms. terms ≡ self.now) }
     {

@@ -36,13 +36,6 @@ impl Model for Text {
 }
 
 impl Text {
-    pub fn new(bytes: Vec<u8>) -> Result<Self, AllocError>
-        ensures { IfOk result (λ text. text ≡ bytes.items) }
-    {
-        let bytes = Arc::new(*bytes.allocator(), SmallVec::from_vec(bytes))?;
-        Ok(Text { bytes })
-    }
-
     pub fn from_slice(alloc: Global, bytes: &[u8]) -> Result<Self, AllocError>
         ensures { IfOk result (λ text. text ≡ bytes.now) }
     {

@@ -34,8 +34,8 @@ pub fn is_among(variable: u32, vars: &[u32]) -> bool
     vars.iter().any(|other| variable == *other)
 }
 
-/// Those of `more` that are none of `vars`.
-pub fn others(alloc: Global, vars: &[u32], more: &[u32]) -> Result<Vec<u32>, AllocError>
+// Those of `more` that are none of `vars`.
+fn others(alloc: Global, vars: &[u32], more: &[u32]) -> Result<Vec<u32>, AllocError>
     ensures { IfOk result (λ new. new.items ≡ others vars.now more.now) }
 {
     more.iter()

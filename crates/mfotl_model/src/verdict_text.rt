@@ -14,7 +14,7 @@ use std::alloc::AllocError;
 const ROOM: usize = 44;
 
 /// Puts the line of a verdict behind a text: its timestamp, the number of its time-point and its rows in
-/// their order. Where memory runs out, a front of the line may stand there.
+/// their order. Where memory runs out, nothing is said of the text.
 pub fn push_verdict(out: &mut Vec<u8>, point: u64, ts: u64, rows: &[Row]) -> Result<(), AllocError>
     ensures { OnOk result (out.new.items ≡ out.old.items
         ++ line_of (record { point = point; ts = ts; rows = rows.now })) }

@@ -50,7 +50,6 @@ pub record FaultExamples : Type 0 where
   pub unknown : FailsWith (codes "NOT zz( $") (UnknownPredicate 4)
   pub negative_paren : FailsWith (codes "NOT ONCE (-5,3) p(1)") (Syntax 12)
   pub negative_bracket : FailsWith (codes "NOT ONCE [-5,3] p(1)") (Syntax 10)
-  pub range_at_once : FailsWith (codes "NOT ONCE[4611686018427387905 $") (BoundRange 9)
   pub range_in_paren : FailsWith (codes "NOT ONCE(4611686018427387905 $") (Lex (record { kind = BadByte; at = 29 }))
   pub second_argument : FailsWith (codes "NOT p(1,2 $") (WrongArity 8)
   pub comma_alone : FailsWith (codes "NOT p(1,)") (Syntax 8)
@@ -270,4 +269,3 @@ pub record OrderExamples : Type 0 where
   pub paren_before_nodes : FailsBehind 4032 (denied 63 (codes "ONCE (TRUE $")) (TooDeep 257)
   pub paren_before_sign : FailsBehind 4032 (denied 63 (codes "ONCE (5 < $")) (TooDeep 257)
   pub paren_before_unknown : FailsWith (denied 63 (codes "ONCE (zz( $")) (TooDeep 257)
-  pub clash_before_many : FailsWith (codes "NOT (q(a,b,c,d,e,f,g,h) AND s(i) AND s(a))") (SortClash 39)

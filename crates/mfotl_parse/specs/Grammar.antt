@@ -229,7 +229,7 @@ is_timed Equiv = false
 is_timed Since = true
 is_timed Until = true
 
--- the operators whose right operand is a precedence of its own
+-- the operators whose right operand is a level of nesting of its own
 abbrev pub deepens : Operator → Bool
 deepens And = false
 deepens Or = false

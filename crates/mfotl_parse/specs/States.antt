@@ -44,7 +44,7 @@ pub data Stage : Type 0 where
   AfterTemporal : Stage
   -- an operand was read
   AfterOperand : (form : Form) → Stage
-  -- a AfterWord or `_` where an operand begins, `?` there
+  -- a Word or `_` where an operand begins, `?` there
   AfterWord : (at : ℕ) (name : List ℕ) → Stage
   AfterBlank : (at : ℕ) → Stage
   AfterMark : (mark : ℕ) → Stage

@@ -28,7 +28,7 @@ pub enum Frame {
 }
 
 impl Operator {
-    /// Whether the right operand is a precedence of nesting of its own.
+    /// Whether the right operand is a level of nesting of its own.
     pub fn deepens(self) -> bool
         ensures { result ≡ deepens self }
     {

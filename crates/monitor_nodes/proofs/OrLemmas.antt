@@ -1,5 +1,5 @@
 -- Tables pushed to an OR and pulled from it, one after the other.
-use Rattle.std.proofs.Common.{◌≡◌, ℕ, ◌+◌, ◌<◌, Bool, true, ◌||◌, cond, List, [], ◌∷◌, ◌++◌, length, drop, arith}
+use Rattle.std.proofs.Common.{◌≡◌, ℕ, ◌+◌, ◌<◌, Bool, true, ◌||◌, List, [], ◌∷◌, ◌++◌, length, drop, arith}
 use Rattle.std.proofs.Common.{length-append, append-nil, append_assoc}
 use Rattle.std.proofs.{lemmas.Bool.Decides.nat_tests, lemmas.List.drop-drop, lemmas.List.length-drop}
 use Rattle.mfotl_model.specs.{Satisfaction.Valuation, Tables.TableOf, Tables.has}
@@ -10,11 +10,6 @@ use Rattle.monitor_nodes.specs.OrFeeding.{OrPulled, operand_fed}
 
 pub operand_none : (s : OrOf) (n : ℕ) → s ≡ operand_fed s n []
 operand_none s n = grind (arith, append-nil)
-
--- an operand, chosen by a truth value, has more tables
-abbrev chosen_fed : OrOf → Bool → List TableOf → OrOf
-chosen_fed s first tables = cond first (record s { lefts = s.lefts ++ tables })
-    (record s { rights = s.rights ++ tables })
 
 -- one table more of an operand
 pub operand_one : (s : OrOf) (n : ℕ) (tables : List TableOf) (table : TableOf)

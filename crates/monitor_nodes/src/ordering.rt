@@ -10,7 +10,8 @@ use eval_bool::reordered;
 use relations::{Table, all_among};
 use std::alloc::{AllocError, Global};
 
-/// The table with its columns in the order that those of another table have. They are the same columns.
+/// The table with its columns in the order that those of another table have. It errs where memory is wanting or these are
+/// other columns.
 pub fn in_order(alloc: Global, table: Table, order: &Table) -> Result<Table, AllocError>
     ensures columns { IfOk result (λ ordered. ordered.columns ≡ order.now.columns) }
     ensures has { IfOk result (λ ordered. IsTrue (all_among order.now.columns table.columns)
@@ -18,7 +19,7 @@ pub fn in_order(alloc: Global, table: Table, order: &Table) -> Result<Table, All
         → (v : Valuation) → has ordered v ≡ has table v) }
 {
     if !same_columns(order.columns(), table.columns()) {
-        return order.copy(alloc);
+        return Err(AllocError);
     }
     reordered(alloc, table, order.columns())
 }

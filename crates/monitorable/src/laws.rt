@@ -77,8 +77,7 @@ pub fn violations_are_final()
     ensures { ViolationsFinal }
 {}
 
-/// The text of a log without a closing time-point is a prefix of the text of every longer one, where
-/// the policy can be monitored.
+/// The text of a log is a prefix of the text of every longer one, where the policy can be monitored.
 pub fn text_is_final()
     ensures { TextFinal }
 {}

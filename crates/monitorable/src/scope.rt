@@ -35,7 +35,7 @@ fn free_variable(alloc: Global, vars: &[Var], number: u32) -> Result<Variable, A
 {
     let name = match vars.get(number as usize) {
         Some(var) => var.name.copy(alloc)?,
-        None => Name::new(Vec::new(alloc))?,
+        None => Name::from_slice(alloc, b"")?,
     };
     Ok(Variable { number, name })
 }

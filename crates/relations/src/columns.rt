@@ -11,8 +11,8 @@ use std::alloc::{AllocError, Global};
 /// The columns of a table. Up to four stand in the value itself, more in memory of their own.
 pub type Columns = SmallVec<u32, 4>;
 
-/// What a row over these columns has at a column; `None` stands for a column that it lacks.
-pub fn value_at<'a>(columns: &[u32], row: &'a [Value], x: u32) -> Option<&'a Value>
+/// What a row over these columns has at a column. `None` is answered where it has none, and may be where it has 0.
+pub(crate) fn value_at<'a>(columns: &[u32], row: &'a [Value], x: u32) -> Option<&'a Value>
     ensures { MatchOption result
         (valuation columns.now row.now x ≡ Value.Int (pos 0))
         (λ value. value.now ≡ valuation columns.now row.now x) }

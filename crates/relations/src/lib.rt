@@ -20,7 +20,7 @@ mod steps;
 mod table;
 mod union;
 
-pub use columns::{Columns, all_among, common, part_of, value_at};
+pub use columns::{Columns, all_among, common, part_of};
 pub use index::Index;
 pub use pushed::{copied_tables, first_pushed};
 pub use steps::Steps;
