@@ -43,8 +43,8 @@ pub enum Node {
 
 impl Node {
     /// Takes a time-point, and off the stack the operands' new tables, the last operand's on top. Gives its own. It
-    /// errs where memory is wanting, a timestamp falls, or the node isn't one for a core; node and stack are then of
-    /// no use any more.
+    /// errs where memory is wanting, a SINCE is given a timestamp below its last one, or the node isn't one for a core;
+    /// node and stack are then of no use any more.
     pub fn advance(
         &mut self,
         alloc: Global,

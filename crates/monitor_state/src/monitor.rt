@@ -69,7 +69,8 @@ impl Monitor {
         self.given
     }
 
-    /// The timestamp of a position, from the first one on whose table the last step gave, or was to.
+    /// The timestamp of a position whose table the last step gave, or of a later one; behind `resume`, of one whose
+    /// timestamp the data has.
     pub fn time_at(&self, place: u64) -> u64
         requires kept { (monitor_of self.now).state.first ≤ place }
         requires taken { place - (monitor_of self.now).state.first < length (monitor_of self.now).state.times }
