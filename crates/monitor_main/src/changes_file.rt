@@ -4,7 +4,6 @@ ghost use Rattle.std.specs.List.{AllByRecursion};
 ghost use Rattle.mon_outside.specs.Files.{ToldFiles, content};
 ghost use Rattle.mon_outside.specs.Inputs.{asked_more};
 ghost use Rattle.mon_outside.specs.Views.{inputs_view};
-ghost use Rattle.slice_strategy.specs.Entries.{HasWorkers};
 ghost use Rattle.monitor_main.specs.CheckedPolicies.{Divides, Gives, IsInside};
 ghost use Rattle.command_line.specs.CommandViews.{text_in};
 ghost use Rattle.monitor_main.specs.Divisions.{AreChangesAt};
@@ -17,17 +16,8 @@ use crate::limits::MAX_FILE;
 use crate::refusal::{InputFile, Refusal};
 use mfotl_model::Policy;
 use mon_outside::{Inputs, LoadFault, load};
-use slice_strategy::{Change, Slicer, read_changes};
+use slice_strategy::{Change, read_changes};
 use std::alloc::Global;
-
-// The count of each strategy says that there is a worker, and that there are not too many.
-fn count_workers(changes: &[Change])
-    ensures { AllByRecursion (λ c. HasWorkers c.strategy) changes.now }
-{
-    for change in changes {
-        let _workers = change.strategy.workers();
-    }
-}
 
 // The changes of a script that isn't too long, over the policy's free variables.
 #[tactic(auto, unfolding(crate::specs::Tasks::changes_in))]
@@ -39,7 +29,6 @@ fn short_changes(alloc: Global, bytes: &[u8], policy: &Policy) -> Result<Vec<Cha
     ensures inside { IfErr result IsInside }
 {
     let changes = read_changes(alloc, bytes, policy)?;
-    count_workers(changes.as_slice());
     Ok(changes)
 }
 

@@ -7,7 +7,7 @@ ghost use Rattle.monitor_main.specs.CheckedPolicies.{Gives, IsInside};
 use crate::limits::MAX_FILE;
 use crate::refusal::Refusal;
 use mfotl_model::Policy;
-use slice_strategy::{Slicer, Strategy};
+use slice_strategy::Strategy;
 use std::alloc::Global;
 
 /// The strategy of this text, over the policy's free variables.
@@ -22,7 +22,5 @@ pub fn read_strategy(alloc: Global, text: &str, policy: &Policy) -> Result<Strat
         return Err(Refusal::LongStrategy);
     }
     let strategy = Strategy::read(alloc, text.as_bytes(), policy)?;
-    // Its count says that there is a worker, and that there are not too many.
-    let _workers = strategy.workers();
     Ok(strategy)
 }
