@@ -14,7 +14,7 @@ use mfotl_model::{Policy, TimePoint};
 use mfotl_parse::read_policy;
 use mfotl_sig::{Signature, read_signature};
 use monitorable::{Core, to_core};
-use slice_strategy::{Slicer, Strategy};
+use slice_strategy::Strategy;
 use std::alloc::Global;
 
 /// A signature, and a policy that can be monitored, with its core.
@@ -81,11 +81,7 @@ impl Setting {
         ensures sized { IfOk result (λ strategy. length strategy ≡ length self.now.policy.vars) }
     {
         match Strategy::read(alloc, text.as_bytes(), &self.policy) {
-            Ok(strategy) => {
-                // Its count says that there is a worker, and that there are not too many.
-                let _workers = strategy.workers();
-                Ok(strategy)
-            }
+            Ok(strategy) => Ok(strategy),
             Err(fault) => Err(Stop::Told(fault.to_string(alloc)?)),
         }
     }
