@@ -28,26 +28,35 @@ fn values_of(alloc: Global, rows: &[Row]) -> Result<Option<Vec<Value>>, AllocErr
     Ok(Some(values))
 }
 
+// the rows as they are, without room for more
+fn wide(mut rows: Vec<Row>) -> PackedRows
+    ensures { packed_rows result ≡ rows.items }
+{
+    rows.shrink_to_fit();
+    PackedRows::Wide(rows)
+}
+
 // rows of which the first has one value
 fn packed_alone(alloc: Global, rows: Vec<Row>) -> Result<PackedRows, AllocError>
     ensures { IfOk result (λ packed. packed_rows packed ≡ rows.items) }
 {
     match values_of(alloc, rows.as_slice())? {
         Some(values) => Ok(PackedRows::Alone(values)),
-        None => Ok(PackedRows::Wide(rows)),
+        None => Ok(wide(rows)),
     }
 }
 
-/// The rows in the form that takes least memory: values are copied, and where that can't be they stay as they are.
+/// The rows in the form that takes least memory: values are copied, and where that can't be the rows stay as they are,
+/// without room for more.
 pub fn packed(alloc: Global, rows: Vec<Row>) -> Result<PackedRows, AllocError>
     ensures { IfOk result (λ packed. packed_rows packed ≡ rows.items) }
 {
     let Some(first) = rows.first() else {
-        return Ok(PackedRows::Wide(rows));
+        return Ok(wide(rows));
     };
     match first.values() {
         [value] if rows.len() == 1 => Ok(PackedRows::One(value.copy(alloc)?)),
         [_] => packed_alone(alloc, rows),
-        _ => Ok(PackedRows::Wide(rows)),
+        _ => Ok(wide(rows)),
     }
 }
