@@ -13,4 +13,5 @@ pub mod FaultTexts
 pub mod FirstFault
 pub mod Texts
 pub mod AllTokens
+pub mod Cuts
 pub mod WorkedTexts

@@ -1,59 +1,11 @@
 -- Texts and the tokens that they are cut into, worked out by hand.
-use Rattle.std.specs.Prelude.{◌≡◌, ℕ, List, [], ◌∷◌, ◌++◌, length, map, Option, Some, None, codes}
-use Rattle.mfotl_lex.specs.declared.fault.LexFault.{LexFault}
-use Rattle.mfotl_lex.specs.declared.fault.LexFaultKind.{LexFaultKind}
-use Rattle.mfotl_lex.specs.declared.fault.LexFaultKind.TheVariants.{BadByte, OpenText, NumberRange}
-use Rattle.mfotl_lex.specs.declared.kind.Kind.{Kind}
-use Rattle.mfotl_lex.specs.declared.kind.Kind.TheVariants.{Word, Integer, OpenParen, CloseParen, OpenBracket}
+use Rattle.std.specs.Prelude.{List, [], ◌∷◌, ◌++◌, replicate, codes}
+use Rattle.mfotl_lex.specs.declared.fault.LexFaultKind.TheVariants.{BadByte, OpenText, NumberRange, TextLong, BadUtf8}
+use Rattle.mfotl_lex.specs.declared.kind.Kind.TheVariants.{Word, Integer, Text, OpenParen, CloseParen, OpenBracket}
 use Rattle.mfotl_lex.specs.declared.kind.Kind.TheVariants.{CloseBracket, Comma, Colon, Dot, Question, Star, Equal}
 use Rattle.mfotl_lex.specs.declared.kind.Kind.TheVariants.{Less, LessEqual, Greater, GreaterEqual, At, Semicolon}
-use Rattle.mfotl_lex.specs.declared.kind.Mode.{Mode}
 use Rattle.mfotl_lex.specs.declared.kind.Mode.TheVariants.{Plain, Log}
-use Rattle.mfotl_lex.specs.Lexemes.{Lexeme, tokens}
-use Rattle.mfotl_lex.specs.Places.{beginning}
-
--- a token by its kind, its offset and how many bytes it has
-pub record Brief : Type 0 where
-  pub kind : Kind
-  pub at : ℕ
-  pub len : ℕ
-
--- the tokens of a text, and the fault behind them
-pub record Cut : Type 0 where
-  pub list : List Brief
-  pub fault : Option LexFault
-
--- a text, and how it is cut
-abbrev pub Worked : Type 0
-Worked = List ℕ × Cut
-
--- so it is cut
-abbrev pub cut : Mode → List ℕ → Cut
-cut mode bytes = record {
-  list =
-      map (λ (t : Lexeme). record {
-        kind = t.kind;
-        at = t.at;
-        len = length t.text;
-      }) (tokens (beginning mode bytes)).list;
-  fault = (tokens (beginning mode bytes)).fault;
-}
-
--- each text is cut as worked out
-abbrev pub TextsAreCut : Mode → List Worked → Type 0
-TextsAreCut mode texts = map (λ (w : Worked). cut mode w.0) texts ≡ map (λ (w : Worked). w.1) texts
-
--- a token of these bytes
-abbrev pub token : Kind → ℕ → ℕ → Brief
-token kind at len = record { kind = kind; at = at; len = len }
-
--- tokens and no fault
-abbrev pub whole : List Brief → Cut
-whole list = record { list = list; fault = None }
-
--- tokens and a fault behind them
-abbrev pub stops : List Brief → LexFaultKind → ℕ → Cut
-stops list kind at = record { list = list; fault = Some (record { kind = kind; at = at }) }
+use Rattle.mfotl_lex.specs.Cuts.{Worked, TextsAreCut, token, whole, stops}
 
 -- word, Integer and marks, in Plain mode
 abbrev pub plain_words : List Worked
@@ -126,6 +78,37 @@ plain_open_texts =
     ((34 ∷ []) ++ codes "a" ++ (31 ∷ []), stops [] BadByte 2) ∷
     ((34 ∷ 195 ∷ []), stops [] OpenText 0) ∷
     ((34 ∷ 195 ∷ 1 ∷ 34 ∷ []), stops [] BadByte 2) ∷
+    []
+
+-- Texts that are closed, in either mode
+abbrev pub closed_texts : List Worked
+closed_texts =
+    ((34 ∷ 34 ∷ []), whole (token Text 0 2 ∷ [])) ∷
+    ((34 ∷ []) ++ codes "a #;" ++ (34 ∷ []) ++ codes "b", whole (token Text 0 6 ∷ token Word 6 1 ∷ [])) ∷
+    ((34 ∷ 195 ∷ 169 ∷ 34 ∷ []), whole (token Text 0 4 ∷ [])) ∷
+    ((34 ∷ 195 ∷ 34 ∷ []), stops [] BadUtf8 0) ∷
+    (codes "a" ++ (34 ∷ 128 ∷ 34 ∷ []), stops (token Word 0 1 ∷ []) BadUtf8 1) ∷
+    []
+
+-- words of the greatest size and of a byte more, in Plain mode
+abbrev pub plain_long_words : List Worked
+plain_long_words =
+    (replicate 64 97, whole (token Word 0 64 ∷ [])) ∷
+    (replicate 65 97, stops [] TextLong 0) ∷
+    []
+
+-- the same in Log mode
+abbrev pub log_long_words : List Worked
+log_long_words =
+    (replicate 4096 97, whole (token Word 0 4096 ∷ [])) ∷
+    (replicate 4097 97, stops [] TextLong 0) ∷
+    []
+
+-- Texts of the greatest size and of a byte more, in either mode
+abbrev pub long_texts : List Worked
+long_texts =
+    ((34 ∷ []) ++ replicate 4096 97 ++ (34 ∷ []), whole (token Text 0 4098 ∷ [])) ∷
+    ((34 ∷ []) ++ replicate 4097 97 ++ (34 ∷ []), stops [] TextLong 0) ∷
     []
 
 -- comments, in Plain mode
@@ -204,8 +187,14 @@ pub record WorkedTexts : Type 0 where
   pub plain_strays : TextsAreCut Plain plain_strays
   pub plain_numbers : TextsAreCut Plain plain_numbers
   pub plain_open_texts : TextsAreCut Plain plain_open_texts
+  pub plain_closed_texts : TextsAreCut Plain closed_texts
+  pub plain_long_words : TextsAreCut Plain plain_long_words
+  pub plain_long_texts : TextsAreCut Plain long_texts
   pub plain_comments : TextsAreCut Plain plain_comments
   pub log_words : TextsAreCut Log log_words
   pub log_strays : TextsAreCut Log log_strays
   pub log_open_texts : TextsAreCut Log log_open_texts
+  pub log_closed_texts : TextsAreCut Log closed_texts
+  pub log_long_words : TextsAreCut Log log_long_words
+  pub log_long_texts : TextsAreCut Log long_texts
   pub log_comments : TextsAreCut Log log_comments
