@@ -65,8 +65,8 @@ abbrev pub connects : CoreForm → CoreForm → Bool
 connects f g =
     all_among (fv (meaning g)) (fv (meaning f)) || list_any (λ y. among y (fv (meaning f))) (fv (meaning g))
 
--- whether a further conjunct stands before the windows at the end of a chain: it is none itself, what stands before
--- them shares variables with it, and the columns keep their order
+-- whether a further conjunct stands before the windows at the end of a chain: it is none itself, has no variables but
+-- those of what stands before them, or none, or shares one with that, and the columns keep their order
 abbrev pub goes_before : CoreForm → CoreForm → Bool
 goes_before f h =
     windowed (last_conjunct f)
