@@ -1,5 +1,7 @@
--- What is told of a real source.
-use Rattle.std.specs.Prelude.{ℕ, Bool, true, false, List, [], Option, None}
+-- What is told of a real source, and how its failures are counted.
+use Rattle.std.specs.Prelude.{ℕ, Bool, true, false, List, [], Option, None, if◌then◌else◌, is_err}
+use Rattle.std.specs.declared.result.Result.{Result}
+use Rattle.mon_outside.specs.Memory.{one_more}
 use Rattle.real_outside.specs.declared.real_inputs.Source.{Source}
 use Rattle.real_outside.specs.declared.real_inputs.Source.TheVariants.{Closed, Input, File}
 
@@ -28,3 +30,7 @@ abbrev pub rest_told : {S F : Type 0} → (S → Option (List ℕ)) → (F → O
 rest_told of_input of_file input Closed = None
 rest_told of_input of_file input Input = of_input input
 rest_told of_input of_file input (File f) = of_file f
+
+-- the count of failures behind a call: one more where the call failed, and otherwise as it was
+abbrev pub count_after : {T E : Type 0} → ℕ → Result T E → ℕ
+count_after before result = if is_err result then one_more before else before

@@ -3,7 +3,7 @@ ghost use Rattle.std.specs.Prelude.{◌≡◌, ◌<◌, ◌≤◌, [], length, t
 ghost use Rattle.std.specs.Io.KnownBytes.{Keeps, WriteAppends};
 ghost use Rattle.mon_outside.specs.Causes.{HasCause};
 ghost use Rattle.mon_outside.specs.Sink.{Appends};
-ghost use Rattle.real_outside.specs.Real.{none_held, untold};
+ghost use Rattle.real_outside.specs.Real.{count_after, none_held, untold};
 
 use crate::retrying::{flush_all, one_more, write_some};
 use mon_outside::{Failed, Sink};
@@ -17,8 +17,8 @@ pub struct RealSink<W: Write + Drop> {
 }
 
 impl<W: Write + Drop> RealSink<W> {
-    /// No call has failed, and nothing is written here. The stream is one that keeps nothing back itself, as the standard
-    /// streams do.
+    /// No call has failed, and nothing is written here. The stream is one that keeps nothing back itself, as the
+    /// standard streams do.
     pub fn new(stream: W) -> Self
         ensures stream { result.stream ≡ stream }
         ensures unfailed { result.failures ≡ 0 }
@@ -45,6 +45,7 @@ impl<W: Write + Drop> Sink for RealSink<W> {
             Appends (untold self.old) (untold self.new) (take count piece.now)) }
         ensures failed { OnErr result (untold self.new ≡ untold self.old) }
         ensures cause { HasCause self.old.failures self.new.failures result }
+        ensures counted { self.new.failures ≡ count_after self.old.failures result }
         ensures told { WriteAppends (W.contents self.old.stream) (W.contents self.new.stream)
             result piece.now }
     {
@@ -58,6 +59,7 @@ impl<W: Write + Drop> Sink for RealSink<W> {
     fn flush(&mut self) -> Result<(), Failed>
         ensures handed_on { OnOk result (none_held self.new ≡ []) }
         ensures cause { HasCause self.old.failures self.new.failures result }
+        ensures counted { self.new.failures ≡ count_after self.old.failures result }
         ensures told { Keeps (W.contents self.old.stream) (W.contents self.new.stream) }
     {
         let flushed = flush_all(&mut self.stream);
