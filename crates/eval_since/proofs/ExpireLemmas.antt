@@ -1,6 +1,6 @@
 -- Forgetting old times by the tables that came with them.
 use Rattle.std.proofs.Common.{◌≡◌, ℕ, zero, suc, ◌-◌, ◌<◌, ◌≤◌, Bool, true, false, cond, nat_le, ◌&&◌, List, [], ◌∷◌}
-use Rattle.std.proofs.Common.{◌++◌, Option, get_or, refl, arith}
+use Rattle.std.proofs.Common.{◌++◌, Option, get_or, length, nat_lt, refl, inl, inr, arith}
 use Rattle.std.proofs.{lemmas.Bool.and_from, lemmas.Bool.Decides.nat_tests, lemmas.List.Folds.list_any-append}
 use Rattle.std.proofs.{lemmas.List.Folds.list_all-append, lemmas.Grind.common_steps}
 use Rattle.std.specs.{BTreeMap.is_at, List.list_all, List.Sorted.IsStrictlyIncreasing, Option.IfSome}
@@ -10,7 +10,8 @@ use Rattle.row_times.specs.{PackedRows.packed_rows, Groups.times_at}
 use Rattle.eval_since.specs.declared.contents.Dated.{Dated}
 use Rattle.row_times.specs.Times.{ArePast, added, recent}
 use Rattle.eval_since.specs.Windows.{Placed, IsThinned, names, Rising, NotAfter, Fresh, FindsOldTimes, Bounded}
-use Rattle.relations.proofs.{MapLemmas.either, TestLemmas.all_push, TestLemmas.all_weaker}
+use Rattle.eval_since.specs.Windows.{EachHasRows, Queues}
+use Rattle.relations.proofs.{MapLemmas.either, QueueLemmas.rises_push, TestLemmas.all_push, TestLemmas.all_weaker}
 use Rattle.row_times.proofs.{GroupLemmas.recent_none, RuleLemmas.increasing_recent}
 use Rattle.row_times.proofs.TwiceLemmas.{past_added, recent_twice}
 
@@ -53,7 +54,7 @@ front_far hi x queue rest d f is e far = grind arith
 pub not_after_later : (x y : ℕ) (ds : List Dated) → x ≤ y → NotAfter x ds → NotAfter y ds
 not_after_later x y ds l all = grind (arith, all_weaker)
 
-pub not_after_push : (x : ℕ) (ds : List Dated) (d : Dated) → NotAfter x ds → d.ts ≤ x → NotAfter x (ds ++ d ∷ [])
+not_after_push : (x : ℕ) (ds : List Dated) (d : Dated) → NotAfter x ds → d.ts ≤ x → NotAfter x (ds ++ d ∷ [])
 not_after_push x ds d all l = all_push (λ e. nat_le e.ts x) ds d all (grind (arith, nat_tests))
 
 names_push : (ds : List Dated) (d : Dated) (v : List Value) (ys : List ℕ) → list_all (names ds v) ys ≡ true
@@ -68,11 +69,43 @@ unfolding added
 names_added ds d v bounded ys h all = grind (arith, list_any-append, list_all-append)
 
 -- the queue with one more table has each kept time
-pub covered_push : (ds : List Dated) (d : Dated) (v : List Value) (bounded holds at : Bool) (old held new : List ℕ)
+covered_push : (ds : List Dated) (d : Dated) (v : List Value) (bounded holds at : Bool) (old held new : List ℕ)
     → list_all (names ds v) old ≡ true → held ≡ cond holds old []
     → new ≡ cond (at && has_row (packed_rows d.rows) v) (added bounded held d.ts) held
     → list_all (names (ds ++ d ∷ []) v) new ≡ true
 covered_push ds d v bounded holds at old held new all first second = grind (arith, names_push, names_added)
+
+-- without a row more the kept times are those that were kept before
+covered_left : (ds : List Dated) (v : List Value) (more : List ℕ) (holds at : Bool) (old held new : List ℕ)
+    → list_all (names ds v) old ≡ true → held ≡ cond holds old [] → new ≡ cond (at && has_row [] v) more held
+    → list_all (names ds v) new ≡ true
+covered_left ds v more holds at old held new all first second = grind arith
+
+-- a time goes into the queue with its rows, or has none: each kept time stands there
+pub covered_put : (ds put : List Dated) (ts : ℕ) (rows : List (List Value)) (v : List Value) (bounded holds at : Bool)
+    (old held new : List ℕ) → Queues ds ts rows put → list_all (names ds v) old ≡ true → held ≡ cond holds old []
+    → new ≡ cond (at && has_row rows v) (added bounded held ts) held → list_all (names put v) new ≡ true
+covered_put ds put ts rows v bounded holds at old held new (inl q) all first second = rw q.4
+    (covered_push ds q.0 v bounded holds at old held new all first (rw (← q.1, ← q.2) at second))
+covered_put ds put ts rows v bounded holds at old held new (inr q) all first second =
+    rw q.0 (covered_left ds v (added bounded held ts) holds at old held new all first (rw q.1 at second))
+
+pub rising_put : (ds put : List Dated) (ts : ℕ) (rows : List (List Value)) → Queues ds ts rows put → Rising ds
+    → NotAfter ts ds → Rising put
+rising_put ds put ts rows (inl q) rising not_later =
+    rw q.4 (rises_push (λ (k : Dated). k.ts) ds q.0 rising (rw (← q.1) at not_later))
+rising_put ds put ts rows (inr q) rising not_later = rw q.0 rising
+
+pub not_after_put : (ds put : List Dated) (ts : ℕ) (rows : List (List Value)) → Queues ds ts rows put
+    → NotAfter ts ds → NotAfter ts put
+not_after_put ds put ts rows (inl q) all = rw q.4 (not_after_push ts ds q.0 all (omega (arith, q.1)))
+not_after_put ds put ts rows (inr q) all = rw q.0 all
+
+pub rows_put : (ds put : List Dated) (ts : ℕ) (rows : List (List Value)) → Queues ds ts rows put → EachHasRows ds
+    → EachHasRows put
+rows_put ds put ts rows (inl q) all = rw q.4
+    (all_push (λ d. nat_lt 0 (length (packed_rows d.rows))) ds q.0 all (rw q.2 (grind (arith, nat_tests, q.3))))
+rows_put ds put ts rows (inr q) all = rw q.0 all
 
 past_tail : (x y : ℕ) (ys : List ℕ) → ArePast x (y ∷ ys) → ArePast x ys
 past_tail x y ys past = λ k l. past (suc k) (omega arith)

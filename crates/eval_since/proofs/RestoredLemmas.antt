@@ -11,7 +11,7 @@ use Rattle.row_times.specs.{Groups.NoneEmpty, Groups.times_at, Times.ArePast}
 use Rattle.eval_since.specs.{SinceData.KeepsTimes}
 use Rattle.eval_since.specs.Recalled.{is_recalled, put_times}
 use Rattle.row_times.specs.KeptTimes.{times_for, times_kept}
-use Rattle.eval_since.specs.Windows.{FindsOldTimes, Keeps, Rising, names}
+use Rattle.eval_since.specs.Windows.{EachHasRows, FindsOldTimes, Keeps, Rising, names}
 use Rattle.row_times.specs.declared.{kept_row.KeptRow.KeptRow}
 use Rattle.eval_since.specs.declared.{contents.Dated.Dated}
 use Rattle.relations.proofs.{MapLemmas.either, TestLemmas.all_weaker}
@@ -85,9 +85,9 @@ pub finds_rows : (hi : Option ℕ) (right left : List ℕ) (last : ℕ) (rows : 
     → ((q v : List Value) → times_at groups q v ≡ cond (is_at (row_cmp (part right left v)) q) (times_for rows v) [])
     → ((v : List Value) (y : ℕ) → names queue v y ≡ is_recalled rows v y)
     → ((test : ℕ → Bool) → list_all (λ d. test d.ts) queue ≡ list_all (λ k. list_all test k.times.items) rows)
-    → Rising queue → FindsOldTimes hi last groups queue
-finds_rows None right left last rows groups queue all is same tests rising = tt
-finds_rows (Some h) right left last rows groups queue all is same tests rising = (
+    → Rising queue → EachHasRows queue → FindsOldTimes hi last groups queue
+finds_rows None right left last rows groups queue all is same tests rising each = tt
+finds_rows (Some h) right left last rows groups queue all is same tests rising each = (
   λ q v. either (λ ts. list_all (names queue v) ts ≡ true) (is_at (row_cmp (part right left v)) q) (times_for rows v)
       [] (times_at groups q v) (is q v) (all_weaker (is_recalled rows v) (names queue v) (times_for rows v)
       (λ y there. same v y ∙ there) (names_own rows v)) refl,
@@ -98,6 +98,7 @@ finds_rows (Some h) right left last rows groups queue all is same tests rising =
   tests (λ y. nat_le (last - y) h) ∙ all_each (λ y. nat_le (last - y) h) rows
       (each_times (λ ts. list_all (λ y. nat_le (last - y) h) ts ≡ true) (Some h) last rows all
       (λ ts k. k.bounded)),
+  each,
 )
 
 -- what the window keeps

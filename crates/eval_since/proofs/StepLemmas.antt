@@ -4,16 +4,15 @@ use Rattle.std.proofs.Common.{length, sym, ◌∙◌, arith}
 use Rattle.std.specs.{BTreeMap.is_at, Option.is_some, List.Sorted.IsStrictlyIncreasing}
 use Rattle.mfotl_model.specs.{Intervals.in_interval, Values.row_cmp}
 use Rattle.mfotl_model.specs.declared.{interval.Interval.Interval, value.Value.Value}
-use Rattle.row_times.specs.{PackedRows.packed_rows, Groups.NoneEmpty, Groups.times_at}
+use Rattle.row_times.specs.{Groups.NoneEmpty, Groups.times_at}
 use Rattle.eval_since.specs.declared.{contents.Dated.Dated}
-use Rattle.row_times.specs.declared.{packed_rows.PackedRows.PackedRows}
 use Rattle.mfotl_model.specs.Tables.{all_sized, has_row, part}
 use Rattle.row_times.specs.Times.{ArePast, added, reaches}
 use Rattle.eval_since.specs.Windows.{Alone, Ascending, Sized, Placed, Past, IsThinned, Covered, Rising, NotAfter, Fresh}
-use Rattle.eval_since.specs.Windows.{Keeps}
-use Rattle.eval_since.proofs.ExpireLemmas.{past_held, past_joined, past_thinned, placed_thinned, covered_push}
-use Rattle.eval_since.proofs.ExpireLemmas.{increasing_thinned, not_after_later, not_after_push}
-use Rattle.relations.proofs.{QueueLemmas.rises_push, TableRows.all_rows, TableRows.lacks_other}
+use Rattle.eval_since.specs.Windows.{EachHasRows, Keeps, Queues}
+use Rattle.eval_since.proofs.ExpireLemmas.{past_held, past_joined, past_thinned, placed_thinned, covered_put}
+use Rattle.eval_since.proofs.ExpireLemmas.{increasing_thinned, not_after_later, not_after_put, rising_put, rows_put}
+use Rattle.relations.proofs.{TableRows.all_rows, TableRows.lacks_other}
 use Rattle.row_times.proofs.RuleLemmas.{increasing_more, increasing_none, one_more}
 use Rattle.eval_since.proofs.WithinLemmas.{reaches_step, reaches_thinned}
 
@@ -95,32 +94,28 @@ module _ {interval : Interval} {right left : List ℕ} {goes : List Value → Bo
   }
 
   -- with one the rows go into the queue
-  module _ (packed : PackedRows) (hi : ℕ) (is : packed_rows packed ≡ rows) (e : interval.hi ≡ Some hi) where
-    -- the queue with these rows
-    abbrev queued : List Dated
-    queued = queue ++ record { ts = now; rows = packed } ∷ []
-
-    finds_before : Covered queue old × Rising queue × NotAfter last queue × Fresh hi last queue
+  module _ (hi : ℕ) (e : interval.hi ≡ Some hi) (queued : List Dated) (put : Queues queue now rows queued) where
+    finds_before : Covered queue old × Rising queue × NotAfter last queue × Fresh hi last queue × EachHasRows queue
     finds_before = rw e at j.kept.finds
 
     pub covered_after : Covered queued new
     covered_after q v =
-        covered_push queue (record { ts = now; rows = packed }) v (is_some interval.hi) (goes q)
-        (is_at (row_cmp (part right left v)) q) (times_at old q v) (times_at held q v) (times_at new q v)
-        (finds_before.0 q v) (j.first q v) (rw (← is) at (j.second q v))
+        covered_put queue queued now rows v (is_some interval.hi) (goes q) (is_at (row_cmp (part right left v)) q)
+        (times_at old q v) (times_at held q v) (times_at new q v) put (finds_before.0 q v) (j.first q v) (j.second q v)
 
     not_later : NotAfter now queue
     not_later = not_after_later last now queue j.rises finds_before.2
 
     pub rising_after : Rising queued
-    rising_after = rises_push (λ (k : Dated). k.ts) queue (record { ts = now; rows = packed }) finds_before.1 not_later
+    rising_after = rising_put queue queued now rows put finds_before.1 not_later
 
     -- and old times are forgotten
     module _ (thin : List (List Value × List (List Value × List ℕ))) (rest : List Dated)
         (thins : (q v : List Value) → IsThinned hi now (times_at new q v) (times_at thin q v)) where
       pub kept_bounded : NoneEmpty thin → Covered rest thin → Rising rest → Fresh hi now rest
-          → ((x : ℕ) → NotAfter x queued → NotAfter x rest) → Keeps interval.hi right left now thin rest
-      kept_bounded some covered rising fresh after = record {
+          → ((x : ℕ) → NotAfter x queued → NotAfter x rest) → (EachHasRows queued → EachHasRows rest)
+          → Keeps interval.hi right left now thin rest
+      kept_bounded some covered rising fresh after each = record {
         apart = j.kept.apart;
         sized = λ q v apart. placed_thinned hi now (times_at new q v) (times_at thin q v) (thins q v)
             (sized_after q v apart);
@@ -131,7 +126,8 @@ module _ {interval : Interval} {right left : List ℕ} {goes : List Value → Bo
         placed = λ q v apart. placed_thinned hi now (times_at new q v) (times_at thin q v) (thins q v)
             (placed_after q v apart);
         past = λ q v. past_thinned hi now now (times_at new q v) (times_at thin q v) (thins q v) (past_after q v);
-        finds = grind (arith, not_after_push, not_later);
+        finds = rw e (covered, rising, after now (not_after_put queue queued now rows put not_later), fresh,
+            each (rows_put queue queued now rows put finds_before.4));
       }
 
       pub within_bounded : (x : ℕ) (u : List Value) → now ≤ x → reaches interval (times_at thin (part right left u) u) x

@@ -1,6 +1,6 @@
 -- What holds of each window.
-use Rattle.std.specs.Prelude.{◌≡◌, ℕ, ◌-◌, ◌≤◌, Bool, true, false, ◌&&◌, ◌⊎◌, nat_eq, nat_le, Option, Some, None}
-use Rattle.std.specs.Prelude.{List, [], length}
+use Rattle.std.specs.Prelude.{◌≡◌, ℕ, ◌-◌, ◌≤◌, ◌<◌, Bool, true, false, ◌&&◌, ◌⊎◌, nat_eq, nat_le, nat_lt}
+use Rattle.std.specs.Prelude.{Option, Some, None, List, [], ◌∷◌, ◌++◌, length}
 use Rattle.std.specs.BTreeMap.{is_at}
 use Rattle.std.specs.List.Sorted.{IsStrictlyIncreasing}
 use Rattle.mfotl_model.specs.Values.{row_cmp}
@@ -62,14 +62,26 @@ NotAfter x queue = list_all (λ d. nat_le d.ts x) queue ≡ true
 abbrev pub Fresh : ℕ → ℕ → List Dated → Type 0
 Fresh hi x queue = list_all (λ d. nat_le (x - d.ts) hi) queue ≡ true
 
+-- each time in the queue came with rows
+abbrev pub EachHasRows : List Dated → Type 0
+EachHasRows queue = list_all (λ d. nat_lt 0 (length (packed_rows d.rows))) queue ≡ true
+
+-- a time goes into the queue with its rows, or has none
+abbrev pub Queues : List Dated → ℕ → List (List Value) → List Dated → Type 0
+Queues old ts rows new =
+    ((d : Dated) × (d.ts ≡ ts) × (packed_rows d.rows ≡ rows) × (0 < length rows) × (new ≡ old ++ d ∷ []))
+    ⊎ ((new ≡ old) × (rows ≡ []))
+
 -- no kept time lies further back than hi
 abbrev pub Bounded : ℕ → ℕ → List (List Value × List (List Value × List ℕ)) → Type 0
 Bounded hi x groups = (q v : List Value) → list_all (λ y. nat_le (x - y) hi) (times_at groups q v) ≡ true
 
--- where the interval has a greatest number hi, the queue finds each kept time when it gets old
+-- where the interval has a greatest number hi, the queue finds each kept time when it gets old, and has no time that
+-- came without rows
 abbrev pub FindsOldTimes : Option ℕ → ℕ → List (List Value × List (List Value × List ℕ)) → List Dated → Type 0
 FindsOldTimes None x groups queue = Unit {0}
-FindsOldTimes (Some hi) x groups queue = Covered queue groups × Rising queue × NotAfter x queue × Fresh hi x queue
+FindsOldTimes (Some hi) x groups queue =
+    Covered queue groups × Rising queue × NotAfter x queue × Fresh hi x queue × EachHasRows queue
 
 -- what holds of the rows and the queue kept up to the time x
 pub record Keeps (hi : Option ℕ) (right left : List ℕ) (x : ℕ)

@@ -12,7 +12,7 @@ ghost use Rattle.relations.specs.KeptRows.{RowsAscend};
 ghost use Rattle.row_times.specs.KeptTimes.{times_for, times_kept};
 ghost use Rattle.eval_since.specs.SinceData.{KeepsTimes};
 ghost use Rattle.row_times.specs.Times.{added, reaches};
-ghost use Rattle.eval_since.specs.Windows.{Keeps, Past};
+ghost use Rattle.eval_since.specs.Windows.{Keeps, Past, Queues};
 
 use crate::expiry::expire;
 use crate::keys::holds_on;
@@ -105,6 +105,18 @@ fn add_rows(
     Ok(())
 }
 
+// a time without rows isn't looked for when it is old
+fn put_dated(alloc: Global, queue: &mut VecDeque<Dated>, rows: Vec<Row>, ts: u64) -> Result<(), AllocError>
+    ensures { OnOk result (Queues queue.old.items ts rows.items queue.new.items) }
+{
+    if rows.is_empty() {
+        return Ok(());
+    }
+    let rows = packed(alloc, rows)?;
+    queue.push_back(Dated { ts, rows })?;
+    Ok(())
+}
+
 /// What a window keeps, and the rows that its times came with, oldest first, so that old times are
 /// found. Without an upper end nothing gets old, and no rows are kept for that.
 #[derive(Drop)]
@@ -165,8 +177,7 @@ pub fn step(
     let Some(hi) = interval.hi else {
         return Ok(());
     };
-    let rows = packed(alloc, rights)?;
-    contents.dated.push_back(Dated { ts: now, rows })?;
+    put_dated(alloc, &mut contents.dated, rights, now)?;
     expire(
         alloc,
         &mut contents.groups,

@@ -7,7 +7,7 @@ ghost use Rattle.mfotl_model.specs.declared.value.Value.{Value};
 ghost use Rattle.row_times.specs.Groups.{NoneEmpty, times_at};
 ghost use Rattle.row_times.specs.PackedRows.{alone, packed_rows};
 ghost use Rattle.row_times.specs.Times.{recent};
-ghost use Rattle.eval_since.specs.Windows.{Covered, Fresh, IsThinned, NotAfter, Placed, Rising};
+ghost use Rattle.eval_since.specs.Windows.{Covered, EachHasRows, Fresh, IsThinned, NotAfter, Placed, Rising};
 
 use crate::contents::Dated;
 use mfotl_model::{Row, Value as OneValue};
@@ -143,6 +143,7 @@ pub fn expire(
     ensures fresh { OnOk result (Fresh hi now dated.new.items) }
     ensures after { OnOk result ((x : ℕ) →
         NotAfter x dated.old.items → NotAfter x dated.new.items) }
+    ensures rows { OnOk result (EachHasRows dated.old.items → EachHasRows dated.new.items) }
 {
     while let Some(front) = dated.front() {
         if now.saturating_sub(front.ts) <= hi {

@@ -8,7 +8,7 @@ ghost use Rattle.row_times.specs.Groups.{NoneEmpty, times_at};
 ghost use Rattle.row_times.specs.PackedRows.{packed_rows};
 ghost use Rattle.eval_since.specs.Recalled.{is_recalled, put_times};
 ghost use Rattle.row_times.specs.KeptTimes.{times_kept};
-ghost use Rattle.eval_since.specs.Windows.{Rising, names};
+ghost use Rattle.eval_since.specs.Windows.{EachHasRows, Rising, names};
 
 use crate::contents::Dated;
 use mfotl_model::Row;
@@ -75,6 +75,7 @@ fn push_dated(
         ≡ (names out.old.items v y || list_any (λ t. nat_eq t y && has_row (row.now ∷ []) v) times.now)) }
     ensures all { OnOk result ((test : ℕ → Bool) → list_all (λ d. test d.ts) out.new.items
         ≡ (list_all (λ d. test d.ts) out.old.items && list_all test times.now)) }
+    ensures rows { OnOk result (EachHasRows out.old.items → EachHasRows out.new.items) }
 {
     for ts in times {
         out.push(dated(alloc, row, *ts)?)?;
@@ -87,6 +88,7 @@ fn dated_list(alloc: Global, rows: &[KeptRow]) -> Result<Vec<Dated>, AllocError>
         names list.items v y ≡ is_recalled rows.now v y) }
     ensures all { IfOk result (λ list. (test : ℕ → Bool) → list_all (λ d. test d.ts) list.items
         ≡ list_all (λ k. list_all test k.times.items) rows.now) }
+    ensures rows { IfOk result (λ list. EachHasRows list.items) }
 {
     let mut list = Vec::new(alloc);
     for kept in rows {
@@ -102,6 +104,7 @@ pub fn dated_rows(alloc: Global, rows: &[KeptRow]) -> Result<VecDeque<Dated>, Al
     ensures all { IfOk result (λ queue. (test : ℕ → Bool) → list_all (λ d. test d.ts) queue.items
         ≡ list_all (λ k. list_all test k.times.items) rows.now) }
     ensures rising { IfOk result (λ queue. Rising queue.items) }
+    ensures rows { IfOk result (λ queue. EachHasRows queue.items) }
 {
     let mut list = dated_list(alloc, rows)?;
     list.sort_unstable_by_key(|dated| dated.ts);

@@ -6,6 +6,7 @@ ghost use Rattle.mfotl_model.specs.Tables.{all_apart, has_row, part};
 ghost use Rattle.mfotl_model.specs.Values.{row_cmp};
 ghost use Rattle.mfotl_model.specs.declared.value.Value.{Value};
 ghost use Rattle.relations.specs.KeptRows.{kept_for, list_for};
+ghost use Rattle.relations.specs.Tables.{IsTable};
 ghost use Rattle.until_rows.specs.ByKey.{Listed};
 ghost use Rattle.until_rows.specs.InOrder.{in_order};
 ghost use Rattle.eval_until.specs.Keeping.{Keeps, Queues, Sized};
@@ -85,12 +86,22 @@ impl Contents {
     }
 }
 
+// a table's rows, without room for more
+fn rows_of(table: Table) -> Vec<Row>
+    ensures rows { result.items ≡ table.rows }
+    ensures is_table { IsTable table.columns table.rows }
+{
+    let mut rows = table.into_rows();
+    rows.shrink_to_fit();
+    rows
+}
+
 // the rows of the left operand's table that the queue needs: none where it is not negated
 fn breaks_of(alloc: Global, negated: bool, lefts: Table) -> Vec<Row>
     ensures { negated ≡ true → result.items ≡ lefts.rows }
 {
     if negated {
-        lefts.into_rows()
+        rows_of(lefts)
     } else {
         Vec::new(alloc)
     }
@@ -187,7 +198,7 @@ pub fn take_position(
         place,
         ts,
     )?;
-    let rights = rights.into_rows();
+    let rights = rows_of(rights);
     let breaks = breaks_of(alloc, negated, lefts);
     put_taken(
         &mut contents.queue,

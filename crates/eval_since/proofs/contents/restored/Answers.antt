@@ -34,6 +34,7 @@ returns c =
           (c.in_ok-groups-2.ensures.some (each_some hi c.args.last rows c.requires.kept))
           (finds_rows hi c.args.right.now c.args.left.now c.args.last rows groups c.in_ok-dated.dated.items
           c.requires.kept times (rw c.as_slice.ensures.value at c.in_ok-dated.ensures.names)
-          (rw c.as_slice.ensures.value at c.in_ok-dated.ensures.all) c.in_ok-dated.ensures.rising);
+          (rw c.as_slice.ensures.value at c.in_ok-dated.ensures.all) c.in_ok-dated.ensures.rising
+          c.in_ok-dated.ensures.rows);
       times = times;
     }

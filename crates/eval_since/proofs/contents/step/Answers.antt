@@ -26,10 +26,8 @@ expire-requires c =
     (c.in_ok-add_rows.ensures.some (c.in_ok-apply_left.ensures.some c.requires.kept.some)) in
     record {
       placed = placed_after j;
-      covered = rw c.in_ok-push_back.ensures.items
-          (covered_after j c.in_ok-rows.rows c.in-Some.hi c.in_ok-rows.ensures c.in-Some.is);
-      rising = rw c.in_ok-push_back.ensures.items
-          (rising_after j c.in_ok-rows.rows c.in-Some.hi c.in_ok-rows.ensures c.in-Some.is);
+      covered = covered_after j c.in-Some.hi c.in-Some.is c.put_dated.new.queue.items c.in_ok-put_dated.ensures;
+      rising = rising_after j c.in-Some.hi c.in-Some.is c.put_dated.new.queue.items c.in_ok-put_dated.ensures;
     }
 
 pub returns : goal.returns
@@ -41,12 +39,12 @@ returns c =
     (c.in_ok-add_rows.ensures.some (c.in_ok-apply_left.ensures.some c.requires.kept.some)) in
     let thin = c.in_ok-expire.ensures.thin in
     record {
-      within = within_bounded j c.in_ok-rows.rows c.in-Some.hi c.in_ok-rows.ensures c.in-Some.is
+      within = within_bounded j c.in-Some.hi c.in-Some.is c.put_dated.new.queue.items c.in_ok-put_dated.ensures
           c.expire.new.groups c.expire.new.dated.items thin;
-      kept = kept_bounded j c.in_ok-rows.rows c.in-Some.hi c.in_ok-rows.ensures c.in-Some.is
+      kept = kept_bounded j c.in-Some.hi c.in-Some.is c.put_dated.new.queue.items c.in_ok-put_dated.ensures
           c.expire.new.groups c.expire.new.dated.items thin
           (c.in_ok-expire.ensures.some (c.in_ok-add_rows.ensures.some (c.in_ok-apply_left.ensures.some
           c.requires.kept.some)))
           c.in_ok-expire.ensures.covered c.in_ok-expire.ensures.rising c.in_ok-expire.ensures.fresh
-          (rw c.in_ok-push_back.ensures.items at c.in_ok-expire.ensures.after);
+          c.in_ok-expire.ensures.after c.in_ok-expire.ensures.rows;
     }

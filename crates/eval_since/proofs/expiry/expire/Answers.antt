@@ -1,4 +1,4 @@
-use Rattle.std.proofs.Common.{◌≡◌, ◌&&◌, nat_le, ◌∷◌, arith}
+use Rattle.std.proofs.Common.{◌≡◌, ◌&&◌, nat_le, nat_lt, ◌∷◌, length, arith}
 use Rattle.std.proofs.lemmas.Bool.{and_parts}
 use Rattle.std.specs.{BTreeMap.is_at, List.list_all}
 use Rattle.mfotl_model.specs.{Values.row_cmp, Tables.has_row, Tables.part}
@@ -37,4 +37,7 @@ loop-front-preserved c =
       rising = rising.1;
       after = λ x all. (and_parts (nat_le d.ts x) (list_all (λ e. nat_le e.ts x) rest)
           (rw is at (c.loop-front.invariant.after x all))).1;
+      rows = λ all. (and_parts (nat_lt 0 (length (packed_rows d.rows)))
+          (list_all (λ e. nat_lt 0 (length (packed_rows e.rows))) rest)
+          (rw is at (c.loop-front.invariant.rows all))).1;
     }

@@ -1,7 +1,7 @@
 use Rattle.std.proofs.Common.{ℕ, List, length}
 use Rattle.mfotl_model.specs.declared.value.Value.{Value}
 use Rattle.row_times.specs.Groups.{NoneEmpty, times_at}
-use Rattle.eval_since.specs.Windows.{Covered, IsThinned, NotAfter, Placed, Rising}
+use Rattle.eval_since.specs.Windows.{Covered, EachHasRows, IsThinned, NotAfter, Placed, Rising}
 use Rattle.eval_since.proofs.expiry.expire.Given as goal
 
 abbrev pub invariant-loop-front : goal.invariant-loop-front
@@ -12,6 +12,7 @@ invariant-loop-front l = record {
   covered : Covered l.dated.items l.groups;
   rising : Rising l.dated.items;
   after : (x : ℕ) → NotAfter x l.fn.dated.items → NotAfter x l.dated.items;
+  rows : EachHasRows l.fn.dated.items → EachHasRows l.dated.items;
 }
 
 abbrev pub decreases-loop-front : goal.decreases-loop-front

@@ -1,7 +1,7 @@
 use Rattle.std.proofs.Common.{◌≡◌, ℕ, Bool, ◌&&◌, ◌||◌, List, drop}
 use Rattle.std.specs.List.{list_all}
 use Rattle.mfotl_model.specs.declared.value.Value.{Value}
-use Rattle.eval_since.specs.{Recalled.is_recalled, Windows.names}
+use Rattle.eval_since.specs.{Recalled.is_recalled, Windows.EachHasRows, Windows.names}
 use Rattle.row_times.specs.declared.{kept_row.KeptRow.KeptRow}
 use Rattle.eval_since.specs.declared.{contents.Dated.Dated}
 use Rattle.eval_since.proofs.rebuild.dated_list.Given as goal
@@ -13,4 +13,5 @@ invariant-loop-kept l = record {
   all : (test : ℕ → Bool) → (list_all (λ (d : Dated). test d.ts) l.list.items
       && list_all (λ (k : KeptRow). list_all test k.times.items) (drop l.kept-index l.rows))
       ≡ list_all (λ (k : KeptRow). list_all test k.times.items) l.rows;
+  rows : EachHasRows l.list.items;
 }

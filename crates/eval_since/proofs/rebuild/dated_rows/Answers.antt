@@ -1,4 +1,4 @@
-use Rattle.std.proofs.Common.{◌&&◌, nat_eq, sym, subst, ap, ◌∙◌, rules}
+use Rattle.std.proofs.Common.{Bool, ◌&&◌, nat_eq, nat_lt, length, sym, subst, ap, ◌∙◌, rules}
 use Rattle.std.proofs.lemmas.List.Sorted.{IsNonDecreasingBy-from_sort_by_key, list_any-IsPermutation}
 use Rattle.std.specs.List.{list_all}
 use Rattle.mfotl_model.specs.Tables.{has_row}
@@ -21,6 +21,14 @@ returns-clause-all c = λ test.
     ∙ all_moved (λ (d : Dated). test d.ts) c.in_ok-list.list.items c.sort_unstable_by_key.new.self.items
     c.sort_unstable_by_key.ensures.permutation
     ∙ c.in_ok-list.ensures.all test
+
+pub returns-clause-rows : goal.returns-clause-rows
+returns-clause-rows c =
+    let has_rows : Dated → Bool = λ d. nat_lt 0 (length (packed_rows d.rows)) in
+    ap (list_all has_rows) c.from_vec.ensures.items
+    ∙ all_moved has_rows c.in_ok-list.list.items c.sort_unstable_by_key.new.self.items
+    c.sort_unstable_by_key.ensures.permutation
+    ∙ c.in_ok-list.ensures.rows
 
 pub returns-clause-rising : goal.returns-clause-rising
 returns-clause-rising c =

@@ -2,7 +2,7 @@ use Rattle.std.proofs.Common.{◌≡◌, ℕ, Bool, nat_eq, ◌&&◌, ◌||◌, 
 use Rattle.std.specs.List.{list_all, list_any}
 use Rattle.mfotl_model.specs.Tables.{has_row}
 use Rattle.mfotl_model.specs.declared.value.Value.{Value}
-use Rattle.eval_since.specs.Windows.{names}
+use Rattle.eval_since.specs.Windows.{EachHasRows, names}
 use Rattle.eval_since.specs.declared.contents.Dated.{Dated}
 use Rattle.eval_since.proofs.rebuild.push_dated.Given as goal
 
@@ -14,4 +14,5 @@ invariant-loop-ts l = record {
   all : (test : ℕ → Bool)
       → (list_all (λ (d : Dated). test d.ts) l.out.items && list_all test (drop l.ts-index l.times))
       ≡ (list_all (λ (d : Dated). test d.ts) l.fn.out.items && list_all test l.times);
+  rows : EachHasRows l.fn.out.items → EachHasRows l.out.items;
 }

@@ -12,7 +12,7 @@ pub returns-clause-kept : goal.returns-clause-kept
 returns-clause-kept c =
     let q : Taken = record {
       place = c.args.place;
-      rights = c.into_rows-rights.result;
+      rights = c.rows_of-rights.result;
       breaks = c.breaks_of-breaks.result;
     } in
     kept_queued c.args.negated c.args.right.now c.args.pulled (c.args.place + 1) c.take_rows.new.contents.starts
@@ -23,12 +23,12 @@ returns-clause-kept c =
     c.take_rows.new.contents.rows.entries c.args.contents.now.queue.items
     (record {
       ahead = c.requires.low;
-      sized = ap (all_sized (length c.args.right.now)) c.into_rows-rights.ensures.rows
+      sized = ap (all_sized (length c.args.right.now)) c.rows_of-rights.ensures.rows
           ∙ ap (λ (columns : List ℕ). all_sized (length columns) c.args.rights.rows) (sym c.requires.columns)
-          ∙ c.into_rows-rights.ensures.is_table.sized;
+          ∙ c.rows_of-rights.ensures.is_table.sized;
       kept = c.requires.kept;
       breaks = c.breaks_of-breaks.ensures;
-      entries = rw (c.rows-2.ensures.rows, ← c.into_rows-rights.ensures.rows) at c.in_ok-take_rows.ensures.rows;
+      entries = rw (c.rows-2.ensures.rows, ← c.rows_of-rights.ensures.rows) at c.in_ok-take_rows.ensures.rows;
       some = λ old. c.in_ok-take_rows.ensures.some;
       runs = rw c.rows.ensures.rows at c.in_ok-take_rows.ensures.starts;
     }))
