@@ -1,7 +1,9 @@
 -- The laws of the reader of change scripts: what it reads is what a text spells, and each fault is the first
 -- that is shown.
 use Rattle.std.proofs.Common.{◌≡◌, ◌≢◌, ◌∙◌, ℕ, true, List, [], ◌∷◌, ◌++◌, length, Some, None, Option, Result, Ok, Err}
-use Rattle.std.proofs.Common.{IfOk, IfErr, refl, ap, sym, arith}
+use Rattle.std.proofs.Common.{IfOk, IfErr, refl, ap, sym, subst, arith}
+use Rattle.std.specs.List.{AllByRecursion}
+use Rattle.std.proofs.SliceLists.{all_by_recursion_push}
 use Rattle.mfotl_lex.specs.declared.{fault.LexFault.LexFault, kind.Mode.TheVariants.Plain}
 use Rattle.mfotl_lex.specs.FirstFault as layer
 use Rattle.mfotl_lex.specs.FirstFault.{Broken, End, run}
@@ -15,7 +17,7 @@ use Rattle.slice_strategy.specs.declared.{change.Change.Change as ChangeOf, chan
 use Rattle.slice_strategy.specs.declared.{change.ChangeFault.TheVariants.Strategy as Within}
 use Rattle.slice_strategy.specs.declared.{fault.StrategyFault.StrategyFault, fault.StrategyFault.TheVariants.Memory}
 use Rattle.slice_strategy.specs.{ChangeAnswers.Gives, ChangeCauses.IsCause, ChangeCauses.IsLast, Grammar.Whole}
-use Rattle.slice_strategy.specs.{Grammar.spell_part, Rules.strategy_of, Rules.text_of}
+use Rattle.slice_strategy.specs.{Entries.HasWorkers, Grammar.spell_part, Rules.strategy_of, Rules.text_of}
 use Rattle.slice_strategy.specs.ChangeGrammar.{Script, NoChange, Change, FitsScript, spell_script, IsViableScript}
 use Rattle.slice_strategy.specs.ChangeLaws.{OneAnswer, IsShown, ExactFaults, ExactSoundness, StaysShown}
 use Rattle.slice_strategy.specs.ChangeReading.{ScriptOf, last_change, step, nothing_read, at_tail, reading}
@@ -23,7 +25,7 @@ use Rattle.slice_strategy.specs.ChangeRules.{point_number, changes_of, KeepsScri
 use Rattle.slice_strategy.specs.Reading as strategy
 use Rattle.slice_strategy.specs.Reading.{Partial, complete, ended}
 use Rattle.slice_strategy.proofs.CauseLaw.{closed_few, ends_accepted, few_closed, part_stands}
-use Rattle.slice_strategy.proofs.{Moves.behind, PartReads.few_kept, PartReads.few_of}
+use Rattle.slice_strategy.proofs.{EntryLaws.kept_workers, Moves.behind, PartReads.few_kept, PartReads.few_of}
 use Rattle.slice_strategy.proofs.ChangeCauseLaw.{follows, stands, place_stands, inner_ran, IsPlace}
 use Rattle.slice_strategy.proofs.ChangeParts.{IsRule, Place, Outside, ToBefore, Inside, spell_number, at_place}
 use Rattle.slice_strategy.proofs.ChangeParts.{at_whole, KeepsWhole, whole_of, script_read}
@@ -152,3 +154,21 @@ pub fault_shown : {X : Type 0} (view : X → List ChangeOf) (vars : List Var) (b
 fault_shown view vars bytes (Ok x) given = tt
 fault_shown view vars bytes (Err (Within Memory)) given = λ other. absurd (other refl)
 fault_shown view vars bytes (Err fault) given = λ _. (exact_faults vars bytes fault).0 given
+
+-- each strategy has workers, and no more than there may be
+abbrev HaveWorkers : List ChangeOf → Type 0
+HaveWorkers changes = AllByRecursion (λ (c : ChangeOf). HasWorkers c.strategy) changes
+
+kept_script : (vars : List Var) (s : Script) → KeepsScript vars s → HaveWorkers (changes_of vars s)
+kept_script vars NoChange kept = tt
+kept_script vars (Change s w n es) kept =
+    all_by_recursion_push (λ (c : ChangeOf). HasWorkers c.strategy) (changes_of vars s) _ (kept_script vars s kept.0)
+    (kept_workers vars es kept.3)
+
+pub workers_given : {X : Type 0} (view : X → List ChangeOf) (vars : List Var) (bytes : List ℕ)
+    (result : Result X ChangeFault)
+    → Gives view result (reading vars bytes) → IfOk result (λ x. HaveWorkers (view x))
+workers_given view vars bytes (Ok x) given =
+    let v = read_is_spelled vars bytes (view x) given in
+    subst HaveWorkers (sym v.value) (kept_script vars v.written v.rules)
+workers_given view vars bytes (Err fault) given = tt

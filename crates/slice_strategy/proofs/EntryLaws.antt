@@ -4,15 +4,17 @@ use Rattle.std.proofs.Common.{Option, Some, None, Err, slice_get, slice_set, ap,
 use Rattle.std.proofs.lemmas.List.{length-set, length-replicate, length-append}
 use Rattle.std.proofs.lemmas.List.Quantifiers.{position-Some}
 use Rattle.std.specs.Prelude.{ℤ}
+use Rattle.std.proofs.lemmas.Bool.{leb-true}
 use Rattle.mfotl_lex.specs.Lexemes.{Lexeme}
-use Rattle.mfotl_model.specs.{Strategies.Entry, Strategies.workers_of, Strategies.Entry.Uncut}
+use Rattle.mfotl_model.specs.{Strategies.Entry, Strategies.parts_of, Strategies.workers_of, Strategies.Entry.Uncut}
 use Rattle.mfotl_model.specs.declared.policy.Var.{Var}
-use Rattle.slice_strategy.specs.declared.fault.StrategyFault.TheVariants.{RepeatedVariable}
+use Rattle.slice_strategy.specs.declared.{fault.StrategyFault.TheVariants.RepeatedVariable, stage.Method.Method}
+use Rattle.slice_strategy.specs.declared.stage.Method.TheVariants.{Hash, Cut}
 use Rattle.slice_strategy.specs.Grammar.{Integers, Entries, NoEntry, Then}
-use Rattle.slice_strategy.specs.{Limits.max_workers, Reading.fresh}
+use Rattle.slice_strategy.specs.{Entries.HasWorkers, Limits.max_workers, Reading.fresh}
 use Rattle.slice_strategy.specs.Rules.{variable_of, or_zero, number_of, numbers, last_of, strategy_of, HasEntry, IsNew}
-use Rattle.slice_strategy.specs.Rules.{KeepsRules}
-use Rattle.slice_strategy.proofs.SoundLemmas.{uncut_one}
+use Rattle.slice_strategy.specs.Rules.{AreInOrder, KeepsRules, entry_by}
+use Rattle.slice_strategy.proofs.SoundLemmas.{uncut_one, some_set}
 
 -- ---- lists
 
@@ -90,3 +92,19 @@ module _ (vars : List Var) where
   -- without an entry there is one worker
   pub one_worker : workers_of (strategy_of vars NoEntry) ≤ max_workers
   one_worker = let one = uncut_one (length vars) in omega (arith, one)
+
+  -- an entry that keeps the rules has parts
+  some_parts : (m : Method) (is : Integers) → AreInOrder m is → 0 < parts_of (entry_by m is)
+  some_parts Hash is kept = grind (arith, leb-true)
+  some_parts Cut is kept = omega arith
+
+  -- so there are workers, and no more than there may be
+  pub kept_workers : (es : Entries) → KeepsRules vars es → HasWorkers (strategy_of vars es)
+  kept_workers NoEntry kept = let one = uncut_one (length vars) in omega (arith, one)
+  kept_workers (Then es o is) kept =
+      record {
+        some =
+            some_set (strategy_of vars es) (number_of vars o.name) (entry_by o.method is)
+            (some_parts o.method is kept.3) (kept_workers es kept.0).some;
+        few = kept.4;
+      }

@@ -1,5 +1,5 @@
 -- The laws of the reader: what it reads is what a text spells, and each fault is the first that is shown.
-use Rattle.std.proofs.Common.{◌≡◌, ◌≢◌, ◌∙◌, ℕ, List, length, Result, Ok, Err, IfOk, IfErr, ap, arith}
+use Rattle.std.proofs.Common.{◌≡◌, ◌≢◌, ◌∙◌, ℕ, List, length, Result, Ok, Err, IfOk, IfErr, ap, sym, subst, arith}
 use Rattle.mfotl_lex.specs.FirstFault as layer
 use Rattle.mfotl_lex.specs.FirstFault.{End, run}
 use Rattle.mfotl_lex.proofs.FirstFaultLaws as firsts
@@ -8,12 +8,13 @@ use Rattle.mfotl_model.specs.Strategies.{Strategy}
 use Rattle.mfotl_model.specs.declared.policy.Var.{Var}
 use Rattle.slice_strategy.specs.declared.{fault.StrategyFault.StrategyFault, fault.StrategyFault.TheVariants.Memory}
 use Rattle.slice_strategy.specs.{Answers.Gives, Causes.IsCause, Causes.IsLast, Rules.IsValue, Rules.text_of}
+use Rattle.slice_strategy.specs.Entries.{HasWorkers}
 use Rattle.slice_strategy.specs.Grammar.{Whole, IsAccepted, IsViable}
 use Rattle.slice_strategy.specs.Laws.{OneAnswer, IsShown, ExactFaults, ExactSoundness}
 use Rattle.slice_strategy.specs.Reading.{Partial, complete, ended, step, nothing_read, at_tail, reading}
 use Rattle.slice_strategy.proofs.CauseLaw.{follows, few_closed, ends_accepted, part_stands, closed_few}
 use Rattle.slice_strategy.proofs.PartReads.{few_kept, kept_whole, kept_reads, few_of}
-use Rattle.slice_strategy.proofs.EntryLaws.{strategy_size}
+use Rattle.slice_strategy.proofs.EntryLaws.{strategy_size, kept_workers}
 
 module _ (vars : List Var) (bytes : List ℕ) where
   -- ---- values
@@ -79,3 +80,10 @@ pub size_given : (vars : List Var) (bytes : List ℕ) (result : Result Strategy 
 size_given vars bytes (Ok s) given =
     let v = read_is_spelled vars bytes s given in ap length v.value ∙ strategy_size vars v.written
 size_given vars bytes (Err fault) given = tt
+
+-- there are workers, and no more than there may be
+pub workers_given : (vars : List Var) (bytes : List ℕ) (result : Result Strategy StrategyFault)
+    → Gives (λ s. s) result (reading vars bytes) → IfOk result HasWorkers
+workers_given vars bytes (Ok s) given =
+    let v = read_is_spelled vars bytes s given in subst HasWorkers (sym v.value) (kept_workers vars v.written v.rules)
+workers_given vars bytes (Err fault) given = tt

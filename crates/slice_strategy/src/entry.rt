@@ -1,6 +1,8 @@
 //! What is done with the values of one variable.
-ghost use Rattle.std.specs.Prelude.{◌≡◌, ◌<◌, IfOk};
-ghost use Rattle.mfotl_model.specs.Strategies.{parts_of, strategy_part};
+ghost use Rattle.std.specs.Prelude.{◌≡◌, ◌<◌, ◌%◌, ◌^◌, ◌-◌, IfOk, length, min, sum};
+ghost use Rattle.std.specs.List.{filter};
+ghost use Rattle.std.specs.Ordering.{int_cmp, is_le};
+ghost use Rattle.mfotl_model.specs.Strategies.{parts_of, remainder, strategy_part, workers_of};
 ghost use Rattle.slice_strategy.specs.Entries.{entries_of, entry_of};
 
 use mfotl_model::{Text, Value};
@@ -52,11 +54,6 @@ impl Entry {
         }
     }
 }
-
-ghost use Rattle.std.specs.Prelude.{◌%◌, ◌^◌, ◌-◌, length, min, sum};
-ghost use Rattle.std.specs.List.{filter};
-ghost use Rattle.std.specs.Ordering.{int_cmp, is_le};
-ghost use Rattle.mfotl_model.specs.Strategies.{remainder, workers_of};
 
 /// How many workers there are with these entries, or the greatest number if there are more.
 pub fn count_workers(entries: &[Entry]) -> u64

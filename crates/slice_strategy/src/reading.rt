@@ -1,7 +1,7 @@
 //! A strategy, token by token.
 ghost use Rattle.std.specs.Prelude.{◌≡◌, ◌≢◌, IfErr, IfOk, length, replicate};
 ghost use Rattle.mfotl_model.specs.Strategies.Entry.{Uncut};
-ghost use Rattle.slice_strategy.specs.Entries.{entries_of};
+ghost use Rattle.slice_strategy.specs.Entries.{HasWorkers, entries_of};
 ghost use Rattle.mfotl_lex.specs.Lexemes.{lexeme};
 ghost use Rattle.slice_strategy.specs.Answers.{Fails, Gives};
 ghost use Rattle.slice_strategy.specs.declared.fault.StrategyFault.TheVariants.{Memory};
@@ -165,6 +165,7 @@ impl Strategy {
         ensures value { IfOk result (λ s. IsValue policy.now.vars bytes.now s) }
         ensures shown { IfErr result (λ fault. fault ≢ Memory → IsShown policy.now.vars bytes.now fault) }
         ensures sized { IfOk result (λ s. length s ≡ length policy.now.vars) }
+        ensures workers { IfOk result HasWorkers }
     {
         read_strategy(alloc, bytes, policy.vars.as_slice())
     }

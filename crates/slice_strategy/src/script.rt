@@ -1,11 +1,13 @@
 //! A change script, token by token.
 ghost use Rattle.std.specs.Prelude.{◌≡◌, ◌≢◌, IfErr, IfOk};
+ghost use Rattle.std.specs.List.{AllByRecursion};
 ghost use Rattle.mfotl_lex.specs.Lexemes.{lexeme};
 ghost use Rattle.slice_strategy.specs.declared.change.ChangeFault.TheVariants.{Strategy as Within};
 ghost use Rattle.slice_strategy.specs.declared.fault.StrategyFault.TheVariants.{Memory};
 ghost use Rattle.slice_strategy.specs.ChangeLaws.{IsShown};
 ghost use Rattle.slice_strategy.specs.ChangeRules.{IsValue};
 ghost use Rattle.slice_strategy.specs.ChangeAnswers.{Fails, Gives};
+ghost use Rattle.slice_strategy.specs.Entries.{HasWorkers};
 ghost use Rattle.slice_strategy.specs.ChangeReading.{breaks, ends, nothing_read, reading, step};
 
 use crate::change::{Change, ChangeFault};
@@ -132,6 +134,7 @@ pub fn read_changes(
 ) -> Result<Vec<Change>, ChangeFault>
     ensures reads { Gives (λ changes. changes.items) result (reading policy.now.vars bytes.now) }
     ensures value { IfOk result (λ changes. IsValue policy.now.vars bytes.now changes.items) }
+    ensures workers { IfOk result (λ changes. AllByRecursion (λ c. HasWorkers c.strategy) changes.items) }
     ensures shown { IfErr result (λ fault. fault ≢ Within Memory → IsShown policy.now.vars bytes.now fault) }
 {
     read_script(alloc, bytes, policy.vars.as_slice())
