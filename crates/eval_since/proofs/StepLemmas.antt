@@ -126,8 +126,13 @@ module _ {interval : Interval} {right left : List ℕ} {goes : List Value → Bo
         placed = λ q v apart. placed_thinned hi now (times_at new q v) (times_at thin q v) (thins q v)
             (placed_after q v apart);
         past = λ q v. past_thinned hi now now (times_at new q v) (times_at thin q v) (thins q v) (past_after q v);
-        finds = rw e (covered, rising, after now (not_after_put queue queued now rows put not_later), fresh,
-            each (rows_put queue queued now rows put finds_before.4));
+        finds = rw e (
+          covered,
+          rising,
+          after now (not_after_put queue queued now rows put not_later),
+          fresh,
+          each (rows_put queue queued now rows put finds_before.4),
+        );
       }
 
       pub within_bounded : (x : ℕ) (u : List Value) → now ≤ x → reaches interval (times_at thin (part right left u) u) x

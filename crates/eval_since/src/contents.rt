@@ -106,7 +106,12 @@ fn add_rows(
 }
 
 // a time without rows isn't looked for when it is old
-fn put_dated(alloc: Global, queue: &mut VecDeque<Dated>, rows: Vec<Row>, ts: u64) -> Result<(), AllocError>
+fn put_dated(
+    alloc: Global,
+    queue: &mut VecDeque<Dated>,
+    rows: Vec<Row>,
+    ts: u64,
+) -> Result<(), AllocError>
     ensures { OnOk result (Queues queue.old.items ts rows.items queue.new.items) }
 {
     if rows.is_empty() {
