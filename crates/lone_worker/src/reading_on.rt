@@ -13,7 +13,7 @@ const CHUNK: usize = 65_536;
 
 /// Room for what a read gives. It errs where memory was refused.
 pub fn chunk_room(alloc: Global) -> Result<Vec<u8>, AllocError>
-    ensures { IfOk result (λ room. length room.items ≡ CHUNK) }
+    ensures { IfOk result (λ room. length room.items ≡ 65536) }
 {
     let room = Vec::from_elem(alloc, 0, CHUNK)?;
     Ok(room)
