@@ -1,5 +1,5 @@
 //! The log is read on, one chunk more, once what was written is handed on.
-ghost use Rattle.std.specs.Prelude.{◌≡◌, ◌<◌, ◌≤◌, IfOk, IsTrue, length, [], false};
+ghost use Rattle.std.specs.Prelude.{◌≡◌, ◌<◌, ◌≤◌, IfOk, IsTrue, OnOk, length, [], false};
 ghost use Rattle.lone_worker.specs.Chunks.{ReadsChunk, ReadsOn};
 ghost use Rattle.lone_worker.specs.Effects.{effect};
 
@@ -71,6 +71,7 @@ pub fn read_on<I: Inputs, O: Sink>(
     ensures asks_nothing { I.asked inputs.new ≡ I.asked inputs.old }
     ensures later { I.faults inputs.old ≤ I.faults inputs.new }
     ensures kept { O.written out.new ≡ O.written out.old }
+    ensures handed_on { OnOk result (O.held out.new ≡ []) }
     ensures later_out { O.faults out.old ≤ O.faults out.new }
     ensures reads { ReadsOn reader.old reader.new
         (effect I.Inputs O.Sink inputs.old inputs.new out.old out.new) result }
