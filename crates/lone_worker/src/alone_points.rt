@@ -1,5 +1,5 @@
 //! The time-points of a log, taken by one worker alone as soon as each is complete.
-ghost use Rattle.std.specs.Prelude.{◌≡◌, ◌≤◌, IfErr, Ok, OnErr, OnOk, false, true};
+ghost use Rattle.std.specs.Prelude.{◌≡◌, ◌+◌, ◌≤◌, IfErr, Ok, OnErr, OnOk, false, true};
 ghost use Rattle.mon_outside.specs.Sink.{AppendsFront};
 ghost use Rattle.log_reader.specs.Progress.{read};
 ghost use Rattle.log_reader.specs.Readers.{progress};
@@ -28,6 +28,7 @@ fn take_next<O: Sink>(
     requires under_way { IsUnderWayAlone reader.old worker.old.monitor (O.written out.old) worker.old.writer.tally }
     ensures reader { OnOk result (reader.new
         ≡ record reader.old { given = reader.new.given; kept = reader.new.kept }) }
+    ensures goes_on { result ≡ Ok true → reader.new.given ≡ reader.old.given + 1 }
     ensures one { result ≡ Ok true → ForEachRunAlone reader.old worker.old.monitor (O.written out.old)
         worker.old.writer.tally (λ core bytes start. IsReadAlone core start reader.new worker.new.monitor
         (O.written out.new) worker.new.writer.tally bytes) }

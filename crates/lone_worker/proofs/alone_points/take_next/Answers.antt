@@ -1,3 +1,5 @@
+use Rattle.std.proofs.Common.{◌∙◌, ap}
+use Rattle.log_reader.specs.Readers.{Reader}
 use Rattle.lone_worker.proofs.{AloneLemmas.falls_none, AloneRuns.given_done, ErrorLemmas.on_err}
 use Rattle.lone_worker.proofs.GivenPoints.{done_at_end, done_for_more, front_amid, front_behind_one, is_amid}
 use Rattle.lone_worker.proofs.GivenPoints.{may_follow, one_done, stops_at}
@@ -20,6 +22,11 @@ returns-in_err-take-in-Ok-Point-clause-front g c =
     let after = rw c.in-Ok-Point.field-0-is at c.in-Ok-Point.ensures.after in
     front_behind_one here c.in-Ok-Point.point gives after c.in-Ok-Point.ensures.narrow
     (c.in_err-take-in-Ok-Point.ensures.err core start))
+
+pub returns-in_ok-take-in-Ok-Point-clause-goes_on : goal.returns-in_ok-take-in-Ok-Point-clause-goes_on
+returns-in_ok-take-in-Ok-Point-clause-goes_on g c told =
+    ap (λ (r : Reader). r.given)
+    (c.take_back.ensures ∙ (rw c.in-Ok-Point.field-0-is at c.in-Ok-Point.ensures.after))
 
 pub returns-in_ok-take-in-Ok-Point-clause-one : goal.returns-in_ok-take-in-Ok-Point-clause-one
 returns-in_ok-take-in-Ok-Point-clause-one g c told core bytes start reads so_far =
