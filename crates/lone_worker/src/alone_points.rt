@@ -14,7 +14,6 @@ use crate::stop::Stop;
 use log_reader::{LogReader, Next};
 use mon_outside::Sink;
 use std::alloc::Global;
-use std::sync::Wait;
 
 // Takes the next time-point, if it is complete, and writes the lines that are due by then. Answers whether there was
 // one.
@@ -57,8 +56,7 @@ fn take_next<O: Sink>(
 }
 
 /// Takes all time-points that are complete, and writes all lines that are due by then.
-pub(crate) fn take_complete<R: Wait, O: Sink>(
-    rt: &R,
+pub(crate) fn take_complete<O: Sink>(
     alloc: Global,
     worker: &mut LoneWorker,
     reader: &mut LogReader<'_>,
@@ -80,10 +78,11 @@ pub(crate) fn take_complete<R: Wait, O: Sink>(
         start (O.written out.new) (text_on policy (read (progress reader.old bytes))))) }
     ensures later { O.faults out.old ≤ O.faults out.new }
 {
-    'points: for _ in rt.forever() {
+    'points: for _ in 0..u64::MAX {
         if !take_next(alloc, worker, reader, out)? {
             return Ok(());
         }
     }
-    unreachable!()
+    // No log has so many.
+    Err(Stop::Memory)
 }

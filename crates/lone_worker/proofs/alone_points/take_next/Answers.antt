@@ -1,7 +1,7 @@
 use Rattle.std.proofs.Common.{◌∙◌, ap}
 use Rattle.log_reader.specs.Readers.{Reader}
-use Rattle.lone_worker.proofs.{AloneLemmas.falls_none, AloneRuns.given_done, ErrorLemmas.on_err}
-use Rattle.lone_worker.proofs.GivenPoints.{done_at_end, done_for_more, front_amid, front_behind_one, is_amid}
+use Rattle.lone_worker.proofs.{AloneRuns.front_so_far, AloneRuns.given_done, ErrorLemmas.on_err}
+use Rattle.lone_worker.proofs.GivenPoints.{done_at_end, done_for_more, front_behind_one, is_amid}
 use Rattle.lone_worker.proofs.GivenPoints.{may_follow, one_done, stops_at}
 use Rattle.lone_worker.proofs.alone_points.take_next.Goals as goal
 
@@ -56,5 +56,4 @@ returns-in-Err-clause-stops g c core bytes start reads so_far =
     (c.in-Err.ensures.answer bytes reads) _ _
 
 pub returns-in-Err-clause-front : goal.returns-in-Err-clause-front
-returns-in-Err-clause-front g c core bytes start reads so_far =
-    front_amid (is_amid reads so_far) (λ points. falls_none)
+returns-in-Err-clause-front g c core bytes start reads so_far = front_so_far c.args.reader.now reads so_far
