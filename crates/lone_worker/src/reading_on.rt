@@ -45,10 +45,10 @@ fn read_chunk<I: Inputs, O: Sink>(
             reader.finish();
             Ok(())
         }
-        Ok(count) => match reader.feed(alloc, &buffer[..count]) {
-            Ok(()) => Ok(()),
-            Err(_) => Err(Stop::Memory),
-        },
+        Ok(count) => {
+            reader.feed(alloc, &buffer[..count])?;
+            Ok(())
+        }
         Err(_) => Err(Stop::Read),
     }
 }
