@@ -4,12 +4,12 @@ use Rattle.mon_outside.specs.Sink.{AppendsFront}
 use Rattle.mfotl_model.specs.Formulas.{Form}
 use Rattle.mfotl_model.specs.declared.event.TimePoint.{TimePoint}
 use Rattle.log_reader.specs.Progress.{Progress, read}
-use Rattle.log_reader.specs.Readers.{Reader, progress}
+use Rattle.log_reader.specs.Readers.{Reader, Reads, progress}
 use Rattle.log_reader.specs.Readings.{Reading}
 use Rattle.monitor_state.specs.declared.monitor.Monitor.{Monitor}
 use Rattle.monitorable.specs.CoreForms.{CoreForm}
 use Rattle.lone_worker.specs.{Alone.WritesAlone, Chunks.StopsLines, Policies.ForEachPolicy, Texts.text_on}
-use Rattle.lone_worker.specs.{Courses.HasDone, Courses.HasDoneAll}
+use Rattle.lone_worker.specs.Courses.{HasDone}
 use Rattle.lone_worker.specs.declared.{stop.Stop.Stop, tally.Tally.Tally}
 use Rattle.lone_worker.specs.declared.stop.Stop.TheVariants.{Log, Read, Sink, Memory}
 use Rattle.lone_worker.proofs.{AloneLemmas.falls_none, PointLemmas.rose_later}
@@ -42,9 +42,9 @@ stops_later policy start now before mid after Read is later h = absurd h
 stops_later policy start now before mid after Sink is later h = rose_later before mid after later h
 stops_later policy start now before mid after Memory is later h = tt
 
--- all lines are a front of themselves
-pub front_of_all : {core : CoreForm} {start now : Option (List ℕ)} {monitor : Monitor} {tally : Tally}
-    {reader : Reader} {bytes : List ℕ}
-    → HasDoneAll core (WritesAlone core start monitor now tally) reader bytes start now tally
+-- what was written is a front of what is due
+pub front_so_far : {core : CoreForm} {start now : Option (List ℕ)} {monitor : Monitor} {tally : Tally}
+    (reader : Reader) {bytes : List ℕ} → Reads reader bytes
+    → HasDone (WritesAlone core start monitor now tally) (progress reader bytes)
     → ForEachPolicy core (λ policy. AppendsFront start now (text_on policy (read (progress reader bytes))))
-front_of_all all = front_amid (is_amid all.reads all.so_far) (λ points. falls_none)
+front_so_far reader reads so_far = front_amid (is_amid reads so_far) (λ points. falls_none)

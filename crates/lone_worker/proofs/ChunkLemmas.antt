@@ -1,6 +1,6 @@
 -- Chunk after chunk of a log.
-use Rattle.std.proofs.Common.{◌≡◌, ◌∙◌, ap, ap₂, subst, sym, refl, ℕ, ◌≤◌, Bool, true, false, List, [], ◌++◌, length}
-use Rattle.std.proofs.Common.{take, Option, Some, None, append-nil, arith}
+use Rattle.std.proofs.Common.{◌≡◌, ◌∙◌, ap, ap₂, subst, sym, refl, ℕ, ◌<◌, ◌≤◌, Bool, true, false, List, [], ◌++◌}
+use Rattle.std.proofs.Common.{length, take, Option, Some, None, append-nil, arith}
 use Rattle.std.proofs.{lemmas.List.take-append-le}
 use Rattle.std.proofs.KnownBytes.{Consumes-nil, Consumes-trans, Consumes-whole}
 use Rattle.std.specs.Prelude.{Result, Ok, Err}
@@ -51,16 +51,17 @@ stops_end policy e ended r before Sink later h = omega arith
 stops_end policy e ended r before Memory later h = tt
 
 -- a chunk was fed
-pub fed : (old new : Reader) (before : Option (List ℕ)) (chunk : List ℕ) → old.is_ended ≡ false
+pub fed : (old new : Reader) (before : Option (List ℕ)) (chunk : List ℕ) → old.is_ended ≡ false → 0 < length chunk
     → new ≡ record old { is_fed = true; kept = new.kept } → ForEach old (λ bytes. Reads new (bytes ++ chunk))
     → Feeds old new before chunk
-fed old new before chunk untold e reads =
+fed old new before chunk untold some e reads =
     let told : new.is_fed ≡ true = ap (λ (r : Reader). r.is_fed) e in
     let ended : new.is_ended ≡ old.is_ended = ap (λ (r : Reader). r.is_ended) e in
     record {
       same = e ∙ ap₂ (λ f d. record old { is_fed = f; is_ended = d; kept = new.kept }) (sym told) (sym ended);
       reads = reads;
       whole = λ end. absurd cc;
+      goes_on = λ going. some;
     }
 
 -- where the output handed on what it held, the chunk alone counts

@@ -1,5 +1,5 @@
 -- A log that is read in chunks: why a run stops, and what one chunk more is.
-use Rattle.std.specs.Prelude.{◌≡◌, ℕ, true, List, [], ◌++◌, Option, Result, IfErr, OnOk}
+use Rattle.std.specs.Prelude.{◌≡◌, ◌<◌, ℕ, true, false, List, [], ◌++◌, length, Option, Result, IfErr, OnOk}
 use Rattle.std.specs.Prelude.{Ok, Err}
 use Rattle.std.specs.Io.KnownBytes.{IsAtEnd}
 use Rattle.mon_outside.specs.Causes.{Rose}
@@ -45,7 +45,10 @@ StopsLines policy r old new before now stop = IsOutputStop before now stop
 pub record Feeds (old new : Reader) (before : Option (List ℕ)) (chunk : List ℕ) : Type 0 where
   pub same : new ≡ record old { is_fed = new.is_fed; is_ended = new.is_ended; kept = new.kept }
   pub reads : ForEach old (λ bytes. Reads new (bytes ++ chunk))
+  -- the end comes only where no byte is left,
   pub whole : new.is_ended ≡ true → IsAtEnd before × (chunk ≡ [])
+  -- and before it at least one byte
+  pub goes_on : new.is_ended ≡ false → 0 < length chunk
 
 -- the read failed and gave nothing, or memory was refused
 abbrev pub IsChunkStop : List ℕ → ℕ → ℕ → Stop → Type 0

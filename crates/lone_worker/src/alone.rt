@@ -22,12 +22,10 @@ use log_reader::LogReader;
 use mon_outside::{Inputs, Sink};
 use monitorable::Core;
 use std::alloc::Global;
-use std::sync::Wait;
 
 // Writes all lines that are due for what was read, and then reads the next chunk, unless the log is at its end. Answers
 // whether it is.
-fn take_chunk<R: Wait, I: Inputs, O: Sink>(
-    rt: &R,
+fn take_chunk<I: Inputs, O: Sink>(
     alloc: Global,
     worker: &mut LoneWorker,
     buffer: &mut [u8],
@@ -48,7 +46,7 @@ fn take_chunk<R: Wait, I: Inputs, O: Sink>(
         worker.old.writer.tally log.old inputs.old out.old) → ComesToAlone b (alone_state I.Inputs O.Sink
         worker.new.monitor worker.new.writer.tally log.new inputs.new out.new) result }
 {
-    match take_complete(rt, alloc, worker, log, out) {
+    match take_complete(alloc, worker, log, out) {
         Ok(()) => {}
         Err(stop) => return Err(stop),
     }
@@ -63,8 +61,7 @@ fn take_chunk<R: Wait, I: Inputs, O: Sink>(
 
 // Monitors the open file as a log, chunk after chunk, and answers what was counted of its lines. What was written is
 // handed on before each read.
-fn follow_with<R: Wait, I: Inputs, O: Sink>(
-    rt: &R,
+fn follow_with<I: Inputs, O: Sink>(
     alloc: Global,
     worker: &mut LoneWorker,
     buffer: &mut [u8],
@@ -86,19 +83,19 @@ fn follow_with<R: Wait, I: Inputs, O: Sink>(
         → ForEachPolicy core (λ policy. FollowsLog log.old.sig log.old.limits policy
         (effect I.Inputs O.Sink inputs.old inputs.new out.old out.new) (run_end result)) }
 {
-    'chunks: for _ in rt.forever() {
-        if take_chunk(rt, alloc, worker, buffer, log, inputs, out)? {
+    'chunks: for _ in 0..u64::MAX {
+        if take_chunk(alloc, worker, buffer, log, inputs, out)? {
             return Ok(worker.writer.tally);
         }
     }
-    unreachable!()
+    // No log has so many.
+    Err(Stop::Memory)
 }
 
 /// Monitors the open file as a log by one worker of all rows, and answers what was counted of its lines. Each
 /// time-point is taken as soon as it is read, and its lines are written at once; what was written is handed on before
 /// each read.
-pub fn follow_alone<R: Wait, I: Inputs, O: Sink>(
-    rt: &R,
+pub fn follow_alone<I: Inputs, O: Sink>(
     alloc: Global,
     core: &Core,
     buffer: &mut [u8],
@@ -120,5 +117,5 @@ pub fn follow_alone<R: Wait, I: Inputs, O: Sink>(
         (effect I.Inputs O.Sink inputs.old inputs.new out.old out.new) (run_end result)) }
 {
     let mut worker = LoneWorker::new(alloc, core)?;
-    follow_with(rt, alloc, &mut worker, buffer, log, inputs, out)
+    follow_with(alloc, &mut worker, buffer, log, inputs, out)
 }

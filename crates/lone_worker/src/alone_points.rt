@@ -1,5 +1,5 @@
 //! The time-points of a log, taken by one worker alone as soon as each is complete.
-ghost use Rattle.std.specs.Prelude.{◌≡◌, ◌≤◌, IfErr, Ok, OnErr, OnOk, false, true};
+ghost use Rattle.std.specs.Prelude.{◌≡◌, ◌+◌, ◌≤◌, IfErr, Ok, OnErr, OnOk, false, true};
 ghost use Rattle.mon_outside.specs.Sink.{AppendsFront};
 ghost use Rattle.log_reader.specs.Progress.{read};
 ghost use Rattle.log_reader.specs.Readers.{progress};
@@ -14,7 +14,6 @@ use crate::stop::Stop;
 use log_reader::{LogReader, Next};
 use mon_outside::Sink;
 use std::alloc::Global;
-use std::sync::Wait;
 
 // Takes the next time-point, if it is complete, and writes the lines that are due by then. Answers whether there was
 // one.
@@ -28,6 +27,7 @@ fn take_next<O: Sink>(
     requires under_way { IsUnderWayAlone reader.old worker.old.monitor (O.written out.old) worker.old.writer.tally }
     ensures reader { OnOk result (reader.new
         ≡ record reader.old { given = reader.new.given; kept = reader.new.kept }) }
+    ensures goes_on { result ≡ Ok true → reader.new.given ≡ reader.old.given + 1 }
     ensures one { result ≡ Ok true → ForEachRunAlone reader.old worker.old.monitor (O.written out.old)
         worker.old.writer.tally (λ core bytes start. IsReadAlone core start reader.new worker.new.monitor
         (O.written out.new) worker.new.writer.tally bytes) }
@@ -56,8 +56,7 @@ fn take_next<O: Sink>(
 }
 
 /// Takes all time-points that are complete, and writes all lines that are due by then.
-pub(crate) fn take_complete<R: Wait, O: Sink>(
-    rt: &R,
+pub(crate) fn take_complete<O: Sink>(
     alloc: Global,
     worker: &mut LoneWorker,
     reader: &mut LogReader<'_>,
@@ -79,10 +78,11 @@ pub(crate) fn take_complete<R: Wait, O: Sink>(
         start (O.written out.new) (text_on policy (read (progress reader.old bytes))))) }
     ensures later { O.faults out.old ≤ O.faults out.new }
 {
-    'points: for _ in rt.forever() {
+    'points: for _ in 0..u64::MAX {
         if !take_next(alloc, worker, reader, out)? {
             return Ok(());
         }
     }
-    unreachable!()
+    // No log has so many.
+    Err(Stop::Memory)
 }

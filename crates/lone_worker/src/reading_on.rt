@@ -1,5 +1,5 @@
 //! The log is read on, one chunk more, once what was written is handed on.
-ghost use Rattle.std.specs.Prelude.{◌≡◌, ◌<◌, ◌≤◌, IfOk, IsTrue, length, [], false};
+ghost use Rattle.std.specs.Prelude.{◌≡◌, ◌<◌, ◌≤◌, IfOk, IsTrue, OnOk, length, [], false};
 ghost use Rattle.lone_worker.specs.Chunks.{ReadsChunk, ReadsOn};
 ghost use Rattle.lone_worker.specs.Effects.{effect};
 
@@ -13,7 +13,7 @@ const CHUNK: usize = 65_536;
 
 /// Room for what a read gives. It errs where memory was refused.
 pub fn chunk_room(alloc: Global) -> Result<Vec<u8>, AllocError>
-    ensures { IfOk result (λ room. length room.items ≡ CHUNK) }
+    ensures { IfOk result (λ room. length room.items ≡ 65536) }
 {
     let room = Vec::from_elem(alloc, 0, CHUNK)?;
     Ok(room)
@@ -45,10 +45,10 @@ fn read_chunk<I: Inputs, O: Sink>(
             reader.finish();
             Ok(())
         }
-        Ok(count) => match reader.feed(alloc, &buffer[..count]) {
-            Ok(()) => Ok(()),
-            Err(_) => Err(Stop::Memory),
-        },
+        Ok(count) => {
+            reader.feed(alloc, &buffer[..count])?;
+            Ok(())
+        }
         Err(_) => Err(Stop::Read),
     }
 }
@@ -71,6 +71,7 @@ pub fn read_on<I: Inputs, O: Sink>(
     ensures asks_nothing { I.asked inputs.new ≡ I.asked inputs.old }
     ensures later { I.faults inputs.old ≤ I.faults inputs.new }
     ensures kept { O.written out.new ≡ O.written out.old }
+    ensures handed_on { OnOk result (O.held out.new ≡ []) }
     ensures later_out { O.faults out.old ≤ O.faults out.new }
     ensures reads { ReadsOn reader.old reader.new
         (effect I.Inputs O.Sink inputs.old inputs.new out.old out.new) result }

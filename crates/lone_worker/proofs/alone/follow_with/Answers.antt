@@ -1,7 +1,8 @@
 use Rattle.std.proofs.Common.{rules, ◌∙◌, ap, arith, refl}
 use Rattle.std.proofs.lemmas.Result.{err_from_is_err_and}
 use Rattle.log_reader.specs.Progress.{Progress}
-use Rattle.lone_worker.proofs.ChunkLemmas.{course_begins}
+use Rattle.lone_worker.specs.declared.stop.Stop.TheVariants.{Memory}
+use Rattle.lone_worker.proofs.{AloneRuns.front_so_far, ChunkLemmas.course_begins, ChunkLemmas.lines_stop}
 use Rattle.lone_worker.proofs.alone.follow_with.Goals as goal
 
 pub chunks-init : goal.chunks-init
@@ -19,8 +20,6 @@ chunks-init g c = record {
     course = course_begins (g.I.Inputs.rest c.args.inputs.now) c.requires.fresh c.requires.reads
         (begins (g.O.Sink.written c.args.out.now));
   };
-  can = tt;
-  finite = tt;
 }
 
 pub take_chunk-requires-clause-under_way : goal.take_chunk-requires-clause-under_way
@@ -47,6 +46,11 @@ chunks-preserved g c =
       later = omega (arith, inv.later, on.later);
       later_out = omega (arith, inv.later_out, on.later_out);
       comes = λ core begins. rw c.if-branch.false at (c.in_ok-take_chunk.ensures.comes _ (inv.comes core begins));
-      can = tt;
-      finite = tt;
     }
+
+-- memory may be refused at any time
+pub returns-clause-follows : goal.returns-clause-follows
+returns-clause-follows g c core begins policy is =
+    let come = c.chunks.invariant.comes core begins in
+    lines_stop policy is _ come.course Memory _ come.later_out tt
+    (front_so_far c.chunks.log come.course.reads come.course.so_far policy is)

@@ -19,6 +19,4 @@ invariant-chunks g l = record {
     before = inputs_view g.I.Inputs l.fn.inputs;
     old = sink_view g.O.Sink l.fn.out;
   }) (alone_state g.I.Inputs g.O.Sink l.worker.monitor l.worker.writer.tally l.log l.inputs l.out);
-  can : (goal.iterator-chunks g).can_next l.iterator';
-  finite : (goal.iterator-chunks g).is_finite l.iterator';
 }

@@ -2,7 +2,7 @@ use Rattle.std.proofs.Common.{◌∙◌, ap, arith, refl}
 use Rattle.std.proofs.lemmas.Result.{err_from_is_err_and}
 use Rattle.std.specs.Prelude.{Ok}
 use Rattle.log_reader.specs.Readers.{Reader}
-use Rattle.lone_worker.proofs.AloneRuns.{front_of_all, given_on, same_reading, stops_later}
+use Rattle.lone_worker.proofs.AloneRuns.{front_so_far, given_on, same_reading, stops_later}
 use Rattle.lone_worker.proofs.alone_points.take_complete.Goals as goal
 
 pub points-init : goal.points-init
@@ -11,8 +11,6 @@ points-init g c = record {
   reader = refl;
   later = omega arith;
   so_far = λ core bytes start reads so_far. (reads, so_far);
-  can = tt;
-  finite = tt;
 }
 
 pub take_next-requires-clause-under_way : goal.take_next-requires-clause-under_way
@@ -52,8 +50,16 @@ returns-then-not-branch-clause-front g c core bytes start reads so_far =
     let here = c.points.invariant.so_far core bytes start reads so_far in
     let next = c.in_ok-take_next.ensures in
     let is = given_on c.args.reader.now c.points.reader c.take_next.new.reader c.points.invariant.reader next.reader in
-    rw (same_reading c.args.reader.now c.take_next.new.reader bytes is) at (front_of_all
-    (next.none (ap Ok c.if-not-branch.true) core bytes start here.0 here.1))
+    let all = next.none (ap Ok c.if-not-branch.true) core bytes start here.0 here.1 in
+    rw (same_reading c.args.reader.now c.take_next.new.reader bytes is) at
+    (front_so_far c.take_next.new.reader all.reads all.so_far)
+
+pub returns-clause-front : goal.returns-clause-front
+returns-clause-front g c core bytes start reads so_far =
+    let inv = c.points.invariant in
+    let here = inv.so_far core bytes start reads so_far in
+    rw (same_reading c.args.reader.now c.points.reader bytes inv.reader) at
+    (front_so_far c.points.reader here.0 here.1)
 
 pub points-preserved : goal.points-preserved
 points-preserved g c =
@@ -66,6 +72,4 @@ points-preserved g c =
       so_far = λ core bytes start reads so_far.
           let here = inv.so_far core bytes start reads so_far in
           next.one (ap Ok c.if-not-branch.false) core bytes start here.0 here.1;
-      can = tt;
-      finite = tt;
     }

@@ -10,6 +10,4 @@ invariant-points g l = record {
   so_far : ForEachRunAlone l.fn.reader l.fn.worker.monitor (g.O.Sink.written l.fn.out) l.fn.worker.writer.tally
       (λ core bytes start. IsReadAlone core start l.reader l.worker.monitor (g.O.Sink.written l.out)
       l.worker.writer.tally bytes);
-  can : (goal.iterator-points g).can_next l.iterator';
-  finite : (goal.iterator-points g).is_finite l.iterator';
 }

@@ -1,5 +1,7 @@
-use Rattle.lone_worker.proofs.{AloneLemmas.falls_none, AloneRuns.given_done, ErrorLemmas.on_err}
-use Rattle.lone_worker.proofs.GivenPoints.{done_at_end, done_for_more, front_amid, front_behind_one, is_amid}
+use Rattle.std.proofs.Common.{◌∙◌, ap}
+use Rattle.log_reader.specs.Readers.{Reader}
+use Rattle.lone_worker.proofs.{AloneRuns.front_so_far, AloneRuns.given_done, ErrorLemmas.on_err}
+use Rattle.lone_worker.proofs.GivenPoints.{done_at_end, done_for_more, front_behind_one, is_amid}
 use Rattle.lone_worker.proofs.GivenPoints.{may_follow, one_done, stops_at}
 use Rattle.lone_worker.proofs.alone_points.take_next.Goals as goal
 
@@ -20,6 +22,11 @@ returns-in_err-take-in-Ok-Point-clause-front g c =
     let after = rw c.in-Ok-Point.field-0-is at c.in-Ok-Point.ensures.after in
     front_behind_one here c.in-Ok-Point.point gives after c.in-Ok-Point.ensures.narrow
     (c.in_err-take-in-Ok-Point.ensures.err core start))
+
+pub returns-in_ok-take-in-Ok-Point-clause-goes_on : goal.returns-in_ok-take-in-Ok-Point-clause-goes_on
+returns-in_ok-take-in-Ok-Point-clause-goes_on g c told =
+    ap (λ (r : Reader). r.given)
+    (c.take_back.ensures ∙ (rw c.in-Ok-Point.field-0-is at c.in-Ok-Point.ensures.after))
 
 pub returns-in_ok-take-in-Ok-Point-clause-one : goal.returns-in_ok-take-in-Ok-Point-clause-one
 returns-in_ok-take-in-Ok-Point-clause-one g c told core bytes start reads so_far =
@@ -49,5 +56,4 @@ returns-in-Err-clause-stops g c core bytes start reads so_far =
     (c.in-Err.ensures.answer bytes reads) _ _
 
 pub returns-in-Err-clause-front : goal.returns-in-Err-clause-front
-returns-in-Err-clause-front g c core bytes start reads so_far =
-    front_amid (is_amid reads so_far) (λ points. falls_none)
+returns-in-Err-clause-front g c core bytes start reads so_far = front_so_far c.args.reader.now reads so_far
