@@ -5,13 +5,12 @@ ghost use Rattle.monitorable.specs.Cores.{core_form};
 ghost use Rattle.rescale_worker.specs.States.{IsFull};
 ghost use Rattle.rescale_worker.specs.Working.{CanTake, Gave, ResumesMerging, HasNoState, Settles, TakesItem};
 
-use crate::boxed::BoxedPiece;
+use crate::boxed::{BoxedPiece, BoxedStrategy};
 use crate::item::{Item, Out};
 use crate::phase::Phase;
 use crate::worker::Worker;
 use monitor_state::Piece;
 use monitorable::Core;
-use slice_strategy::Strategy;
 use state_merge::Merging;
 use state_split::split_state;
 use std::alloc::{AllocError, Global};
@@ -23,8 +22,8 @@ impl Worker {
         &mut self,
         alloc: Global,
         generation: u64,
-        old: Strategy,
-        new: Strategy,
+        old: BoxedStrategy,
+        new: BoxedStrategy,
         outs: &mut Vec<Out>,
     ) -> Result<(), AllocError>
         requires { CanTake self.old (Item.Part generation old new) }
@@ -34,7 +33,9 @@ impl Worker {
         let Phase::Active { monitor, strategy } = &self.phase else {
             unreachable!()
         };
-        let pieces = split_state(alloc, monitor, strategy, self.number, &new, generation)?;
+        let present = strategy.get();
+        let next = new.get();
+        let pieces = split_state(alloc, monitor, present, self.number, next, generation)?;
         give_pieces(alloc, pieces, outs)?;
         self.enter(Phase::Vacant);
         Ok(())
@@ -45,7 +46,7 @@ impl Worker {
         &mut self,
         alloc: Global,
         piece: Piece,
-        now: Strategy,
+        now: BoxedStrategy,
     ) -> Result<(), AllocError>
         requires { CanTake self.old (Item.Adopt piece now) }
         ensures { IfOk result (λ _. TakesItem self.old (Item.Adopt piece now) self.new []) }
@@ -66,7 +67,12 @@ impl Worker {
 }
 
 // The phase behind a piece, where so many were missing before it.
-fn settle(alloc: Global, merging: Merging, now: Strategy, missing: u32) -> Result<Phase, AllocError>
+fn settle(
+    alloc: Global,
+    merging: Merging,
+    now: BoxedStrategy,
+    missing: u32,
+) -> Result<Phase, AllocError>
     requires full { missing ≡ 1 → IsFull merging }
     requires some { 0 < missing }
     ensures { IfOk result (λ phase. Settles merging now missing phase) }
