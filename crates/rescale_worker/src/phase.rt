@@ -13,10 +13,9 @@ pub(crate) enum Phase {
     },
     /// It has no state: the strategy has no worker of its number, or it gave its pieces away.
     Vacant,
-    /// It merges pieces, of which so many are missing. It will monitor under the strategy `now`.
+    /// It merges pieces, of which some are missing. It will monitor under the strategy `now`.
     Waiting {
         merging: Merging,
         now: BoxedStrategy,
-        missing: u32,
     },
 }
