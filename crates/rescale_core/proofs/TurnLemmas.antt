@@ -3,7 +3,7 @@ use Rattle.std.proofs.Common.{◌≡◌, ◌≢◌, ℕ, zero, suc, List, [], �
 use Rattle.std.proofs.Common.{append-nil, arith, length-append, length-set, slice_set}
 use mathlib.Core.Option.{some, some-injective}
 use lib.ListN.{get_elem?}
-use Rattle.turn_hub.specs.{Answers.MayHand, Answers.swapped_line, Ends.main_view}
+use Rattle.turn_hub.specs.{Answers.LooksOnce, Answers.MayHand, Answers.swapped_line, Ends.main_view, Words.main_turn}
 use Rattle.turn_hub.proofs.Keeps.{within}
 use Rattle.rescale_core.proofs.{CellLemmas.seat_else, CellLemmas.seat_here, FeedLemmas.handed_all}
 use Rattle.rescale_core.proofs.DriverLemmas.{answered_last, driver_on, get_here, line_kept, lines_set, may_fed}
@@ -137,19 +137,23 @@ module _ (d e : Driver) (k n : ℕ) (outs : List Out) (c : CellSwapped d k n out
         record { taken = rw (t.2.here, il.taken); gave = rw (t.2.here, il.outs) },
       )
 
+  -- one look more was made
+  looked_there : LooksOnce (main_view d.main) k main_turn (main_view e.main) → LookedAtItsTurn d k e
+  looked_there looked = (omega (arith, looked.0), looked.1, looked.2)
+
   -- nothing was handed over before
-  pub moves_none_back : LookedAtItsTurn e → n ≡ 0 → e.router ≡ d.router
-      → DriverMoves d (replicate n (Takes k) ++ collects k n) e × HasTurn (lines_of e) k × LookedAtItsTurn e
+  pub moves_none_back : LooksOnce (main_view d.main) k main_turn (main_view e.main) → n ≡ 0 → e.router ≡ d.router
+      → DriverMoves d (replicate n (Takes k) ++ collects k n) e × HasTurn (lines_of e) k × LookedAtItsTurn d k e
   moves_none_back looked z same = (
     rw z (moves_over d e k n outs [] c (sym c.2 ∙ z) (λ w is. (tt, rw same is))),
     has_turn d e k n outs [] c refl,
-    looked,
+    looked_there looked,
   )
 
   -- it is collected
-  pub moves_back : LookedAtItsTurn e → n ≢ 0
+  pub moves_back : LooksOnce (main_view d.main) k main_turn (main_view e.main) → n ≢ 0
       → ((w : World) → IsRouterOf d.router w → HasTaken w k n outs → IsRouterOf e.router (world_after w (Collect k)))
-      → DriverMoves d (replicate n (Takes k) ++ collects k n) e × HasTurn (lines_of e) k × LookedAtItsTurn e
+      → DriverMoves d (replicate n (Takes k) ++ collects k n) e × HasTurn (lines_of e) k × LookedAtItsTurn d k e
   unfolding taken_back
   moves_back looked more collected = (
     (λ w is.
@@ -172,5 +176,5 @@ module _ (d e : Driver) (k n : ℕ) (outs : List Out) (c : CellSwapped d k n out
               })) (collected b.0 b.1 b.2),
         )),
     has_turn d e k n outs [] c refl,
-    looked,
+    looked_there looked,
   )

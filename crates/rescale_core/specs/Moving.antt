@@ -1,5 +1,6 @@
 -- The steps that a driver makes, and the worlds for which it stands.
-use Rattle.std.specs.Prelude.{◌≡◌, ℕ, zero, suc, ◌+◌, ◌==◌, ◌≤◌, true, List, [], ◌∷◌, ◌++◌, length, replicate}
+use Rattle.std.specs.Prelude.{◌≡◌, ℕ, zero, suc, ◌+◌, ◌==◌, ◌<◌, ◌≤◌, true, List, [], ◌∷◌, ◌++◌, length, replicate}
+use Rattle.std.specs.Prelude.{Result, Ok, Err}
 use mathlib.Core.Option.{some}
 use lib.ListN.{get_elem?}
 use Rattle.mfotl_model.specs.Strategies.{Strategy}
@@ -97,17 +98,21 @@ abbrev pub HandsOver : World → ℕ → ℕ → Driver → Type 0
 HandsOver w k m e =
     (m ≡ length (ready_in w k)) × (x : World) × Reaches w (replicate m (Feeds k)) x × IsDriverOf e x
 
--- the word that main looked at last was its own turn
-abbrev pub LookedAtItsTurn : Driver → Type 0
-LookedAtItsTurn d = (main_view d.main).word ≡ main_turn
+-- this call looked, and its last look was at cell k, where it found main's turn
+abbrev pub LookedAtItsTurn : Driver → ℕ → Driver → Type 0
+LookedAtItsTurn d k e =
+    ((main_view d.main).looks < (main_view e.main).looks)
+    × ((main_view e.main).cell ≡ k)
+    × ((main_view e.main).word ≡ main_turn)
 
 -- The worker took the n items that it had, which was collected, and was handed the m items that were ready then, where
--- main looked last at its own turn; or nothing happened, as this call found the worker's turn, or a broken cell.
+-- this call found main's turn at the worker's cell; or nothing happened, as it found the worker's turn there, or a
+-- broken cell.
 abbrev pub TurnsTo : Driver → ℕ → Turn → Driver → Type 0
 TurnsTo d k (Moved n m) e =
     ((w : World) → IsDriverOf d w
     → (x : World) × Reaches w (replicate n (Takes k) ++ collects k n) x × HandsOver x k m e)
-    × LookedAtItsTurn e
+    × LookedAtItsTurn d k e
 TurnsTo d k NotYet e = DriverMoves d [] e × LooksOnce (main_view d.main) k hand_turn (main_view e.main)
 TurnsTo d k Broken e = DriverMoves d [] e × LooksOnce (main_view d.main) k broken (main_view e.main)
 
@@ -115,10 +120,9 @@ TurnsTo d k Broken e = DriverMoves d [] e × LooksOnce (main_view d.main) k brok
 abbrev pub HasTurn : List CellLine → ℕ → Type 0
 HasTurn lines k = (l : CellLine) × (get_elem? lines k ≡ some l) × (l.mine ≡ true) × (l.last ≡ 0)
 
--- the worker took the n items that it had, which was collected, and main looked last at its own turn, which it has
--- still; or nothing happened
-abbrev pub TakesBack : Driver → ℕ → Turn → Driver → Type 0
-TakesBack d k (Moved n m) e =
-    DriverMoves d (replicate n (Takes k) ++ collects k n) e × HasTurn (lines_of e) k × LookedAtItsTurn e
-TakesBack d k NotYet e = DriverMoves d [] e × LooksOnce (main_view d.main) k hand_turn (main_view e.main)
-TakesBack d k Broken e = DriverMoves d [] e × LooksOnce (main_view d.main) k broken (main_view e.main)
+-- the worker took the n items that it had, which was collected, and main, which found its own turn, has it still; or
+-- the turn is over
+abbrev pub TakesBack : Driver → ℕ → Result ℕ Turn → Driver → Type 0
+TakesBack d k (Ok n) e =
+    DriverMoves d (replicate n (Takes k) ++ collects k n) e × HasTurn (lines_of e) k × LookedAtItsTurn d k e
+TakesBack d k (Err turn) e = TurnsTo d k turn e

@@ -117,34 +117,36 @@ impl Driver {
         ensures did { IfOk result (λ turn. TurnsTo self.old worker turn self.new) }
         ensures main { IfOk result (λ _. IsMainOf hub.now self.new.main) }
     {
-        let back = self.take_back(alloc, hub, worker)?;
-        let Turn::Moved(given, _) = back else {
-            return Ok(back);
-        };
-        let handed = self.hand_over(alloc, hub, worker)?;
-        Ok(Turn::Moved(given, handed))
+        match self.take_back(alloc, hub, worker)? {
+            Err(turn) => Ok(turn),
+            Ok(given) => {
+                let handed = self.hand_over(alloc, hub, worker)?;
+                Ok(Turn::Moved(given, handed))
+            }
+        }
     }
 
-    // Collects what the items that the worker had gave.
+    // Collects what the items that the worker had gave, and says how many these were. Where there is nothing to hand
+    // over to, the turn is over.
     fn take_back(
         &mut self,
         alloc: Global,
         hub: &Hub<Worker>,
         worker: u32,
-    ) -> Result<Turn, AllocError>
+    ) -> Result<Result<u64, Turn>, AllocError>
         requires stands { (w : World) × IsDriverOf self.old w }
         requires main { IsMainOf hub.now self.old.main × (worker < cell_count hub.now) }
-        ensures did { IfOk result (λ turn. TakesBack self.old worker turn self.new) }
+        ensures did { IfOk result (λ back. TakesBack self.old worker back self.new) }
         ensures main { IfOk result (λ _. IsMainOf hub.now self.new.main) }
     {
         match hub.swap(&mut self.main, worker, Vec::new(alloc)) {
-            Swap::NotYet(_) => Ok(Turn::NotYet),
-            Swap::Broken(_) => Ok(Turn::Broken),
+            Swap::NotYet(_) => Ok(Err(Turn::NotYet)),
+            Swap::Broken(_) => Ok(Err(Turn::Broken)),
             Swap::Back(given, outs) => {
                 if given != 0 {
                     self.router.collect(worker, given, outs)?;
                 }
-                Ok(Turn::Moved(given, 0))
+                Ok(Ok(given))
             }
         }
     }
@@ -159,9 +161,9 @@ impl Driver {
         requires stands { (w : World) × IsDriverOf self.old w }
         requires main { IsMainOf hub.now self.old.main × (worker < cell_count hub.now) }
         requires mine { HasTurn (main_view self.old.main).lines worker }
-        requires looked { LookedAtItsTurn self.old }
         ensures did { IfOk result (λ m. (w : World) → IsDriverOf self.old w → HandsOver w worker m self.new) }
-        ensures looked { IfOk result (λ _. LookedAtItsTurn self.new) }
+        ensures looked { IfOk result (λ _. (before : Driver) → LookedAtItsTurn before worker self.old
+            → LookedAtItsTurn before worker self.new) }
         ensures main { IfOk result (λ _. IsMainOf hub.now self.new.main) }
     {
         let items = self.router.take_ready(alloc, worker, u64::MAX)?;

@@ -9,7 +9,6 @@ ghost use Rattle.rescale_core.specs.declared.slot.Slot.TheVariants.{Ready};
 use crate::limits::MOST_WAITING;
 use crate::slot::Slot;
 use rescale_worker::{BoxedPiece, BoxedStrategy, Item};
-use slice_strategy::{Slicer, Strategy};
 use std::alloc::{AllocError, Global};
 use std::collections::VecDeque;
 use std::marker::Model;
@@ -63,15 +62,14 @@ impl Queue {
     /// Awaits so many pieces of the generation, whose strategy is `now`.
     pub(crate) fn push_place(
         &mut self,
-        alloc: Global,
         generation: u64,
-        now: &Strategy,
+        now: &BoxedStrategy,
         count: u32,
     ) -> Result<(), AllocError>
         ensures { IfOk result (λ _. self.new ≡ self.old ++ awaited generation now.now count) }
     {
         for j in 0..count {
-            let now = BoxedStrategy::copied(alloc, now)?;
+            let now = now.shared()?;
             self.append(Slot::Awaited {
                 generation,
                 now,

@@ -100,29 +100,30 @@ pub(crate) fn push_change(
         ++ place_below q (workers_of new.now) generation new.now (workers_of old.now)) }
 {
     grow(alloc, queues, new.workers())?;
-    push_parts(alloc, queues, generation, old, new)?;
-    push_places(alloc, queues, generation, new, old.workers())?;
+    let present = BoxedStrategy::copied(alloc, old)?;
+    let next = BoxedStrategy::copied(alloc, new)?;
+    push_parts(queues, generation, &present, &next)?;
+    push_places(queues, generation, &next, old.workers())?;
     Ok(())
 }
 
 // Queues a part for each worker that has a state.
 fn push_parts(
-    alloc: Global,
     queues: &mut Vec<Queue>,
     generation: u64,
-    old: &Strategy,
-    new: &Strategy,
+    old: &BoxedStrategy,
+    new: &BoxedStrategy,
 ) -> Result<(), AllocError>
     requires { workers_of old.now ≤ length queues.old.items }
     ensures len { IfOk result (λ _. length queues.new.items ≡ length queues.old.items) }
     ensures queued { IfOk result (λ _. (q : ℕ) → queue_at queues.new.items q
         ≡ queue_at queues.old.items q ++ part_below q (workers_of old.now) generation old.now new.now) }
 {
-    for k in 0..old.workers() {
+    for k in 0..old.get().workers() {
         let item = Item::Part {
             generation,
-            old: BoxedStrategy::copied(alloc, old)?,
-            new: BoxedStrategy::copied(alloc, new)?,
+            old: old.shared()?,
+            new: new.shared()?,
         };
         let queue = &mut queues[k as usize];
         queue.push(item)?;
@@ -132,10 +133,9 @@ fn push_parts(
 
 // Queues a place for so many pieces for each worker that gets a state.
 fn push_places(
-    alloc: Global,
     queues: &mut Vec<Queue>,
     generation: u64,
-    now: &Strategy,
+    now: &BoxedStrategy,
     count: u32,
 ) -> Result<(), AllocError>
     requires { workers_of now.now ≤ length queues.old.items }
@@ -143,9 +143,9 @@ fn push_places(
     ensures queued { IfOk result (λ _. (q : ℕ) → queue_at queues.new.items q
         ≡ queue_at queues.old.items q ++ place_below q (workers_of now.now) generation now.now count) }
 {
-    for k in 0..now.workers() {
+    for k in 0..now.get().workers() {
         let queue = &mut queues[k as usize];
-        queue.push_place(alloc, generation, now, count)?;
+        queue.push_place(generation, now, count)?;
     }
     Ok(())
 }

@@ -1,5 +1,5 @@
 -- What a worker does with a part and with a piece.
-use Rattle.std.proofs.Common.{◌≡◌, ◌≢◌, ℕ, ◌+◌, ◌-◌, ◌<◌, cond, nat_eq, ⊎_elim, eqb-true, List, [], ◌∷◌, length, map}
+use Rattle.std.proofs.Common.{◌≡◌, ℕ, ◌+◌, ◌<◌, cond, nat_eq, ⊎_elim, eqb-true, List, [], ◌∷◌, length, map}
 use Rattle.std.proofs.Common.{sym, refl, ap, ◌∙◌, subst, arith}
 use Rattle.std.proofs.{lemmas.Bool.cond_both, lemmas.Bool.eqb-false, lemmas.List.length-map}
 use Rattle.mfotl_model.specs.{Numbers.NotIn, Strategies.Strategy, Strategies.workers_of}
@@ -9,7 +9,7 @@ use Rattle.rescale_worker.proofs.SliceLemmas.{active_at}
 use Rattle.rescale_worker.specs.{Lines.Due, Lines.ChangeOfStrategy, Workers.IsFor}
 use Rattle.rescale_worker.specs.Lines.Due.{Slicing, Parting, Hole}
 use Rattle.monitor_state.specs.Pieces.{AreCuts, PieceStands}
-use Rattle.rescale_worker.specs.States.{Adopted, CanAdopt, IsFull, MergesPieces, MergesMore, Splits}
+use Rattle.rescale_worker.specs.States.{Adopted, AllCame, CanAdopt, IsFull, MergesPieces, MergesMore, Splits}
 use Rattle.rescale_worker.specs.Phases.{FitsPhase, AnswersOne, IsPieceFor, Meets, Parts, PhaseOf, froms_of, phase_after}
 use Rattle.rescale_worker.specs.Phases.PhaseOf.{Active, Vacant, Waiting}
 use Rattle.rescale_worker.specs.Working.{CanTake, ResumesMerging, IsAt, Settles, TakesItem}
@@ -82,53 +82,46 @@ part_below w m s g old new active can = by can.0 can.1 can.2 can.3 can.4
 -- ---- a piece
 
 -- the merge has just the pieces of these workers
-record Carries (c : CoreForm) (k : ℕ) (t : ChangeOfStrategy) (froms : List ℕ) (merging : Merging)
-    (missing : ℕ) : Type 0 where
+record Carries (c : CoreForm) (k : ℕ) (t : ChangeOfStrategy) (froms : List ℕ) (merging : Merging) : Type 0 where
   merges : MergesPieces c t.old t.new k t.before froms merging
-  left : missing + length froms ≡ workers_of t.old
-  some : 0 < missing
+  few : length froms < workers_of t.old
   adopted : Adopted t.old froms
 
 carries : (c : CoreForm) (k : ℕ) (t : ChangeOfStrategy) (j : ℕ) (ph : PhaseOf) (phase : Phase) (count : ℕ)
-    (merging : Merging) (missing : ℕ) → FitsPhase c k ph (Hole t j) → IsAt c k ph phase → count ≡ workers_of t.old
-    → ResumesMerging phase c count merging missing → Carries c k t (froms_of ph) merging missing
-carries c k t j Vacant phase count merging missing f here counts on =
-    let new : ResumesMerging held.Vacant c count merging missing = rw here at on in
+    (merging : Merging) → FitsPhase c k ph (Hole t j) → IsAt c k ph phase → count ≡ workers_of t.old
+    → ResumesMerging phase c count merging → Carries c k t (froms_of ph) merging
+carries c k t j Vacant phase count merging f here counts on =
+    let new : ResumesMerging held.Vacant c count merging = rw here at on in
     let low = f.1 in
-    let all = new.1 in
     record {
       merges = record {
-        of = ap (λ (m : MergingOf). m.core) new.0;
-        count = ap (λ (m : MergingOf). m.count) new.0 ∙ counts;
-        adopted = ap (λ (m : MergingOf). m.adopted) new.0;
-        merged = ap (λ (m : MergingOf). m.merged) new.0;
+        of = ap (λ (m : MergingOf). m.core) new;
+        count = ap (λ (m : MergingOf). m.count) new ∙ counts;
+        adopted = ap (λ (m : MergingOf). m.adopted) new;
+        merged = ap (λ (m : MergingOf). m.merged) new;
       };
-      left = omega arith;
-      some = omega arith;
+      few = omega arith;
       adopted = record { distinct = tt; near = tt };
     }
-carries c k t j (Waiting u froms) phase count merging missing f here counts on =
+carries c k t j (Waiting u froms) phase count merging f here counts on =
     let same : u ≡ t = ⊎_elim (λ e. cc) (λ e. cc) f.2 in
     let a : IsAt c k (Waiting t froms) phase = subst (λ y. IsAt c k (Waiting y froms) phase) same here in
-    let own : ResumesMerging (held.Waiting a.0 t.new a.1) c count merging missing = rw a.2 at on in
-    let is = own.1 in
-    let l = a.4 in
-    let some = a.5 in
-    record { merges = rw own.0 a.3; left = omega arith; some = omega arith; adopted = a.6 }
-carries c k t j (Active s log) phase count merging missing f here counts on = absurd (⊎_elim (λ e. cc) (λ e. cc) f.2)
+    let own : ResumesMerging (held.Waiting a.0 t.new) c count merging = rw a.1 at on in
+    record { merges = rw own a.2; few = a.3; adopted = a.4 }
+carries c k t j (Active s log) phase count merging f here counts on = absurd (⊎_elim (λ e. cc) (λ e. cc) f.2)
 
 -- what is known of a piece that is due
-record DuePiece (w : Worker) (piece : Piece) (now : Strategy) (merging : Merging) (missing : ℕ) (t : ChangeOfStrategy)
+record DuePiece (w : Worker) (piece : Piece) (now : Strategy) (merging : Merging) (t : ChangeOfStrategy)
     (froms : List ℕ) : Type 0 where
-  carried : Carries (core_form w.core) w.number t froms merging missing
+  carried : Carries (core_form w.core) w.number t froms merging
   piece_for : IsPieceFor (core_form w.core) t w.number piece
   apart : NotIn piece.from froms
   now_is : now ≡ t.new
   old_for : IsFor (core_form w.core) t.old
   new_for : IsFor (core_form w.core) t.new
 
-module _ {w : Worker} {piece : Piece} {now : Strategy} {merging : Merging} {missing : ℕ} {t : ChangeOfStrategy}
-    {froms : List ℕ} (d : DuePiece w piece now merging missing t froms) where
+module _ {w : Worker} {piece : Piece} {now : Strategy} {merging : Merging} {t : ChangeOfStrategy} {froms : List ℕ}
+    (d : DuePiece w piece now merging t froms) where
   -- of which workers the pieces are then
   with_piece : Adopted t.old (piece.from ∷ froms)
   with_piece =
@@ -160,8 +153,8 @@ module _ {w : Worker} {piece : Piece} {now : Strategy} {merging : Merging} {miss
         more (core_form w.core) t.old t.new w.number t.before froms d.old_for d.new_for d.carried.merges
         d.piece_for.stands
 
-    is_full : missing ≡ 1 → IsFull merging2
-    is_full one = (
+    is_full : AllCame merging2 → IsFull merging2
+    is_full all = (
       core_form w.core,
       t.old,
       t.new,
@@ -172,48 +165,46 @@ module _ {w : Worker} {piece : Piece} {now : Strategy} {merging : Merging} {miss
       d.new_for,
       merges_piece,
       with_piece,
-      (let l = d.carried.left in omega arith),
+      sym merges_piece.adopted ∙ all ∙ merges_piece.count,
     )
 
-    next_phase : (phase : Phase) (j : ℕ) → Settles merging2 now missing phase → j ≡ length froms
+    next_phase : (phase : Phase) (j : ℕ) → Settles merging2 now phase → j ≡ length froms
         → IsAt (core_form w.core) w.number
         (cond (nat_eq (j + 1) (workers_of t.old)) (Active t.new t.before) (Waiting t (piece.from ∷ froms))) phase
     next_phase phase j settles here =
-        let some = d.carried.some in
-        let l = d.carried.left in
+        let few = d.carried.few in
+        let adopted = merges_piece.adopted in
+        let count = merges_piece.count in
         cond_both (nat_eq (j + 1) (workers_of t.old)) (Active t.new t.before) (Waiting t (piece.from ∷ froms))
         (λ ph. IsAt (core_form w.core) w.number ph phase)
         (λ e. let last = eqb-true (j + 1) (workers_of t.old) e in
         let s = settles.0 (omega arith) in (
           s.0,
-          rw (← d.now_is) s.1,
+          s.1 ∙ ap (λ z. held.Active s.0 z) d.now_is,
           s.2 (core_form w.core) t.old t.new w.number t.before (piece.from ∷ froms) d.old_for d.new_for merges_piece
               with_piece (omega arith),
         ))
-        (λ e. let other : missing ≢ 1 = (λ one. eqb-false (j + 1) (workers_of t.old) e (omega arith)) in (
+        (λ e. let other = eqb-false (j + 1) (workers_of t.old) e in (
           merging2,
-          missing - 1,
-          rw (← d.now_is) (settles.1 other),
+          settles.1 (λ all. other (omega (arith, all))) ∙ ap (λ z. held.Waiting merging2 z) d.now_is,
           merges_piece,
-          omega arith,
           omega (arith, other),
           with_piece,
         ))
 
-module _ (w : Worker) (piece : Piece) (now : Strategy) (merging : Merging) (missing : ℕ) {phase : Phase}
-    (was : phase ≡ w.phase) (on : ResumesMerging phase (core_form w.core) piece.count merging missing) where
+module _ (w : Worker) (piece : Piece) (now : Strategy) (merging : Merging) {phase : Phase} (was : phase ≡ w.phase)
+    (on : ResumesMerging phase (core_form w.core) piece.count merging) where
   due_piece : (ph : PhaseOf) (t : ChangeOfStrategy) (j : ℕ) → IsAt (core_form w.core) w.number ph w.phase
       → FitsPhase (core_form w.core) w.number ph (Hole t j)
       → Meets (core_form w.core) w.number ph (Hole t j) (Adopt piece now)
-      → DuePiece w piece now merging missing t (froms_of ph)
+      → DuePiece w piece now merging t (froms_of ph)
   due_piece ph t j here f meets =
       let p : Piece = meets.0 in
       let e : Adopt piece now ≡ Adopt p t.new = meets.1 in
       let same : p ≡ piece = cc in
       let is : IsPieceFor (core_form w.core) t w.number piece = rw (← same) meets.2 in
       record {
-        carried = carries (core_form w.core) w.number t j ph phase piece.count merging missing f (rw was here) is.count
-            on;
+        carried = carries (core_form w.core) w.number t j ph phase piece.count merging f (rw was here) is.count on;
         piece_for = is;
         apart = rw (← same) meets.3;
         now_is = cc;
@@ -222,12 +213,12 @@ module _ (w : Worker) (piece : Piece) (now : Strategy) (merging : Merging) (miss
       }
 
   due_of : CanTake w (Adopt piece now)
-      → (t : ChangeOfStrategy) × (froms : List ℕ) × DuePiece w piece now merging missing t froms
+      → (t : ChangeOfStrategy) × (froms : List ℕ) × DuePiece w piece now merging t froms
   due_of can = by can.0 can.1 can.2 can.3 can.4
     where
       by : (ph : PhaseOf) (d : Due) → IsAt (core_form w.core) w.number ph w.phase
           → FitsPhase (core_form w.core) w.number ph d → Meets (core_form w.core) w.number ph d (Adopt piece now)
-          → (t : ChangeOfStrategy) × (froms : List ℕ) × DuePiece w piece now merging missing t froms
+          → (t : ChangeOfStrategy) × (froms : List ℕ) × DuePiece w piece now merging t froms
       by ph (Slicing g s log q) here f meets = cc
       by ph (Parting t) here f meets = cc
       by ph (Hole t j) here f meets = (t, froms_of ph, due_piece ph t j here f meets)
@@ -236,11 +227,11 @@ module _ (w : Worker) (piece : Piece) (now : Strategy) (merging : Merging) (miss
   adopt_allowed can = can_adopt (due_of can).2
 
   pub full_allowed : (merging2 : Merging) → MergesMore merging piece merging2 → CanTake w (Adopt piece now)
-      → missing ≡ 1 → IsFull merging2
-  full_allowed merging2 more can one = is_full (due_of can).2 merging2 more one
+      → AllCame merging2 → IsFull merging2
+  full_allowed merging2 more can all = is_full (due_of can).2 merging2 more all
 
   pub takes_piece : (merging2 : Merging) → MergesMore merging piece merging2 → (x : Worker)
-      → core_form x.core ≡ core_form w.core → x.number ≡ w.number → Settles merging2 now missing x.phase
+      → core_form x.core ≡ core_form w.core → x.number ≡ w.number → Settles merging2 now x.phase
       → TakesItem w (Adopt piece now) x []
   takes_piece merging2 more x core number settles = record { core = core; number = number; in_phase = by }
     where

@@ -52,6 +52,10 @@ CanAdopt merging piece =
     × IsFor core s × IsFor core s2 × MergesPieces core s s2 k2 log froms merging
     × PieceStands core s piece.from s2 k2 log piece × Adopted s (piece.from ∷ froms) × (piece.count ≡ workers_of s)
 
+-- as many pieces were adopted as there are
+abbrev pub AllCame : Merging → Type 0
+AllCame merging = (merging_of merging).adopted ≡ (merging_of merging).count
+
 -- all pieces of a change were adopted
 abbrev pub IsFull : Merging → Type 0
 IsFull merging =

@@ -1,12 +1,12 @@
 -- What a worker's state stands for.
-use Rattle.std.specs.Prelude.{◌≡◌, ◌≢◌, ℕ, ◌+◌, ◌-◌, ◌<◌, cond, nat_lt, List, [], ◌∷◌, ◌++◌, length, take}
+use Rattle.std.specs.Prelude.{◌≡◌, ℕ, ◌<◌, cond, nat_lt, List, [], ◌∷◌, ◌++◌, length, take}
 use Rattle.mfotl_model.specs.Strategies.{Strategy, workers_of}
 use Rattle.monitorable.specs.CoreForms.{CoreForm}
 use Rattle.monitorable.specs.Cores.{core_form}
 use Rattle.monitor_state.specs.declared.monitor.Monitor.{Monitor}
 use Rattle.rescale_worker.specs.Workers.{IsFor}
 use Rattle.rescale_worker.specs.Monitors.{IsMonitor}
-use Rattle.rescale_worker.specs.States.{Adopted, FinishesMerging, MergesPieces, MergesNone}
+use Rattle.rescale_worker.specs.States.{Adopted, AllCame, FinishesMerging, MergesPieces, MergesNone}
 use Rattle.rescale_worker.specs.Lines.{Due, first_spot, line, AreSound}
 use Rattle.rescale_worker.specs.Phases.{PhaseOf, Answers, AllMeet, FitsPhase, AnswersOne, Meets, phase_at, phase_after}
 use Rattle.rescale_worker.specs.Phases.PhaseOf.{Active, Vacant, Waiting}
@@ -24,9 +24,8 @@ abbrev pub IsAt : CoreForm → ℕ → PhaseOf → Phase → Type 0
 IsAt core k (Active s log) phase = (m : Monitor) × (phase ≡ held.Active m s) × IsMonitor core s k log m
 IsAt core k Vacant phase = phase ≡ held.Vacant
 IsAt core k (Waiting t froms) phase =
-    (m : Merging) × (missing : ℕ) × (phase ≡ held.Waiting m t.new missing)
-    × MergesPieces core t.old t.new k t.before froms m
-    × (missing + length froms ≡ workers_of t.old) × (0 < missing) × Adopted t.old froms
+    (m : Merging) × (phase ≡ held.Waiting m t.new) × MergesPieces core t.old t.new k t.before froms m
+    × (length froms < workers_of t.old) × Adopted t.old froms
 
 -- what the worker began with
 abbrev pub seed_of : Worker → SeedOf
@@ -94,19 +93,19 @@ Gave w item x old new = (gave : List Out) × (new ≡ old ++ gave) × TakesItem 
 abbrev pub HasNoState : Phase → Type 0
 HasNoState (held.Active monitor strategy) = ⊥
 HasNoState held.Vacant = Unit {0}
-HasNoState (held.Waiting merging now missing) = Unit {0}
+HasNoState (held.Waiting merging now) = Unit {0}
 
 -- the merge is the worker's, or a new one, which misses all pieces
-abbrev pub ResumesMerging : Phase → CoreForm → ℕ → Merging → ℕ → Type 0
-ResumesMerging (held.Active monitor strategy) core count merging missing = ⊥
-ResumesMerging held.Vacant core count merging missing = MergesNone core count merging × (missing ≡ count)
-ResumesMerging (held.Waiting own now left) core count merging missing = (merging ≡ own) × (missing ≡ left)
+abbrev pub ResumesMerging : Phase → CoreForm → ℕ → Merging → Type 0
+ResumesMerging (held.Active monitor strategy) core count merging = ⊥
+ResumesMerging held.Vacant core count merging = MergesNone core count merging
+ResumesMerging (held.Waiting own now) core count merging = merging ≡ own
 
 -- the merge is finished with the last piece
-abbrev pub Settles : Merging → Strategy → ℕ → Phase → Type 0
-Settles merging now missing phase =
-    (missing ≡ 1 → (m : Monitor) × (phase ≡ held.Active m now) × FinishesMerging merging m)
-    × (missing ≢ 1 → phase ≡ held.Waiting merging now (missing - 1))
+abbrev pub Settles : Merging → Strategy → Phase → Type 0
+Settles merging now phase =
+    (AllCame merging → (m : Monitor) × (phase ≡ held.Active m now) × FinishesMerging merging m)
+    × ((AllCame merging → ⊥) → phase ≡ held.Waiting merging now)
 
 -- ---- laws
 

@@ -5,19 +5,21 @@ use monitor_state::Piece;
 use slice_strategy::Strategy;
 use std::alloc::{AllocError, Global};
 use std::marker::Model;
+use std::sync::Arc;
 
-/// A strategy in a box.
+/// A strategy in a box, which is shared by all that it is handed to.
 #[derive(Drop)]
 pub struct BoxedStrategy {
-    inner: Box<Strategy>,
+    inner: Arc<Strategy>,
 }
 
 impl Model for BoxedStrategy {
+    ghost use Rattle.std.specs.Arc.{arc_value};
     ghost use Rattle.mfotl_model.specs.Strategies.{Strategy as StrategyOf};
 
     ghost Value = { StrategyOf };
 
-    ghost view = { λ boxed. boxed.inner.value };
+    ghost view = { λ boxed. arc_value boxed.inner };
 }
 
 impl BoxedStrategy {
@@ -25,15 +27,23 @@ impl BoxedStrategy {
     pub fn copied(alloc: Global, strategy: &Strategy) -> Result<Self, AllocError>
         ensures same { IfOk result (λ boxed. boxed ≡ strategy.now) }
     {
-        let inner = Box::new(alloc, strategy.copy(alloc)?)?;
+        let inner = Arc::new(alloc, strategy.copy(alloc)?)?;
         Ok(BoxedStrategy { inner })
     }
 
-    /// The strategy, out of its box.
-    pub fn into_inner(self) -> Strategy
-        ensures same { result ≡ self }
+    /// The same strategy once more, which takes no memory.
+    pub fn shared(&self) -> Result<Self, AllocError>
+        ensures same { IfOk result (λ boxed. boxed ≡ self.now) }
     {
-        Box::into_inner(self.inner)
+        let inner = Arc::try_clone(&self.inner)?;
+        Ok(BoxedStrategy { inner })
+    }
+
+    /// The strategy, which stays in its box.
+    pub fn get(&self) -> &Strategy
+        ensures same { result.now ≡ self.now }
+    {
+        &self.inner
     }
 }
 

@@ -1,17 +1,16 @@
 //! What a worker does at a change of strategy: it splits its state among the workers of the next one, and merges the
 //! pieces that it gets.
-ghost use Rattle.std.specs.Prelude.{◌≡◌, ◌++◌, [], ◌<◌, IfOk, map};
+ghost use Rattle.std.specs.Prelude.{◌≡◌, ◌++◌, [], IfOk, map};
 ghost use Rattle.monitorable.specs.Cores.{core_form};
-ghost use Rattle.rescale_worker.specs.States.{IsFull};
+ghost use Rattle.rescale_worker.specs.States.{AllCame, IsFull};
 ghost use Rattle.rescale_worker.specs.Working.{CanTake, Gave, ResumesMerging, HasNoState, Settles, TakesItem};
 
-use crate::boxed::BoxedPiece;
+use crate::boxed::{BoxedPiece, BoxedStrategy};
 use crate::item::{Item, Out};
 use crate::phase::Phase;
 use crate::worker::Worker;
 use monitor_state::Piece;
 use monitorable::Core;
-use slice_strategy::Strategy;
 use state_merge::Merging;
 use state_split::split_state;
 use std::alloc::{AllocError, Global};
@@ -23,8 +22,8 @@ impl Worker {
         &mut self,
         alloc: Global,
         generation: u64,
-        old: Strategy,
-        new: Strategy,
+        old: BoxedStrategy,
+        new: BoxedStrategy,
         outs: &mut Vec<Out>,
     ) -> Result<(), AllocError>
         requires { CanTake self.old (Item.Part generation old new) }
@@ -34,7 +33,9 @@ impl Worker {
         let Phase::Active { monitor, strategy } = &self.phase else {
             unreachable!()
         };
-        let pieces = split_state(alloc, monitor, strategy, self.number, &new, generation)?;
+        let present = strategy.get();
+        let next = new.get();
+        let pieces = split_state(alloc, monitor, present, self.number, next, generation)?;
         give_pieces(alloc, pieces, outs)?;
         self.enter(Phase::Vacant);
         Ok(())
@@ -45,15 +46,15 @@ impl Worker {
         &mut self,
         alloc: Global,
         piece: Piece,
-        now: Strategy,
+        now: BoxedStrategy,
     ) -> Result<(), AllocError>
         requires { CanTake self.old (Item.Adopt piece now) }
         ensures { IfOk result (λ _. TakesItem self.old (Item.Adopt piece now) self.new []) }
     {
         let phase = mem::replace(&mut self.phase, Phase::Vacant);
-        let (mut merging, missing) = merging_for(alloc, &self.core, phase, piece.count)?;
+        let mut merging = merging_for(alloc, &self.core, phase, piece.count)?;
         merging.adopt(alloc, piece)?;
-        let next = settle(alloc, merging, now, missing)?;
+        let next = settle(alloc, merging, now)?;
         self.enter(next);
         Ok(())
     }
@@ -65,24 +66,19 @@ impl Worker {
     }
 }
 
-// The phase behind a piece, where so many were missing before it.
-fn settle(alloc: Global, merging: Merging, now: Strategy, missing: u32) -> Result<Phase, AllocError>
-    requires full { missing ≡ 1 → IsFull merging }
-    requires some { 0 < missing }
-    ensures { IfOk result (λ phase. Settles merging now missing phase) }
+// The phase behind a piece.
+fn settle(alloc: Global, merging: Merging, now: BoxedStrategy) -> Result<Phase, AllocError>
+    requires full { AllCame merging → IsFull merging }
+    ensures { IfOk result (λ phase. Settles merging now phase) }
 {
-    if missing == 1 {
+    if merging.is_complete() {
         let monitor = merging.finish(alloc)?;
         Ok(Phase::Active {
             monitor,
             strategy: now,
         })
     } else {
-        Ok(Phase::Waiting {
-            merging,
-            now,
-            missing: missing - 1,
-        })
+        Ok(Phase::Waiting { merging, now })
     }
 }
 
@@ -95,26 +91,17 @@ fn give_pieces(alloc: Global, pieces: Vec<Piece>, outs: &mut Vec<Out>) -> Result
     Ok(())
 }
 
-// The merge that goes on, or a new one, and how many pieces it misses.
-fn merging_for(
-    alloc: Global,
-    core: &Core,
-    phase: Phase,
-    count: u32,
-) -> Result<(Merging, u32), AllocError>
+// The merge that goes on, or a new one.
+fn merging_for(alloc: Global, core: &Core, phase: Phase, count: u32) -> Result<Merging, AllocError>
     requires { HasNoState phase }
-    ensures { IfOk result (λ parts. ResumesMerging phase (core_form core.now) count parts.0 parts.1) }
+    ensures { IfOk result (λ merging. ResumesMerging phase (core_form core.now) count merging) }
 {
     match phase {
         Phase::Vacant => {
             let merging = Merging::new(alloc, core, count)?;
-            Ok((merging, count))
+            Ok(merging)
         }
-        Phase::Waiting {
-            merging,
-            now: _,
-            missing,
-        } => Ok((merging, missing)),
+        Phase::Waiting { merging, now: _ } => Ok(merging),
         Phase::Active { .. } => unreachable!(),
     }
 }

@@ -4,6 +4,7 @@ ghost use Rattle.monitorable.specs.Cores.{core_form};
 ghost use Rattle.rescale_worker.specs.Workers.{IsFor};
 ghost use Rattle.rescale_worker.specs.Working.{CanTake, Gave, IsAt, StandsFor, first_phase, seed_of};
 
+use crate::boxed::BoxedStrategy;
 use crate::item::{Item, Out};
 use crate::phase::Phase;
 use crate::seed::Seed;
@@ -62,8 +63,8 @@ impl Worker {
                 generation,
                 old,
                 new,
-            } => self.part(alloc, generation, old.into_inner(), new.into_inner(), outs),
-            Item::Adopt { piece, now } => self.adopt(alloc, piece.into_inner(), now.into_inner()),
+            } => self.part(alloc, generation, old, new, outs),
+            Item::Adopt { piece, now } => self.adopt(alloc, piece.into_inner(), now),
         }
     }
 
@@ -86,7 +87,7 @@ impl Worker {
         let tables = monitor.step(alloc, &point)?;
         give_tables(
             monitor,
-            strategy,
+            strategy.get(),
             self.number,
             generation,
             first,
@@ -159,7 +160,7 @@ fn first_phase(
     if number >= strategy.workers() {
         return Ok(Phase::Vacant);
     }
-    let strategy = strategy.copy(alloc)?;
+    let strategy = BoxedStrategy::copied(alloc, strategy)?;
     let monitor = Monitor::new(alloc, core)?;
     Ok(Phase::Active { monitor, strategy })
 }

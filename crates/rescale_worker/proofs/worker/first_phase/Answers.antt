@@ -10,4 +10,5 @@ returns c =
     let else_ = c.if-number-workers.false in
     let low : c.args.number < workers_of c.args.strategy.now = omega arith in
     first_active (core_form c.args.core.now) c.args.strategy.now c.in_ok-strategy.strategy c.args.number
-    c.in_ok-monitor.monitor c.in_ok-monitor.ensures.core c.in_ok-monitor.ensures.begins c.in_ok-strategy.ensures low
+    c.in_ok-monitor.monitor c.in_ok-monitor.ensures.core c.in_ok-monitor.ensures.begins c.in_ok-strategy.ensures.same
+    low

@@ -33,10 +33,10 @@ collect-requires c =
 pub returns-in_ok-collect-in-Back-clause-did : goal.returns-in_ok-collect-in-Back-clause-did
 returns-in_ok-collect-in-Back-clause-did c =
     moves_back c.args.self.now _ c.args.worker c.in-Back.given c.in-Back.outs.items
-    (rw c.new.ensures.items at c.in-Back.ensures.did.1) c.in-Back.ensures.did.0.2 (λ z. (omega arith))
+    (rw c.new.ensures.items at c.in-Back.ensures.did.1) c.in-Back.ensures.did.0 (λ z. (omega arith))
     c.in_ok-collect-in-Back.ensures
 
 pub returns-else-given-ne0-clause-did : goal.returns-else-given-ne0-clause-did
 returns-else-given-ne0-clause-did c =
     moves_none_back c.args.self.now _ c.args.worker c.in-Back.given c.in-Back.outs.items
-    (rw c.new.ensures.items at c.in-Back.ensures.did.1) c.in-Back.ensures.did.0.2 (omega arith) refl
+    (rw c.new.ensures.items at c.in-Back.ensures.did.1) c.in-Back.ensures.did.0 (omega arith) refl

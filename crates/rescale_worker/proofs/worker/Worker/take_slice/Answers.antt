@@ -11,7 +11,7 @@ give_tables-requires c =
     let tables = c.in_ok-tables.tables in
     let has = slice_kept c.args.self.now c.in-Active.monitor c.step.new.self c.in-Active.strategy c.args.generation
     c.args.number c.args.point tables c.in-Active.is e.core e.first e.steps c.requires in
-    record { kept = rw c.given-first.ensures has.0; wide = rw c.given-first.ensures has.1 }
+    record { kept = rw c.given-first.ensures has.0; wide = rw (c.given-first.ensures, c.get.ensures.same) has.1 }
 
 pub returns : goal.returns
 returns c =
@@ -20,7 +20,7 @@ returns c =
     let tables = c.in_ok-tables.tables in
     let outs = c.in_ok-give_tables.ensures in (
       _,
-      outs.given,
+      rw c.get.ensures.same at outs.given,
       takes_slice c.args.self.now c.in-Active.monitor c.step.new.self c.in-Active.strategy c.args.generation
           c.args.number c.args.point tables c.in-Active.is e.core e.first e.steps _
           (all_settled state c.given-first.result tables) refl refl refl (rw c.given-first.ensures) outs.tables,
