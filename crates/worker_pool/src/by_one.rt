@@ -15,11 +15,9 @@ use log_reader::LogReader;
 use lone_worker::{Stop, Tally, follow_alone};
 use mon_outside::{Inputs, Sink};
 use std::alloc::Global;
-use std::sync::Wait;
 
 /// Monitors the open file as a log by the plan's one worker, and answers what was counted of its lines.
-pub(crate) fn follow_by_one<R: Wait, I: Inputs, O: Sink>(
-    rt: &R,
+pub(crate) fn follow_by_one<I: Inputs, O: Sink>(
     alloc: Global,
     plan: &Plan,
     buffer: &mut [u8],
@@ -42,5 +40,5 @@ pub(crate) fn follow_by_one<R: Wait, I: Inputs, O: Sink>(
     ensures follows { ForEachPolicy (core_form plan.now.core) (λ policy. FollowsLog log.old.sig log.old.limits policy
         (effect I.Inputs O.Sink inputs.old inputs.new out.old out.new) (run_end result)) }
 {
-    follow_alone(rt, alloc, &plan.core, buffer, log, inputs, out)
+    follow_alone(alloc, &plan.core, buffer, log, inputs, out)
 }

@@ -110,7 +110,7 @@ fn run_plan<R: Threads + Wait + Sync, I: Inputs, O: Sink, G: Gate + Sync>(
 {
     // No other worker's rows are to be merged, and nobody is to be waited for.
     if threads == 0 && plan.first.workers() == 1 && plan.changes.is_empty() {
-        let done = follow_by_one(rt, alloc, &plan, buffer, log, inputs, out);
+        let done = follow_by_one(alloc, &plan, buffer, log, inputs, out);
         // Whole: field by field it is dear to prove.
         drop(plan);
         return done;
