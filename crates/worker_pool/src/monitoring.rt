@@ -55,9 +55,7 @@ fn follow_together<R: Threads + Wait + Sync, I: Inputs, O: Sink, G: Gate + Sync>
         (O.written out.new) tally) }
 {
     let cells = plan.most_workers();
-    let Ok((mut prepared, groups, own)) = prepare(alloc, plan, cells, threads) else {
-        return Err(Stop::Memory);
-    };
+    let (mut prepared, groups, own) = prepare(alloc, plan, cells, threads)?;
     let context = LoopContext {
         rt,
         alloc,
