@@ -15,7 +15,6 @@ use lone_worker::{LineWriter, Stop};
 use mon_outside::{Gate, Sink};
 use rescale_core::{Driver, Turn};
 use std::alloc::{AllocError, Global};
-use std::sync::Wait;
 
 // Writes the line of the next verdict, if it is ready. Answers whether it was.
 fn write_next<O: Sink>(
@@ -41,9 +40,8 @@ fn write_next<O: Sink>(
     }
 }
 
-// Writes the line of each verdict that is ready.
-fn write_ready<R: Wait, O: Sink>(
-    rt: &R,
+// Writes the line of each verdict that is ready. It waits for nobody.
+fn write_ready<O: Sink>(
     alloc: Global,
     driver: &mut Driver,
     writer: &mut LineWriter,
@@ -57,12 +55,12 @@ fn write_ready<R: Wait, O: Sink>(
     ensures stop { IfErr result (λ stop. IsOutputStop (O.faults out.old) (O.faults out.new) stop) }
     ensures later { O.faults out.old ≤ O.faults out.new }
 {
-    for _ in rt.forever() {
+    for _ in 0..u64::MAX {
         if !write_next(alloc, driver, writer, out)? {
             return Ok(());
         }
     }
-    unreachable!()
+    Err(Stop::Memory)
 }
 
 // Collects from the worker what it gave, and hands over what is ready for it. Answers whether there was any of it.
@@ -111,7 +109,7 @@ fn turn_all<R, G>(context: &LoopContext<'_, R, G>, driver: &mut Driver) -> Resul
 }
 
 /// One round: each worker, main's own hands, and the lines that are ready. Answers whether there was something to do.
-pub(crate) fn round<R: Wait, O: Sink, G: Gate>(
+pub(crate) fn round<R, O: Sink, G: Gate>(
     context: &LoopContext<'_, R, G>,
     own: &mut Vec<WorkerHand>,
     driver: &mut Driver,
@@ -131,6 +129,6 @@ pub(crate) fn round<R: Wait, O: Sink, G: Gate>(
 {
     let turned = turn_all(context, driver)?;
     let served = serve_each(context.alloc, context.hub, own, context.gate);
-    write_ready(context.rt, context.alloc, driver, writer, out)?;
+    write_ready(context.alloc, driver, writer, out)?;
     Ok(turned || served)
 }

@@ -7,8 +7,6 @@ use Rattle.monitorable.specs.CoreForms.{CoreForm}
 use Rattle.log_reader.specs.Readers.{Reader, Reads, progress}
 use Rattle.log_reader.specs.Readings.{accepted}
 use Rattle.log_reader.specs.declared.limits.Limits.{Limits}
-use Rattle.rescale_core.specs.Moving.{IsDriverOf}
-use Rattle.rescale_core.specs.Worlds.{World}
 use Rattle.rescale_core.specs.declared.driver.Driver.{Driver}
 use Rattle.slice_strategy.specs.declared.change.Change.{Change}
 use Rattle.lone_worker.specs.Courses.{HasDone}
@@ -43,12 +41,11 @@ ForEachRun reader driver changes now tally P =
     (core : CoreForm) (plan : List Change) (bytes : List ℕ) (start : Option (List ℕ)) → Reads reader bytes
     → HasDone (Routes core plan start driver changes now tally) (progress reader bytes) → P core plan bytes start
 
--- The log was read to its end, and just before each of its time-points the changes of the plan that were due then.
-pub record ReadsPlan (sig : List PredOf) (limits : Limits) (plan : List Change) (before after : Option (List ℕ))
-    (driver : Driver) : Type 0 where
+-- The log was read to its end, and just before each of its time-points the changes of the plan that were due then; and
+-- the driver that read them wrote the lines of what it emitted.
+pub record ReadsPlan (core : CoreForm) (sig : List PredOf) (limits : Limits) (plan : List Change)
+    (before after old : Option (List ℕ)) (driver : Driver) (new : Option (List ℕ)) (tally : Tally) : Type 0 where
   pub bytes : List ℕ
   pub taken : Consumes before after bytes
   pub whole : IfSome before (λ all. all ≡ bytes)
-  pub world : World
-  pub stands : IsDriverOf driver world
-  pub read_is : world.read ≡ entries_by plan (accepted sig limits bytes).points
+  pub writes : Writes core (entries_by plan (accepted sig limits bytes).points) old driver new tally

@@ -67,6 +67,6 @@ abbrev pub ComesTo : Beginning → LoopState → Result Bool Stop → Type 0
 ComesTo b s (Ok false) = HasCome b s
 ComesTo b s (Ok true) =
     ForEachPolicy b.core (λ policy. FollowsLog b.sig b.limits policy (effect_since b s) (run_end (Ok s.tally)))
-    × ReadsPlan b.sig b.limits b.plan b.before.rest s.inputs.rest s.driver
+    × ReadsPlan b.core b.sig b.limits b.plan b.before.rest s.inputs.rest b.old.written s.driver s.out.written s.tally
 ComesTo b s (Err stop) =
     ForEachPolicy b.core (λ policy. FollowsLog b.sig b.limits policy (effect_since b s) (run_end (Err stop)))

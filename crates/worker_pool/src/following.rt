@@ -1,5 +1,5 @@
 //! The log in chunks: all lines of a chunk are written and handed on before the next chunk is read.
-ghost use Rattle.std.specs.Prelude.{◌≡◌, ◌<◌, ◌≤◌, IsTrue, OnOk, length, []};
+ghost use Rattle.std.specs.Prelude.{◌≡◌, ◌<◌, ◌≤◌, IfOk, IsTrue, length, []};
 ghost use Rattle.log_reader.specs.Progress.{nothing_fed};
 ghost use Rattle.log_reader.specs.Readers.{Reads, progress};
 ghost use Rattle.monitorable.specs.CoreForms.{CoreForm};
@@ -67,9 +67,10 @@ impl<R: Wait, G: Gate, I: Inputs, O: Sink> MainLoop<'_, '_, R, G, I, O> {
         ensures follows { (core : CoreForm) → HasReadNothing core self.old.driver.now → ForEachPolicy core (λ policy.
             FollowsLog self.old.log.now.sig self.old.log.now.limits policy (effect I.Inputs O.Sink
             self.old.inputs.now self.new.inputs.now self.old.out.now self.new.out.now) (run_end result)) }
-        ensures planned { OnOk result (ReadsPlan self.old.log.now.sig self.old.log.now.limits
-            self.old.schedule.now.changes.items (I.rest self.old.inputs.now) (I.rest self.new.inputs.now)
-            self.new.driver.now) }
+        ensures planned { (core : CoreForm) → HasReadNothing core self.old.driver.now → IfOk result (λ tally.
+            ReadsPlan core self.old.log.now.sig self.old.log.now.limits self.old.schedule.now.changes.items
+            (I.rest self.old.inputs.now) (I.rest self.new.inputs.now) (O.written self.old.out.now)
+            self.new.driver.now (O.written self.new.out.now) tally) }
     {
         'chunks: for _ in self.context.rt.forever() {
             let ended = self.take_chunk(own, writer);

@@ -48,7 +48,7 @@ impl<R: Wait, G: Gate, I: Inputs, O: Sink> MainLoop<'_, '_, R, G, I, O> {
             → ComesTo b (loop_state I.Inputs O.Sink self.new.driver.now self.new.schedule.now writer.new.tally
             self.new.log.now self.new.inputs.now self.new.out.now) result }
     {
-        match route_complete(
+        route_complete(
             self.context,
             own,
             &mut *self.driver,
@@ -56,22 +56,17 @@ impl<R: Wait, G: Gate, I: Inputs, O: Sink> MainLoop<'_, '_, R, G, I, O> {
             writer,
             &mut *self.log,
             &mut *self.out,
-        ) {
-            Ok(()) => {}
-            Err(stop) => return Err(stop),
-        }
+        )?;
         if self.log.is_finished() {
             return Ok(true);
         }
-        match read_on(
+        read_on(
             self.context.alloc,
             &mut *self.inputs,
             &mut *self.buffer,
             &mut *self.log,
             &mut *self.out,
-        ) {
-            Ok(()) => Ok(false),
-            Err(stop) => Err(stop),
-        }
+        )?;
+        Ok(false)
     }
 }

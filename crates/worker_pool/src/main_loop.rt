@@ -1,5 +1,5 @@
 //! Main's loop as what main does beside the threads.
-ghost use Rattle.std.specs.Prelude.{◌≡◌, ◌≤◌, ◌<◌, [], IsTrue, OnOk, length};
+ghost use Rattle.std.specs.Prelude.{◌≡◌, ◌≤◌, ◌<◌, [], IfOk, IsTrue, length};
 ghost use Rattle.log_reader.specs.Progress.{nothing_fed};
 ghost use Rattle.log_reader.specs.Readers.{Reads, progress};
 ghost use Rattle.monitorable.specs.CoreForms.{CoreForm};
@@ -27,7 +27,7 @@ use std::thread::Threads;
 
 impl<'o, 's, R: Wait, G: Gate, I: Inputs, O: Sink> MainTask<Worker>
     for MainLoop<'o, 's, R, G, I, O> {
-    ghost use Rattle.std.specs.Prelude.{◌≡◌, ◌≤◌, ◌<◌, [], IsTrue, OnOk, length};
+    ghost use Rattle.std.specs.Prelude.{◌≡◌, ◌≤◌, ◌<◌, [], IfOk, IsTrue, length};
     ghost use Rattle.log_reader.specs.Progress.{nothing_fed};
     ghost use Rattle.log_reader.specs.Readers.{Reads, progress};
     ghost use Rattle.monitorable.specs.CoreForms.{CoreForm};
@@ -63,8 +63,9 @@ impl<'o, 's, R: Wait, G: Gate, I: Inputs, O: Sink> MainTask<Worker>
         × (I.asked e.inputs.now ≡ I.asked d.inputs.now)
         × (I.faults d.inputs.now ≤ I.faults e.inputs.now)
         × (O.faults d.out.now ≤ O.faults e.out.now)
-        × OnOk r (ReadsPlan d.log.now.sig d.log.now.limits d.schedule.now.changes.items (I.rest d.inputs.now)
-        (I.rest e.inputs.now) e.driver.now)
+        × ((core : CoreForm) → HasReadNothing core d.driver.now → IfOk r (λ tally. ReadsPlan core
+        d.log.now.sig d.log.now.limits d.schedule.now.changes.items (I.rest d.inputs.now) (I.rest e.inputs.now)
+        (O.written d.out.now) e.driver.now (O.written e.out.now) tally))
         × ((core : CoreForm) → HasReadNothing core d.driver.now
         → ForEachPolicy core (λ policy. FollowsLog d.log.now.sig d.log.now.limits policy
         (effect I.Inputs O.Sink d.inputs.now e.inputs.now d.out.now e.out.now) (run_end r))) };
@@ -112,8 +113,9 @@ pub(crate) fn follow_beside<'o, 's, R: Threads + Wait + Sync, I: Inputs, O: Sink
     ensures follows { (core : CoreForm) → HasReadNothing core driver.old → ForEachPolicy core (λ policy.
         FollowsLog log.old.sig log.old.limits policy
         (effect I.Inputs O.Sink inputs.old inputs.new out.old out.new) (run_end result)) }
-    ensures planned { OnOk result (ReadsPlan log.old.sig log.old.limits schedule.old.changes.items
-        (I.rest inputs.old) (I.rest inputs.new) driver.new) }
+    ensures planned { (core : CoreForm) → HasReadNothing core driver.old → IfOk result (λ tally. ReadsPlan core
+        log.old.sig log.old.limits schedule.old.changes.items (I.rest inputs.old) (I.rest inputs.new)
+        (O.written out.old) driver.new (O.written out.new) tally) }
 {
     let mut main_loop = MainLoop {
         context,

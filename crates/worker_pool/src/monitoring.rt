@@ -1,5 +1,5 @@
 //! The whole run over a log.
-ghost use Rattle.std.specs.Prelude.{◌≡◌, ◌<◌, ◌≤◌, [], IsTrue, OnOk, length};
+ghost use Rattle.std.specs.Prelude.{◌≡◌, ◌<◌, ◌≤◌, [], IfOk, IsTrue, length};
 ghost use Rattle.log_reader.specs.Progress.{nothing_fed};
 ghost use Rattle.log_reader.specs.Readers.{Reads, progress};
 ghost use Rattle.monitorable.specs.Cores.{core_form};
@@ -50,13 +50,12 @@ fn follow_together<R: Threads + Wait + Sync, I: Inputs, O: Sink, G: Gate + Sync>
     ensures later_out { O.faults out.old ≤ O.faults out.new }
     ensures follows { ForEachPolicy (core_form plan.core) (λ policy. FollowsLog log.old.sig log.old.limits policy
         (effect I.Inputs O.Sink inputs.old inputs.new out.old out.new) (run_end result)) }
-    ensures planned { OnOk result ((driver : Driver) × ReadsPlan log.old.sig log.old.limits plan.changes.items
-        (I.rest inputs.old) (I.rest inputs.new) driver) }
+    ensures planned { IfOk result (λ tally. (driver : Driver) × ReadsPlan (core_form plan.core) log.old.sig
+        log.old.limits plan.changes.items (I.rest inputs.old) (I.rest inputs.new) (O.written out.old) driver
+        (O.written out.new) tally) }
 {
     let cells = plan.most_workers();
-    let Ok((mut prepared, groups, own)) = prepare(alloc, plan, cells, threads) else {
-        return Err(Stop::Memory);
-    };
+    let (mut prepared, groups, own) = prepare(alloc, plan, cells, threads)?;
     let context = LoopContext {
         rt,
         alloc,

@@ -1,5 +1,5 @@
 //! What is monitored.
-ghost use Rattle.std.specs.Prelude.{◌<◌, ◌≤◌, All};
+ghost use Rattle.std.specs.Prelude.{◌≡◌, ◌<◌, ◌≤◌, ◌⊎◌, All, Any};
 ghost use Rattle.mfotl_model.specs.Strategies.{workers_of};
 
 use main_steps::most_workers;
@@ -21,6 +21,8 @@ impl Plan {
         ensures some { 0 < result }
         ensures first { workers_of self.now.first ≤ result }
         ensures changes { All (λ c. workers_of c.strategy ≤ result) self.now.changes.items }
+        ensures attained { (workers_of self.now.first ≡ result)
+            ⊎ Any (λ c. workers_of c.strategy ≡ result) self.now.changes.items }
     {
         most_workers(&self.first, self.changes.as_slice())
     }

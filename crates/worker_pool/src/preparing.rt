@@ -1,8 +1,10 @@
 //! What main and the threads work with.
-ghost use Rattle.std.specs.Prelude.{◌≡◌, ◌<◌, ◌≤◌, All, IfOk, length};
+ghost use Rattle.std.specs.Prelude.{◌≡◌, ◌<◌, ◌≤◌, ◌⊎◌, All, Any, IfOk, length};
 ghost use Rattle.std.specs.List.{range_with_len};
 ghost use Rattle.mfotl_model.specs.Strategies.{workers_of};
 ghost use Rattle.monitorable.specs.Cores.{core_form};
+ghost use Rattle.rescale_core.specs.Moving.{IsDriverOf};
+ghost use Rattle.rescale_core.specs.Worlds.{first_world};
 ghost use Rattle.rescale_worker.specs.Workers.{IsFor};
 ghost use Rattle.turn_hub.specs.Ends.{IsMainOf, cell_count};
 ghost use Rattle.hub_threads.specs.Bells.{bell_count};
@@ -39,7 +41,10 @@ pub(crate) fn prepare(
     requires some { 0 < cells }
     requires first { workers_of plan.first ≤ cells }
     requires wide { All (λ c. workers_of c.strategy ≤ cells) plan.changes.items }
-    ensures count { IfOk result (λ r. cells ≤ cell_count r.0.hub) }
+    requires attained { (workers_of plan.first ≡ cells)
+        ⊎ Any (λ c. workers_of c.strategy ≡ cells) plan.changes.items }
+    ensures count { IfOk result (λ r. cell_count r.0.hub ≡ cells) }
+    ensures first { IfOk result (λ r. IsDriverOf r.0.driver (first_world (core_form plan.core) plan.first)) }
     ensures begins { IfOk result (λ r. HasReadNothing (core_form plan.core) r.0.driver) }
     ensures suits { IfOk result (λ r. Suits r.0.driver r.0.schedule) }
     ensures seated { IfOk result (λ r. HaveCells cells r.0.schedule) }

@@ -8,6 +8,4 @@ invariant-loop g l = record {
       l.writer.tally;
   main : l.driver.main ≡ l.fn.driver.main;
   later : g.O.Sink.faults l.fn.out ≤ g.O.Sink.faults l.out;
-  can : (goal.iterator-loop g).can_next l.iterator';
-  finite : (goal.iterator-loop g).is_finite l.iterator';
 }

@@ -43,10 +43,9 @@ returns-in-Some-end_of-clause-follows g c core begins =
     (c.take_chunk-ended.ensures.comes _ (c.chunks.invariant.comes core begins))).0
 
 pub returns-in-Some-end_of-clause-planned : goal.returns-in-Some-end_of-clause-planned
-returns-in-Some-end_of-clause-planned g c =
-    let begins = c.requires.begins in
+returns-in-Some-end_of-clause-planned g c core begins =
     (came_to_end _ _ c.take_chunk-ended.result c.in-Some-end_of.end c.in-Some-end_of.ensures
-    (c.take_chunk-ended.ensures.comes _ (c.chunks.invariant.comes begins.0 begins.1))).1
+    (c.take_chunk-ended.ensures.comes _ (c.chunks.invariant.comes core begins))).1
 
 pub chunks-preserved : goal.chunks-preserved
 chunks-preserved g c =
