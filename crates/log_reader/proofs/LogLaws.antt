@@ -10,7 +10,7 @@ use Rattle.mfotl_model.specs.declared.event.TimePoint.{TimePoint}
 use Rattle.mfotl_sig.specs.Preds.{PredOf}
 use Rattle.log_reader.specs.declared.{fault.LogFault.LogFault, limits.Limits.Limits}
 use Rattle.log_reader.specs.Grammar.{PointText, Spells, symbols_of}
-use Rattle.log_reader.specs.{Laws.answer_by, Laws.whole_answer, Partials.Partial, Partials.nothing_read}
+use Rattle.log_reader.specs.{Laws.points_or_fault, Laws.whole_answer, Partials.Partial, Partials.nothing_read}
 use Rattle.log_reader.specs.{Rules.log_value, Rules.IsValue, Steps.step}
 use Rattle.log_reader.specs.LogTexts.{is_long, log_text, tail_behind, tokens_of}
 use Rattle.log_reader.specs.Readings.{Reading, Ending, NoFault, run as run_points, reading, accepted}
@@ -119,7 +119,7 @@ module _ (sig : List PredOf) (limits : Limits) (bytes : List ℕ) where
 
 -- ---- answers
 
-answered : (points : List TimePoint) (ending : Ending) (found : List TimePoint) → answer_by points ending ≡ Ok found
+answered : (points : List TimePoint) (ending : Ending) (found : List TimePoint) → points_or_fault points ending ≡ Ok found
     → record { points = points; ending = ending } ≡ whole found
 answered points ending found e = grind arith
 

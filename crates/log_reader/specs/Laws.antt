@@ -4,7 +4,6 @@ use Rattle.mfotl_lex.specs.FirstFault.{ReadIsValue, ValueIsRead, OneAnswer as On
 use Rattle.mfotl_model.specs.declared.event.TimePoint.{TimePoint}
 use Rattle.mfotl_sig.specs.Preds.{PredOf}
 use Rattle.log_reader.specs.declared.fault.LogFault.{LogFault}
-use Rattle.log_reader.specs.declared.fault.LogFault.TheVariants.{Syntax}
 use Rattle.log_reader.specs.declared.limits.Limits.{Limits}
 use Rattle.log_reader.specs.Causes.{IsCause, IsLast}
 use Rattle.log_reader.specs.CompletedPoints.{CompletesAll}
@@ -14,13 +13,13 @@ use Rattle.log_reader.specs.Readings.{Ending, NoFault, Fault, accepted, reading}
 use Rattle.log_reader.specs.Rules.{IsValue}
 
 -- all time-points, where there is no fault
-abbrev pub answer_by : List TimePoint → Ending → Result (List TimePoint) LogFault
-answer_by points NoFault = Ok points
-answer_by points (Fault fault) = Err fault
+abbrev pub points_or_fault : List TimePoint → Ending → Result (List TimePoint) LogFault
+points_or_fault points NoFault = Ok points
+points_or_fault points (Fault fault) = Err fault
 
 -- the time-points of bytes that are all there are, or their first fault
 abbrev pub whole_answer : List PredOf → Limits → List ℕ → Result (List TimePoint) LogFault
-whole_answer sig limits bytes = answer_by (accepted sig limits bytes).points (accepted sig limits bytes).ending
+whole_answer sig limits bytes = points_or_fault (accepted sig limits bytes).points (accepted sig limits bytes).ending
 
 -- what is read to its end is spelled, and keeps the rules
 abbrev pub ReadIsSpelled : Type 0
@@ -47,11 +46,6 @@ IsShown sig limits bytes ended fault =
 abbrev pub ExactFaults : Type 0
 ExactFaults = (sig : List PredOf) (limits : Limits) (bytes : List ℕ) (ended : Bool) (fault : LogFault)
     → IsFirstFault sig limits bytes ended fault ↔ IsShown sig limits bytes ended fault
-
--- Syntax is shown by the first token that ends viability, or by the input's end, and only there
-abbrev pub ExactSyntax : Type 0
-ExactSyntax = (sig : List PredOf) (limits : Limits) (bytes : List ℕ) (ended : Bool) (at : ℕ)
-    → IsFirstFault sig limits bytes ended (Syntax at) ↔ IsShown sig limits bytes ended (Syntax at)
 
 -- the time-points before the first fault are those that the longest front of the tokens stands for that spells
 -- whole time-points and is completed

@@ -30,7 +30,7 @@ use Rattle.log_reader.specs.Tokens.{IsInFront}
 
 -- ---- numbers
 
--- so many digits fit a number of 64 bits
+-- a number and the byte behind it stand in so many bytes
 abbrev pub most_digits : ℕ
 most_digits = 18
 

@@ -1,7 +1,6 @@
 //! The faults of a log, with their printed texts.
 ghost use Rattle.std.specs.Prelude.{◌≡◌};
 ghost use Rattle.log_reader.specs.declared.fault.LogFault.TheVariants.{Memory};
-ghost use Rattle.log_reader.specs.FaultTexts.{name, offset};
 
 use mfotl_lex::LexFault;
 use std::alloc::{AllocError, AllocFailed};
@@ -38,40 +37,29 @@ pub enum LogFault {
 }
 
 impl LogFault {
-    // The name of a fault that is printed with its offset alone.
-    fn name(&self) -> &'static str
-        ensures { result.now ≡ name self.now }
-    {
-        match self {
-            LogFault::Syntax(_) => "Syntax",
-            LogFault::UnknownPredicate(_) => "UnknownPredicate",
-            LogFault::WrongArity(_) => "WrongArity",
-            LogFault::WrongSort(_) => "WrongSort",
-            LogFault::IntRange(_) => "IntRange",
-            LogFault::TimestampRange(_) => "TimestampRange",
-            LogFault::TooManyEvents(_) => "TooManyEvents",
-            LogFault::TooManyPoints(_) => "TooManyPoints",
-            LogFault::TooLong(_) => "TooLong",
-            _ => "",
-        }
-    }
+    ghost use Rattle.std.specs.Prelude.{◌++◌, IfSome, IsNone, codes};
+    ghost use Rattle.std.specs.Fmt.{decimal};
+    ghost use Rattle.log_reader.specs.FaultTexts.{IsApart, fault_text};
 
-    // Where it stands.
-    fn offset(&self) -> u64
-        ensures { result ≡ offset self.now }
+    // The name and the offset of a fault that is printed with these two alone.
+    fn parts(&self) -> Option<(&'static str, u64)>
+        ensures some { IfSome result (λ parts.
+            fault_text self.now ≡ parts.0.now ++ codes " at " ++ decimal parts.1) }
+        ensures none { IsNone result → IsApart self.now }
     {
-        match self {
-            LogFault::Syntax(at)
-            | LogFault::UnknownPredicate(at)
-            | LogFault::WrongArity(at)
-            | LogFault::WrongSort(at)
-            | LogFault::IntRange(at)
-            | LogFault::TimestampRange(at)
-            | LogFault::TooManyEvents(at)
-            | LogFault::TooManyPoints(at)
-            | LogFault::TooLong(at) => *at,
-            _ => 0,
-        }
+        let parts = match self {
+            LogFault::Syntax(at) => ("Syntax", *at),
+            LogFault::UnknownPredicate(at) => ("UnknownPredicate", *at),
+            LogFault::WrongArity(at) => ("WrongArity", *at),
+            LogFault::WrongSort(at) => ("WrongSort", *at),
+            LogFault::IntRange(at) => ("IntRange", *at),
+            LogFault::TimestampRange(at) => ("TimestampRange", *at),
+            LogFault::TooManyEvents(at) => ("TooManyEvents", *at),
+            LogFault::TooManyPoints(at) => ("TooManyPoints", *at),
+            LogFault::TooLong(at) => ("TooLong", *at),
+            LogFault::Lex(_) | LogFault::FallingTime { .. } | LogFault::Memory => return None,
+        };
+        Some(parts)
     }
 }
 
@@ -83,13 +71,15 @@ impl fmt::Display for LogFault {
     ghost output = { λ fault. Some (fault_text fault) };
 
     fn fmt<W: fmt::Write>(&self, f: &mut fmt::Formatter<W>) -> fmt::Result {
-        match self {
-            LogFault::Lex(fault) => write!(f, "Lex {fault}"),
-            LogFault::FallingTime { before, now, at } => {
-                write!(f, "FallingTime {before} {now} at {at}")
-            }
-            LogFault::Memory => f.write_str("Memory"),
-            _ => write!(f, "{} at {}", self.name(), self.offset()),
+        match self.parts() {
+            Some((name, at)) => write!(f, "{name} at {at}"),
+            None => match self {
+                LogFault::Lex(fault) => write!(f, "Lex {fault}"),
+                LogFault::FallingTime { before, now, at } => {
+                    write!(f, "FallingTime {before} {now} at {at}")
+                }
+                _ => f.write_str("Memory"),
+            },
         }
     }
 }

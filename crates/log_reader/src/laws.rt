@@ -2,7 +2,7 @@
 
 ghost use Rattle.log_reader.specs.DemoPoints.{DemoSignatureIsAccepted, DemoLogIsAccepted};
 ghost use Rattle.log_reader.specs.Growth.{ShownStays};
-ghost use Rattle.log_reader.specs.Laws.{ReadIsSpelled, SpelledIsRead, OneAnswer, ExactSyntax, ExactFaults};
+ghost use Rattle.log_reader.specs.Laws.{ReadIsSpelled, SpelledIsRead, OneAnswer, ExactFaults};
 ghost use Rattle.log_reader.specs.Laws.{PointsAreCompleted};
 ghost use Rattle.log_reader.specs.WorkedTexts.{WorkedValues, WorkedFaults, WorkedFronts, WorkedPrints, WorkedDemo};
 
@@ -28,12 +28,8 @@ pub fn points_are_completed()
     ensures { PointsAreCompleted }
 {}
 
-/// `Syntax` is shown exactly by the first token that ends viability, or by the input's end.
-pub fn exact_syntax()
-    ensures { ExactSyntax }
-{}
-
-/// Each fault comes exactly where a token, the bytes behind the tokens or their end are the first to show it.
+/// Each fault comes exactly where a token, the bytes behind the tokens or their end are the first to show it: `Syntax`
+/// by the first token that ends viability, or by the input's end.
 pub fn exact_faults()
     ensures { ExactFaults }
 {}

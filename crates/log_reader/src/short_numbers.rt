@@ -2,7 +2,7 @@
 ghost use Rattle.std.specs.Prelude.{◌≡◌, ◌≤◌, IfSome, length, take};
 ghost use Rattle.log_reader.specs.Quick.{ends_number, digits_before, most_digits, BeginsWithNumber, IsInteger};
 
-// So many digits fit a number of 64 bits.
+// A number and the byte behind it stand in so many bytes.
 const MOST_DIGITS: usize = 18;
 
 fn ends_number(b: u8) -> bool
@@ -11,7 +11,7 @@ fn ends_number(b: u8) -> bool
     matches!(b, b',' | b')' | b' ' | b'\n')
 }
 
-// The first bytes, as many as digits are read, or all.
+// The first bytes, as many as are looked at, or all.
 fn first_bytes(bytes: &[u8]) -> &[u8]
     ensures { result.now ≡ take most_digits bytes.now }
 {

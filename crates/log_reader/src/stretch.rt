@@ -75,7 +75,9 @@ impl Stretch {
         requires { count ≤ length self.old.bytes }
         ensures { self.new ≡ behind self.old count }
     {
-        remove_front(&mut self.bytes, count);
+        if count > 0 {
+            remove_front(&mut self.bytes, count);
+        }
         self.from += count;
     }
 
