@@ -117,7 +117,8 @@ impl Driver {
         ensures did { IfOk result (λ turn. TurnsTo self.old worker turn self.new) }
         ensures main { IfOk result (λ _. IsMainOf hub.now self.new.main) }
     {
-        match self.take_back(alloc, hub, worker)? {
+        let back = self.take_back(alloc, hub, worker)?;
+        match back {
             Err(turn) => Ok(turn),
             Ok(given) => {
                 let handed = self.hand_over(alloc, hub, worker)?;
