@@ -1,10 +1,11 @@
 -- Lists of hands of a hub.
-use Rattle.std.specs.Prelude.{ℕ, List, Vec, [], ◌∷◌, ◌++◌, All, slice_set}
+use Rattle.std.specs.Prelude.{◌≡◌, ℕ, List, Vec, [], ◌∷◌, ◌++◌, All, slice_index_or, slice_set}
 use Rattle.std.specs.Global.{Global}
+use Rattle.std.proofs.{Common.◌∙◌, Common.ap, Math.Seq.map-set_same}
 use Rattle.std.proofs.lemmas.List.Elements.{All-nil, All-cons, All-head, All-tail, All-append, All-set}
-use Rattle.turn_hub.specs.Ends.{IsHandOf}
+use Rattle.turn_hub.specs.Ends.{IsHandOf, hand_cell}
 use Rattle.turn_hub.specs.declared.{hub.Hand.Hand, hub.Hub.Hub}
-use Rattle.hub_threads.specs.Hands.{AreGroupsOf, AreHandsOf}
+use Rattle.hub_threads.specs.Hands.{AreGroupsOf, AreHandsOf, Serve}
 
 module _ {W I O S : Type 0} where
   -- no hands are a hub's
@@ -35,6 +36,17 @@ module _ {W I O S : Type 0} where
   pub all_hands : (hub : Hub W I O S) (xs : List (Hand W I O S)) → All (λ h. IsHandOf hub h) xs → AreHandsOf hub xs
   unfolding AreHandsOf
   all_hands hub xs a = a
+
+  -- a hand of a hub in the place of another one of its cell
+  pub set_hand : (hub : Hub W I O S) (cells : List ℕ) (hands : List (Hand W I O S)) (k : ℕ) (hand new : Hand W I O S)
+      → hand ≡ slice_index_or hands k hand → IsHandOf hub new → hand_cell new ≡ hand_cell hand → Serve hub cells hands
+      → Serve hub cells (slice_set hands k new)
+  unfolding AreHandsOf
+  set_hand hub cells hands k hand new at is same serve =
+      let cell : (Hand W I O S → ℕ) = (λ h. hand_cell h) in (
+        All-set (λ h. IsHandOf hub h) hands k new is serve.0,
+        map-set_same cell hands k new hand (same ∙ ap cell at) ∙ serve.1,
+      )
 
   -- no groups are a hub's
   pub no_groups : (hub : Hub W I O S) → AreGroupsOf hub []

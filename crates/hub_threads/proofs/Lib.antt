@@ -1,2 +1,3 @@
 pub mod HandLemmas
 pub mod DealLemmas
+pub mod ServeLemmas

@@ -1,8 +1,8 @@
 -- The hands that a thread or main serves.
-use Rattle.std.specs.Prelude.{◌≡◌, ◌-◌, ℕ, zero, suc, List, [], ◌∷◌, Vec, length, map, min, All}
+use Rattle.std.specs.Prelude.{◌≡◌, ◌+◌, ◌-◌, ℕ, zero, suc, Bool, List, [], ◌∷◌, Vec, length, map, min, nat_eq, All}
 use Rattle.std.specs.Global.{Global}
-use Rattle.std.specs.List.{range_with_len}
-use Rattle.turn_hub.specs.Ends.{IsHandOf, hand_cell}
+use Rattle.std.specs.List.{list_any, range_with_len}
+use Rattle.turn_hub.specs.{Ends.IsHandOf, Ends.hand_cell, Ends.hand_view, Words.hand_turn}
 use Rattle.turn_hub.specs.declared.hub.Hand.{Hand}
 use Rattle.turn_hub.specs.declared.hub.Hub.{Hub}
 
@@ -21,6 +21,22 @@ cells_of hands = map (λ h. hand_cell h) hands
 -- hands of this hub, of just these cells
 abbrev pub Serve : {W I O S : Type 0} → Hub W I O S → List ℕ → List (Hand W I O S) → Type 0
 Serve hub cells hands = AreHandsOf hub hands × (cells_of hands ≡ cells)
+
+-- how often each of the hands looked whose turn it is
+abbrev pub looks_of : {W I O S : Type 0} → List (Hand W I O S) → List ℕ
+looks_of hands = map (λ h. (hand_view h).looks) hands
+
+-- each of the hands looked so many times more
+abbrev pub LookedMore : {W I O S : Type 0} → ℕ → List (Hand W I O S) → List (Hand W I O S) → Type 0
+LookedMore count before now = looks_of now ≡ map (λ looks. looks + count) (looks_of before)
+
+-- each of the hands looked once more
+abbrev pub LookedOnce : {W I O S : Type 0} → List (Hand W I O S) → List (Hand W I O S) → Type 0
+LookedOnce before now = LookedMore 1 before now
+
+-- one of the hands found at its last look that it was its turn
+abbrev pub any_found_its_turn : {W I O S : Type 0} → List (Hand W I O S) → Bool
+any_found_its_turn hands = list_any (λ h. nat_eq (hand_view h).word hand_turn) hands
 
 -- the cells that each group's hands serve
 abbrev pub group_cells : {W I O S : Type 0} → List (Vec (Hand W I O S) Global) → List (List ℕ)

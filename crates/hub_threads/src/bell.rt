@@ -1,4 +1,6 @@
 //! What main or a thread sleeps on while there is nothing to do.
+ghost use Rattle.std.specs.Prelude.{◌≡◌, ◌+◌, min};
+
 use std::hint;
 use std::sync::Wait;
 use std::sync::atomic::Ordering::SeqCst;
@@ -23,7 +25,7 @@ pub struct Bell {
 
 impl Bell {
     /// It never rang, and nobody sleeps on it.
-    pub fn new() -> Self {
+    pub(crate) fn new() -> Self {
         Bell {
             rings: AtomicU64::new(0),
             sleeps: AtomicBool::new(false),
@@ -37,34 +39,39 @@ impl Bell {
     }
 
     /// Wakes who sleeps on it, and keeps awake who is about to.
-    pub fn ring(&self) {
+    pub(crate) fn ring(&self) {
         self.rings.fetch_add(1, SeqCst);
         if self.sleeps.load(SeqCst) {
             self.rings.wake_one();
         }
     }
 
-    /// Passes a little time after a round without work, the `idle`-th in a row: from some number on it sleeps until
-    /// it rings, unless it rang since `heard` was asked of `rings`.
-    pub fn rest<R: Wait>(&self, rt: &R, heard: u32, idle: u64) {
+    /// Passes a little time after a round without work, before which there were `idle` in a row, and answers how many
+    /// there are with it: from some number on it sleeps until it rings, unless it rang since `heard` was asked of
+    /// `rings`.
+    pub(crate) fn rest<R: Wait>(&self, rt: &R, heard: u32, idle: u64) -> u64
+        ensures { result ≡ min (idle + 1) u64.MAX }
+    {
+        let idle = idle.saturating_add(1);
         if idle < PATIENCE {
             hint::spin_loop();
-            return;
+            return idle;
         }
         self.sleeps.store(true, SeqCst);
         self.rings
             .park_timeout(rt, heard, Duration::from_millis(NAP_MILLISECONDS));
         self.sleeps.store(false, SeqCst);
+        idle
     }
 
     /// Tells the thread to stop.
-    pub fn stop(&self) {
+    pub(crate) fn stop(&self) {
         self.stopped.store(true, SeqCst);
         self.ring();
     }
 
     /// Whether the thread was told to stop.
-    pub fn is_stopped(&self) -> bool {
+    pub(crate) fn is_stopped(&self) -> bool {
         self.stopped.load(SeqCst)
     }
 }

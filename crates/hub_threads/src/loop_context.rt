@@ -1,5 +1,5 @@
 //! What main's loop is lent and does not change.
-ghost use Rattle.std.specs.Prelude.{◌≤◌};
+ghost use Rattle.std.specs.Prelude.{◌≡◌, ◌≤◌, ◌+◌, false, min, true};
 ghost use Rattle.turn_hub.specs.Ends.{cell_count};
 
 use crate::bells::Bells;
@@ -20,14 +20,15 @@ pub struct LoopContext<'o, R, W: Work, G> {
 }
 
 impl<R: Wait, W: Work, G> LoopContext<'_, R, W, G> {
-    /// Passes a little time behind a round without work, and answers how many of them came in a row. `heard` was asked
-    /// of main's bell before the round.
-    pub fn rest(&self, busy: bool, heard: u32, idle: u64) -> u64 {
+    /// Passes a little time behind a round without work, and answers how many of them came in a row: `idle` did before
+    /// this one. `heard` was asked of main's bell before the round.
+    pub fn rest(&self, busy: bool, heard: u32, idle: u64) -> u64
+        ensures busy { busy ≡ true → result ≡ 0 }
+        ensures idle { busy ≡ false → result ≡ min (idle + 1) u64.MAX }
+    {
         if busy {
             return 0;
         }
-        let idle = idle.saturating_add(1);
-        self.bells.main.rest(self.rt, heard, idle);
-        idle
+        self.bells.main.rest(self.rt, heard, idle)
     }
 }

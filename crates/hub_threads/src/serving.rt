@@ -1,6 +1,6 @@
 //! The threads, and the hands that they serve.
-ghost use Rattle.std.specs.Prelude.{◌≡◌, ◌<◌, ◌≤◌, ◌+◌, vec_capacity, vec_len};
-ghost use Rattle.hub_threads.specs.Hands.{AreHandsOf, Serve, cells_of};
+ghost use Rattle.std.specs.Prelude.{◌≡◌, ◌<◌, ◌≤◌, ◌+◌, ◌⊎◌, ℕ, false, min, true, vec_capacity, vec_len};
+ghost use Rattle.hub_threads.specs.Hands.{AreHandsOf, LookedMore, LookedOnce, Serve, any_found_its_turn, cells_of};
 
 use crate::bell::Bell;
 use mon_outside::Gate;
@@ -23,7 +23,7 @@ pub(crate) struct Serving<'s, R, W: Work, G> {
     pub(crate) gate: &'s G,
 }
 
-/// Serves each of the hands once, and says whether one of them had something to do.
+/// Serves each of the hands once, and says whether it was the turn of one of them.
 #[tactic(auto, unfolding(crate::specs::Hands::AreHandsOf))]
 pub fn serve_each<W: Work, G: Gate>(
     alloc: Global,
@@ -32,7 +32,9 @@ pub fn serve_each<W: Work, G: Gate>(
     gate: &G,
 ) -> bool
     requires { AreHandsOf hub.now hands.old.items }
-    ensures { Serve hub.now (cells_of hands.old.items) hands.new.items }
+    ensures serve { Serve hub.now (cells_of hands.old.items) hands.new.items }
+    ensures served { LookedOnce hands.old.items hands.new.items }
+    ensures busy { result ≡ any_found_its_turn hands.new.items }
 {
     let mut busy = false;
     for k in 0..hands.len() {
@@ -49,15 +51,16 @@ impl<R: Wait, W: Work, G: Gate> Serving<'_, R, W, G> {
     // without. Answers how many without work came in a row. `heard` was asked of the thread's bell before.
     fn serve_round(&self, hands: &mut Vec<Hand<W>>, heard: u32, idle: u64) -> u64
         requires { AreHandsOf self.now.hub.now hands.old.items }
-        ensures { Serve self.now.hub.now (cells_of hands.old.items) hands.new.items }
+        ensures serve { Serve self.now.hub.now (cells_of hands.old.items) hands.new.items }
+        ensures served { LookedOnce hands.old.items hands.new.items }
+        ensures busy { any_found_its_turn hands.new.items ≡ true → result ≡ 0 }
+        ensures idle { any_found_its_turn hands.new.items ≡ false → result ≡ min (idle + 1) u64.MAX }
     {
         if serve_each(self.alloc, self.hub, hands, self.gate) {
             self.main.ring();
             return 0;
         }
-        let idle = idle.saturating_add(1);
-        self.bell.rest(self.rt, heard, idle);
-        idle
+        self.bell.rest(self.rt, heard, idle)
     }
 }
 
@@ -67,7 +70,8 @@ fn serve_until<R: Wait, W: Work, G: Gate>(
     mut hands: Vec<Hand<W>>,
 ) -> Vec<Hand<W>>
     requires { AreHandsOf serving.hub.now hands.items }
-    ensures { Serve serving.entry.hub.now (cells_of hands.items) result.items }
+    ensures serve { Serve serving.entry.hub.now (cells_of hands.items) result.items }
+    ensures served { (count : ℕ) × LookedMore count hands.items result.items }
 {
     let mut idle = 0u64;
     for _ in serving.rt.forever() {
@@ -93,6 +97,8 @@ where
     requires hands { AreHandsOf serving.hub.now hands.items }
     requires room { vec_len threads.old < vec_capacity threads.old }
     ensures hands { AreHandsOf serving.entry.hub.now result.items }
+    ensures none_lost { (vec_len threads.new ≡ vec_len threads.old + 1)
+        ⊎ (cells_of result.items ≡ cells_of hands.items) }
     ensures room { (vec_len threads.new ≤ vec_len threads.old + 1)
         × (vec_capacity threads.new ≡ vec_capacity threads.old) }
 {

@@ -1,7 +1,7 @@
 //! Runs the threads beside main's task.
-ghost use Rattle.std.specs.Prelude.{◌≡◌, List, length};
+ghost use Rattle.std.specs.Prelude.{◌≡◌, ◌+◌, ◌⊎◌, List, ◌++◌, OnOk, length, vec_len};
 ghost use Rattle.hub_threads.specs.Bells.{bell_count};
-ghost use Rattle.hub_threads.specs.Hands.{AreGroupsOf, AreHandsOf};
+ghost use Rattle.hub_threads.specs.Hands.{AreGroupsOf, AreHandsOf, cells_of};
 ghost use Rattle.turn_hub.specs.declared.hub.Hand.{Hand};
 
 use crate::bell::Bell;
@@ -30,6 +30,8 @@ where
     requires hands { AreHandsOf context.now.hub.now hands.items }
     requires own { AreHandsOf context.now.hub.now own.old.items }
     ensures own { AreHandsOf context.now.hub.now own.new.items }
+    ensures none_lost { OnOk result ((vec_len threads.new ≡ vec_len threads.old + 1)
+        ⊎ (cells_of own.new.items ≡ cells_of own.old.items ++ cells_of hands.items)) }
 {
     threads.reserve(1)?;
     let serving = Serving {
@@ -61,8 +63,7 @@ where
     requires own { AreHandsOf context.now.hub.now own.old.items }
     ensures own { AreHandsOf context.now.hub.now own.new.items }
 {
-    let mut t = 0usize;
-    for hands in groups {
+    for (t, hands) in groups.into_iter().enumerate() {
         start_one(
             context,
             scope,
@@ -71,7 +72,6 @@ where
             own,
             threads,
         )?;
-        t += 1;
     }
     Ok(())
 }
