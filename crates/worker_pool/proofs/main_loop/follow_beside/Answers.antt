@@ -8,6 +8,9 @@ pub returns-clause-follows : goal.returns-clause-follows
 returns-clause-follows g c core begins policy is =
     let follows = c.beside.ensures.10 core begins policy is in search rules
 
+pub returns-clause-planned : goal.returns-clause-planned
+returns-clause-planned g c core begins = let planned = c.beside.ensures.9 core begins in search rules
+
 -- workers, and what they are handed and give, may cross over to a thread
 pub beside-requires-send-W : goal.beside-requires-send-W
 beside-requires-send-W g c κs within =
