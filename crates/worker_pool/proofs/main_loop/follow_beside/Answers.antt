@@ -14,7 +14,7 @@ returns-clause-planned g c core begins = let planned = c.beside.ensures.9 core b
 -- workers, and what they are handed and give, may cross over to a thread
 pub beside-requires-send-W : goal.beside-requires-send-W
 beside-requires-send-W g c κs within =
-    search (monitor_send, merging_send, core_send, strategy_send, base) depth 30
+    search (monitor_send, merging_send, core_send, strategy_send, base) depth 60
 
 pub beside-requires-send-W-Item : goal.beside-requires-send-W-Item
 beside-requires-send-W-Item g c κs within = search (state_send, strategy_send, point_send, base) depth 30
