@@ -63,10 +63,10 @@ fn tell_end<O: Sink>(alloc: Global, seed: u64, end: End, out: &mut O) -> Result<
             settled,
             violated,
             rows,
-        } => {
-            write_counts(alloc, seed, settled, violated, rows, out)?;
-            Ok(false)
-        }
+        } => match write_counts(alloc, seed, settled, violated, rows, out) {
+            Ok(()) => Ok(false),
+            Err(refusal) => Err(refusal),
+        },
         End::LogEnds(fault) => Err(Refusal::from(fault)),
         End::ReadFailed | End::SinkFailed => unreachable!(),
         End::Memory => Err(Refusal::Memory),
