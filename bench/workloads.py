@@ -1,4 +1,4 @@
-"""The policies and logs by which the monitor is measured: fifteen shapes that stress it in different places, and five
+"""The policies and logs by which the monitor is measured: fifteen shapes that stress it in different places, and six
 that are measured where they are asked for.
 
 `write(name, events, folder)` writes a signature, a policy and a log of about so many events. The same name and
@@ -230,6 +230,12 @@ def alarms_with_answers(draw, events):
                     else event("alarm", draw.randrange(1000))]
 
 
+def signals_of_few(draw, events):
+    kinds = ["ready"] * 8 + ["hold", "start"]
+    for _, now in zip(batches(events, 1), clock(draw, 3)):
+        yield now, [event(draw.choice(kinds), draw.randrange(20))]
+
+
 def bursts(draw, events):
     now = 0
     kinds = ["request"] * 10 + ["grant"] * 9 + ["drop"]
@@ -307,6 +313,8 @@ WORKLOADS = {
         "two thirds of the events are of predicates that the policy lacks", approvals_among_others, only_asked=True),
     "answers-ahead": Workload("alarm(int) answer(int,int)", "NOT (alarm(x) AND EVENTUALLY[0,500] answer(x,y))",
                               "a window ahead that few time-points ask, by key", alarms_with_answers, only_asked=True),
+    "ready-again": Workload("start(int) hold(int) ready(int)", "start(x) IMPLIES hold(x) UNTIL[1,500] ready(x)",
+                            "few values that come again and again in a window ahead", signals_of_few, only_asked=True),
 }
 
 MEASURED = [name for name, workload in WORKLOADS.items() if not workload.only_asked]
