@@ -1,4 +1,5 @@
 pub mod EntriesLemmas
+pub mod LevelLemmas
 pub mod RowsLemmas
 pub mod StartLemmas
 pub mod SetLemmas

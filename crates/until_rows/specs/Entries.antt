@@ -9,7 +9,11 @@ use Rattle.until_rows.specs.declared.entries.Entry.{Entry}
 abbrev pub meets : Interval → ℕ → ℕ → Entry → Bool
 meets interval i x e = nat_le e.start i && nat_le i e.place && in_interval interval (e.ts - x)
 
--- whether some entry does
+-- whether it stands at that position or behind it, and as late as the interval asks at least
+abbrev pub is_far : Interval → ℕ → ℕ → Entry → Bool
+is_far interval i x e = nat_le i e.place && nat_le interval.lo (e.ts - x)
+
+-- whether some entry meets UNTIL there
 abbrev pub met_by : Interval → ℕ → ℕ → List Entry → Bool
 met_by interval i x entries = list_any (meets interval i x) entries
 

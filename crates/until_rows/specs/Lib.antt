@@ -1,5 +1,6 @@
 pub mod Entries
 pub mod Rules
+pub mod Levels
 pub mod Starts
 pub mod HeldRows
 pub mod ByKey

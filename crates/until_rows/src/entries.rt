@@ -6,7 +6,8 @@ ghost use Rattle.until_rows.specs.Entries.{from_place, met_by};
 ghost use Rattle.until_rows.specs.Recalled.{entry_at};
 ghost use Rattle.until_rows.specs.Rules.{PlacesAscend, all_before};
 
-use crate::meeting::meets;
+use crate::level::{NEVER, level_of, next_level};
+use crate::meeting::{first_meets, some_meets};
 use crate::recalled::Mark;
 use mfotl_model::{Interval, Row};
 use short_queue::ShortQueue;
@@ -27,18 +28,20 @@ pub struct Entry {
 #[derive(Drop)]
 pub struct Entries {
     list: ShortQueue<Entry>,
+    // seen from this position on neither times nor starts fall, unless it is NEVER
+    level: u64,
 }
 
 impl Model for Entries {
     ghost use Rattle.std.specs.Prelude.{List};
-    ghost use Rattle.until_rows.specs.Rules.{PlacesAscend};
+    ghost use Rattle.until_rows.specs.Levels.{AreKept};
     ghost use Rattle.until_rows.specs.declared.entries.Entry.{Entry as OneEntry};
 
     ghost Value = { List OneEntry };
 
     ghost view = { λ e. e.list };
 
-    ghost invariant = { λ e. PlacesAscend e.list };
+    ghost invariant = { λ e. AreKept e.level e.list };
 }
 
 // a kept entry has the time of its position, which `times` has, too
@@ -61,6 +64,7 @@ impl Entries {
     {
         Entries {
             list: ShortQueue::new(),
+            level: 0,
         }
     }
 
@@ -69,8 +73,9 @@ impl Entries {
         requires { PlacesAscend list.items }
         ensures { IfOk result (λ entries. entries ≡ list.items) }
     {
+        let level = level_of(list.as_slice());
         let list = ShortQueue::from_vec(alloc, list)?;
-        Ok(Entries { list })
+        Ok(Entries { list, level })
     }
 
     /// The marks of the entries, where `times` are those of the positions from `pulled` on.
@@ -95,7 +100,10 @@ impl Entries {
     {
         let items = self.list.to_vec(alloc)?;
         let list = ShortQueue::from_vec(alloc, items)?;
-        Ok(Entries { list })
+        Ok(Entries {
+            list,
+            level: self.level,
+        })
     }
 
     /// How many entries there are.
@@ -124,7 +132,9 @@ impl Entries {
         requires { IsTrue (all_before entry.place self.old) }
         ensures { OnOk result (self.new ≡ self.old ++ entry ∷ []) }
     {
+        let level = next_level(self.level, self.list.back(), entry);
         self.list.push_back(alloc, entry)?;
+        self.level = level;
         Ok(())
     }
 
@@ -144,12 +154,11 @@ impl Entries {
     pub(crate) fn met(&self, interval: &Interval, i: u64, x: u64) -> bool
         ensures { result ≡ met_by interval.now i x self.now }
     {
-        for k in 0..self.list.len() {
-            if meets(interval, i, x, self.list.get(k)) {
-                return true;
-            }
+        if self.level <= i && self.level < NEVER {
+            first_meets(&self.list, interval, i, x)
+        } else {
+            some_meets(&self.list, interval, i, x)
         }
-        false
     }
 }
 

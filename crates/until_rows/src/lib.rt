@@ -5,6 +5,7 @@
 mod by_key;
 mod entries;
 mod entry_map;
+mod level;
 mod meeting;
 mod ordered;
 mod plain;

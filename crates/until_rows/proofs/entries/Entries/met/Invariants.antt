@@ -1,7 +1,0 @@
-use Rattle.std.proofs.Common.{◌≡◌, drop}
-use Rattle.until_rows.specs.Entries.{met_by}
-use Rattle.until_rows.proofs.entries.Entries.met.Given as goal
-
-abbrev pub invariant-loop-k : goal.invariant-loop-k
-invariant-loop-k l = met_by l.interval l.i l.x (drop l.k l.self-inside.list)
-    ≡ met_by l.interval l.i l.x l.fn.self
