@@ -7,3 +7,4 @@ pub mod ByKey
 pub mod RowsView
 pub mod InOrder
 pub mod Recalled
+pub mod Timed

@@ -1,10 +1,12 @@
 //! The entries of one row, by ascending positions.
 ghost use Rattle.std.specs.Prelude.{◌≡◌, ◌==◌, ◌∷◌, ◌++◌, ◌<◌, [], List, IfOk, IsTrue, OnOk, length, map};
-ghost use Rattle.std.specs.Prelude.{slice_index_or};
+ghost use Rattle.std.specs.Prelude.{slice_index_or, true};
+ghost use Rattle.std.specs.List.{list_all};
 ghost use Rattle.relations.specs.KeptRows.{list_for};
 ghost use Rattle.until_rows.specs.Entries.{from_place, met_by};
 ghost use Rattle.until_rows.specs.Recalled.{entry_at};
 ghost use Rattle.until_rows.specs.Rules.{PlacesAscend, all_before};
+ghost use Rattle.until_rows.specs.Timed.{is_timed};
 
 use crate::level::{NEVER, level_of, next_level};
 use crate::meeting::{first_meets, some_meets};
@@ -45,17 +47,14 @@ impl Model for Entries {
 }
 
 // a kept entry has the time of its position, which `times` has, too
-fn mark_of(entry: Entry, pulled: u64, times: &VecDeque<u64>) -> Result<Mark, AllocError>
-    ensures { IfOk result (λ mark. entry_at pulled times.now.items mark ≡ entry) }
+fn mark_of(entry: Entry, pulled: u64, times: &VecDeque<u64>) -> Mark
+    requires { is_timed pulled times.now.items entry ≡ true }
+    ensures { entry_at pulled times.now.items result ≡ entry }
 {
-    let index = entry.place.saturating_sub(pulled) as usize;
-    if index >= times.len() || times[index] != entry.ts {
-        return Err(AllocError);
-    }
-    Ok(Mark {
+    Mark {
         place: entry.place,
         start: entry.start,
-    })
+    }
 }
 
 impl Entries {
@@ -78,19 +77,21 @@ impl Entries {
         Ok(Entries { list, level })
     }
 
-    /// The marks of the entries, where `times` are those of the positions from `pulled` on.
+    /// The marks of the entries, where `times` are those of the positions from `pulled` on. No time is looked up: the
+    /// promise alone names them.
     pub(crate) fn marks(
         &self,
         alloc: Global,
         pulled: u64,
         times: &VecDeque<u64>,
     ) -> Result<Vec<Mark>, AllocError>
+        requires { list_all (is_timed pulled times.now.items) self.now ≡ true }
         ensures { IfOk result (λ marks.
             map (entry_at pulled times.now.items) marks.items ≡ self.now) }
     {
         let mut marks = Vec::with_capacity(alloc, self.list.len())?;
         for k in 0..self.list.len() {
-            marks.push(mark_of(self.list.get(k), pulled, times)?)?;
+            marks.push(mark_of(self.list.get(k), pulled, times))?;
         }
         Ok(marks)
     }

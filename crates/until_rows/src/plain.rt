@@ -1,12 +1,13 @@
 //! The rows of plain data, out of maps and back.
-ghost use Rattle.std.specs.Prelude.{◌≡◌, List, None, Some, IfOk, OnOk, cond, length, map};
+ghost use Rattle.std.specs.Prelude.{◌≡◌, List, None, Some, IfOk, OnOk, cond, map, true};
 ghost use Rattle.std.specs.BTreeMap.{is_at};
-ghost use Rattle.std.specs.List.{AllByRecursion};
+ghost use Rattle.std.specs.List.{AllByRecursion, list_all};
 ghost use Rattle.mfotl_model.specs.Values.{row_cmp};
 ghost use Rattle.mfotl_model.specs.declared.value.Value.{Value};
 ghost use Rattle.relations.specs.KeptRows.{RowsAscend, kept_for, last_for};
 ghost use Rattle.until_rows.specs.Recalled.{entries_kept, entry_at, starts_kept};
 ghost use Rattle.until_rows.specs.Rules.{PlacesAscend};
+ghost use Rattle.until_rows.specs.Timed.{has_time, is_timed};
 
 use crate::entries::{Entries, Entry};
 use crate::recalled::{KeptMarks, KeptStart, Mark};
@@ -27,19 +28,17 @@ pub fn starts_map(alloc: Global, starts: Vec<KeptStart>) -> Result<BTreeMap<Row,
     Ok(map)
 }
 
-fn entry_of(mark: Mark, pulled: u64, times: &[u64]) -> Result<Entry, AllocError>
-    ensures { IfOk result (λ entry. entry ≡ entry_at pulled times.now mark) }
+fn entry_of(mark: Mark, pulled: u64, times: &[u64]) -> Entry
+    requires { has_time pulled times.now (entry_at pulled times.now mark) ≡ true }
+    ensures { result ≡ entry_at pulled times.now mark }
 {
     let Mark { place, start } = mark;
     let index = place.saturating_sub(pulled) as usize;
-    if index >= times.len() {
-        return Err(AllocError);
-    }
-    Ok(Entry {
+    Entry {
         place,
         start,
         ts: times[index],
-    })
+    }
 }
 
 fn entries_of(
@@ -48,11 +47,12 @@ fn entries_of(
     pulled: u64,
     times: &[u64],
 ) -> Result<Vec<Entry>, AllocError>
+    requires { list_all (has_time pulled times.now) (map (entry_at pulled times.now) marks.now) ≡ true }
     ensures { IfOk result (λ entries. entries.items ≡ map (entry_at pulled times.now) marks.now) }
 {
     let mut entries = Vec::with_capacity(alloc, marks.len())?;
     for mark in marks {
-        entries.push(entry_of(*mark, pulled, times)?)?;
+        entries.push(entry_of(*mark, pulled, times))?;
     }
     Ok(entries)
 }
@@ -63,7 +63,8 @@ fn entries_at(
     pulled: u64,
     times: &[u64],
 ) -> Result<Entries, AllocError>
-    requires { PlacesAscend (map (entry_at pulled times.now) marks.now) }
+    requires places { PlacesAscend (map (entry_at pulled times.now) marks.now) }
+    requires timed { list_all (has_time pulled times.now) (map (entry_at pulled times.now) marks.now) ≡ true }
     ensures { IfOk result (λ entries. entries ≡ map (entry_at pulled times.now) marks.now) }
 {
     let list = entries_of(alloc, marks, pulled, times)?;
@@ -79,7 +80,8 @@ fn put_marks(
     pulled: u64,
     times: &[u64],
 ) -> Result<(), AllocError>
-    requires { PlacesAscend (map (entry_at pulled times.now) kept.marks.items) }
+    requires places { PlacesAscend (map (entry_at pulled times.now) kept.marks.items) }
+    requires timed { list_all (has_time pulled times.now) (map (entry_at pulled times.now) kept.marks.items) ≡ true }
     ensures found { OnOk result ((u : List Value) → kept_for rows.new.entries u
         ≡ cond (is_at (row_cmp kept.row) u) (Some (map (entry_at pulled times.now) kept.marks.items))
         (kept_for rows.old.entries u)) }
@@ -90,15 +92,16 @@ fn put_marks(
     Ok(())
 }
 
-/// The entries of these rows, where `times` are those of the positions from `pulled` on. Errs, as for memory, where the
-/// position of a mark has no time there.
+/// The entries of these rows, where `times` are those of the positions from `pulled` on.
 pub fn rows_map(
     alloc: Global,
     rows: Vec<KeptMarks>,
     pulled: u64,
     times: &[u64],
 ) -> Result<BTreeMap<Row, Entries>, AllocError>
-    requires { AllByRecursion (λ r. PlacesAscend r.1) (entries_kept pulled times.now rows.items) }
+    requires places { AllByRecursion (λ r. PlacesAscend r.1) (entries_kept pulled times.now rows.items) }
+    requires timed { AllByRecursion (λ r. list_all (has_time pulled times.now) r.1 ≡ true)
+        (entries_kept pulled times.now rows.items) }
     ensures found { IfOk result (λ map. (u : List Value) →
         kept_for map.entries u ≡ last_for (entries_kept pulled times.now rows.items) u None) }
     ensures ascend { IfOk result (λ map. RowsAscend map.entries) }
@@ -110,22 +113,13 @@ pub fn rows_map(
     Ok(map)
 }
 
-/// The rows with their starts, in order. Errs, as for memory, where a row has another number of values than `width`,
-/// that of the left operand's columns.
-pub fn kept_starts(
-    alloc: Global,
-    starts: &BTreeMap<Row, u64>,
-    width: usize,
-) -> Result<Vec<KeptStart>, AllocError>
+/// The rows with their starts, in order.
+pub fn kept_starts(alloc: Global, starts: &BTreeMap<Row, u64>) -> Result<Vec<KeptStart>, AllocError>
     ensures starts { IfOk result (λ kept. starts_kept kept.items ≡ starts.now.entries) }
-    ensures wide { IfOk result (λ _. AllByRecursion (λ r. length r.0 ≡ width) starts.now.entries) }
     ensures ascend { IfOk result (λ _. RowsAscend starts.now.entries) }
 {
     let mut kept = Vec::with_capacity(alloc, starts.len())?;
     for (row, start) in starts {
-        if row.values().len() != width {
-            return Err(AllocError);
-        }
         kept.push(KeptStart {
             row: row.copy(alloc)?,
             start: *start,
@@ -142,6 +136,7 @@ fn marks_of(
     pulled: u64,
     times: &VecDeque<u64>,
 ) -> Result<KeptMarks, AllocError>
+    requires { list_all (is_timed pulled times.now.items) entries.now ≡ true }
     ensures row { IfOk result (λ kept. kept.row ≡ row.now) }
     ensures marks { IfOk result (λ kept.
         map (entry_at pulled times.now.items) kept.marks.items ≡ entries.now) }
@@ -151,14 +146,15 @@ fn marks_of(
     Ok(KeptMarks { row, marks })
 }
 
-/// The rows with their marks, in order, where `times` are those of the positions from `pulled` on. Errs, as for memory,
-/// where an entry has another time than its position has there.
+/// The rows with their marks, in order, where `times` are those of the positions from `pulled` on. No time is looked up:
+/// the promise alone names them.
 pub fn kept_marks(
     alloc: Global,
     rows: &BTreeMap<Row, Entries>,
     pulled: u64,
     times: &VecDeque<u64>,
 ) -> Result<Vec<KeptMarks>, AllocError>
+    requires timed { AllByRecursion (λ r. list_all (is_timed pulled times.now.items) r.1 ≡ true) rows.now.entries }
     ensures rows { IfOk result (λ kept.
         entries_kept pulled times.now.items kept.items ≡ rows.now.entries) }
     ensures ascend { IfOk result (λ _. RowsAscend rows.now.entries) }
