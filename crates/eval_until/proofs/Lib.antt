@@ -6,4 +6,6 @@ pub mod QueueLemmas
 pub mod KeepingLemmas
 pub mod FollowsLemmas
 pub mod TakingLemmas
+pub mod WideLemmas
+pub mod TimedLemmas
 pub mod ResumeLemmas

@@ -46,12 +46,17 @@ all_pass : {X : Type 0} (p : X → Bool) (xs : List X) → AllByRecursion (λ x.
 all_pass p [] each = refl
 all_pass p (x ∷ xs) each = and_from (p x) (list_all p xs) each.0 (all_pass p xs each.1)
 
+-- what each entry that is kept for a row passes, by look-ups, the entries of each pair pass
+pub each_passes : (p : Entry → Bool) (rows : List (List Value × List Entry)) → RowsAscend rows
+    → ((u : List Value) → list_all p (list_for rows u) ≡ true) → AllByRecursion (λ r. list_all p r.1 ≡ true) rows
+each_passes p rows up all = each_kept (λ u es. list_all p es ≡ true) rows up
+    (λ u es is. sym (ap (λ o. list_all p (unwrap_or o [])) is) ∙ all u)
+
 -- what each row's entries pass, by look-ups
 rows_all : (p : Entry → Bool) (rows : List (List Value × List Entry)) → RowsAscend rows
     → ((u : List Value) → list_all p (list_for rows u) ≡ true) → list_all (λ r. list_all p r.1) rows ≡ true
 rows_all p rows up all =
-    all_pass (λ (r : List Value × List Entry). list_all p r.1) rows (each_kept (λ u es. list_all p es ≡ true) rows up
-    (λ u es is. sym (ap (λ o. list_all p (unwrap_or o [])) is) ∙ all u))
+    all_pass (λ (r : List Value × List Entry). list_all p r.1) rows (each_passes p rows up all)
 
 starts_all : (p : ℕ → Bool) (starts : List (List Value × ℕ)) → RowsAscend starts
     → ((w : List Value) → IfSome (kept_for starts w) (λ s. p s ≡ true)) → list_all (λ r. p r.1) starts ≡ true

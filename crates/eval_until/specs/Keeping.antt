@@ -1,5 +1,5 @@
 -- What holds of all that UNTIL keeps: starts of runs, entries of rows, and the queue that finds them.
-use Rattle.std.specs.Prelude.{◌≡◌, ℕ, ◌+◌, Bool, true, false, ◌&&◌, ◌⊎◌, nat_eq, nat_le, nat_lt, Option, List, []}
+use Rattle.std.specs.Prelude.{◌≡◌, ℕ, ◌+◌, Bool, true, false, ◌&&◌, ◌⊎◌, nat_eq, nat_le, nat_lt, Option, None, List, []}
 use Rattle.std.specs.Prelude.{◌∷◌, ◌++◌, length}
 use Rattle.std.specs.List.{list_any, list_all}
 use Rattle.std.specs.Option.{IfSome}
@@ -17,6 +17,10 @@ use Rattle.until_rows.specs.Starts.{later_start}
 -- each row that entries are kept for has n values
 abbrev pub Sized : ℕ → List (List Value × List Entry) → Type 0
 Sized n rows = (u : List Value) → nat_eq (length u) n ≡ false → list_for rows u ≡ []
+
+-- each row that a start is kept for has n values
+abbrev pub SizedStarts : ℕ → List (List Value × ℕ) → Type 0
+SizedStarts n starts = (w : List Value) → nat_eq (length w) n ≡ false → kept_for starts w ≡ None
 
 -- each entry stands before p, and its run doesn't begin behind it
 abbrev pub Below : ℕ → List (List Value × List Entry) → Type 0

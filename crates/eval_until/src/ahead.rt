@@ -13,8 +13,8 @@ ghost use Rattle.relations.specs.Pushed.{turned};
 ghost use Rattle.eval_until.specs.AheadView.{AheadOf, met, run_start};
 ghost use Rattle.until_rows.specs.ByKey.{Listed};
 ghost use Rattle.until_rows.specs.InOrder.{in_order};
-ghost use Rattle.eval_until.specs.Keeping.{Keeps, Sized};
-ghost use Rattle.eval_until.specs.Rules.{Ascending, StartsAbove, StartsBelow, Waiting};
+ghost use Rattle.eval_until.specs.Keeping.{Keeps, Sized, SizedStarts};
+ghost use Rattle.eval_until.specs.Rules.{Ascending, EachPasses, StartsAbove, StartsBelow, Timed, Waiting};
 ghost use Rattle.until_rows.specs.Rules.{NoneEmpty};
 
 use crate::contents::{Contents, take_position};
@@ -39,10 +39,11 @@ pub struct Ahead {
 }
 
 impl Model for Ahead {
+    ghost use Rattle.std.specs.Prelude.{length};
     ghost use Rattle.eval_until.specs.AheadView.{AheadOf};
     ghost use Rattle.until_rows.specs.ByKey.{Listed};
     ghost use Rattle.until_rows.specs.InOrder.{in_order};
-    ghost use Rattle.eval_until.specs.Keeping.{Keeps};
+    ghost use Rattle.eval_until.specs.Keeping.{Keeps, SizedStarts};
 
     ghost Value = { AheadOf };
 
@@ -60,6 +61,7 @@ impl Model for Ahead {
     ghost invariant = { λ k. record {
       keeps : Keeps k.negated k.right.items k.pulled k.taken k.contents.starts k.contents.rows.entries
           k.contents.queue.items;
+      wide : SizedStarts (length k.left.items) k.contents.starts;
       listed : Listed k.right.items k.contents.rows.keyed k.contents.rows.entries;
     } };
 }
@@ -107,7 +109,9 @@ impl Ahead {
         starts: Vec<KeptStart>,
         rows: Vec<KeptMarks>,
     ) -> Result<(), AllocError>
+        requires high { taken ≤ pulled + length times.now }
         requires starts { RowsAscend (starts_kept starts.items) }
+        requires wide { AllByRecursion (λ r. length r.0 ≡ length self.old.left) (starts_kept starts.items) }
         requires rows { RowsAscend (entries_kept pulled times.now rows.items) }
         requires sized { Sized (length self.old.right) (entries_kept pulled times.now rows.items) }
         requires some { AllByRecursion (λ r. 0 < length r.1) (entries_kept pulled times.now rows.items) }
@@ -135,6 +139,7 @@ impl Ahead {
     fn go_on(&mut self, contents: Contents, pulled: u64, taken: u64)
         requires kept { Keeps self.old.negated self.old.right pulled taken contents.starts contents.rows.entries
             contents.queue.items }
+        requires wide { SizedStarts (length self.old.left) contents.starts }
         requires listed { Listed self.old.right contents.rows.keyed contents.rows.entries }
         ensures { self.new ≡ record self.old {
           pulled = pulled;
@@ -157,8 +162,7 @@ impl Ahead {
         Ok(())
     }
 
-    /// The rows with their starts, in order. Errs, as for memory, where a row has another number of values than
-    /// the left operand has columns.
+    /// The rows with their starts, in order.
     pub fn kept_starts(&self, alloc: Global) -> Result<Vec<KeptStart>, AllocError>
         ensures starts { IfOk result (λ kept. starts_kept kept.items ≡ self.now.starts) }
         ensures wide { IfOk result (λ _.
@@ -166,17 +170,18 @@ impl Ahead {
         ensures ascend { IfOk result (λ _. RowsAscend self.now.starts) }
     {
         let starts = self.contents.starts.in_order(alloc)?;
-        let kept = kept_starts(alloc, &starts, self.left.as_slice().len())?;
+        let kept = kept_starts(alloc, &starts)?;
         Ok(kept)
     }
 
     /// The rows with their marks, in order, where `times` are those of the positions from the next one
-    /// to pull on. Errs, as for memory, where an entry has another time than its position has there.
+    /// to pull on.
     pub fn kept_marks(
         &self,
         alloc: Global,
         times: &VecDeque<u64>,
     ) -> Result<Vec<KeptMarks>, AllocError>
+        requires { Timed self.now.pulled times.now.items self.now.rows }
         ensures rows { IfOk result (λ kept.
             entries_kept self.now.pulled times.now.items kept.items ≡ self.now.rows) }
         ensures some { IfOk result (λ _. AllByRecursion (λ r. 0 < length r.1) self.now.rows) }
@@ -204,7 +209,8 @@ impl Ahead {
     ) -> Result<(), AllocError>
         requires low { self.old.pulled ≤ self.old.taken }
         requires few { self.old.taken < 2 ^ 63 }
-        requires columns { rights.columns ≡ self.old.right }
+        requires lefts { lefts.columns ≡ self.old.left }
+        requires rights { rights.columns ≡ self.old.right }
         ensures met { OnOk result ((i x : ℕ) (u : List Value) → met self.new i x u
             ≡ (met self.old i x u || (has_row rights.rows u
             && (nat_le (run_start self.old (part self.old.right self.old.left u)) i
@@ -212,6 +218,8 @@ impl Ahead {
         ensures start { OnOk result ((w : List Value) → run_start self.new w
             ≡ cond (turned self.old.negated (has_row lefts.rows w)) (run_start self.old w)
             (self.old.taken + 1)) }
+        ensures times { (test : ℕ → ℕ → Bool) → EachPasses test self.old.rows →
+            IsTrue (test self.old.taken ts) → EachPasses test self.new.rows }
         ensures taken { self.new.taken ≡ (if is_ok result then self.old.taken + 1 else self.old.taken) }
         ensures pulled { self.new.pulled ≡ self.old.pulled }
         ensures interval { self.new.interval ≡ self.old.interval }
@@ -250,6 +258,9 @@ impl Ahead {
             met self.new i x u ≡ met self.old i x u }
         ensures start { (i : ℕ) (w : List Value) → self.old.pulled + 1 ≤ i →
             nat_le (run_start self.new w) i ≡ nat_le (run_start self.old w) i }
+        ensures waiting { Waiting (self.old.pulled + 1) self.old.taken self.new.rows }
+        ensures times { (test : ℕ → ℕ → Bool) →
+            EachPasses test self.old.rows → EachPasses test self.new.rows }
         ensures pulled { self.new.pulled ≡ self.old.pulled + 1 }
         ensures taken { self.new.taken ≡ self.old.taken }
         ensures interval { self.new.interval ≡ self.old.interval }

@@ -9,7 +9,7 @@ ghost use Rattle.relations.specs.KeptRows.{kept_for, list_for};
 ghost use Rattle.relations.specs.Tables.{IsTable};
 ghost use Rattle.until_rows.specs.ByKey.{Listed};
 ghost use Rattle.until_rows.specs.InOrder.{in_order};
-ghost use Rattle.eval_until.specs.Keeping.{Keeps, Queues, Sized};
+ghost use Rattle.eval_until.specs.Keeping.{Keeps, Queues, Sized, SizedStarts};
 ghost use Rattle.eval_until.specs.Rules.{Ascending, StartsAbove, StartsBelow, Waiting};
 ghost use Rattle.until_rows.specs.Rules.{NoneEmpty, all_before};
 ghost use Rattle.until_rows.specs.Starts.{start_of, start_taken};
@@ -170,7 +170,9 @@ pub fn take_position(
     requires kept { Keeps negated right.now pulled place
         contents.old.starts contents.old.rows.entries contents.old.queue.items }
     requires listed { Listed right.now contents.old.rows.keyed contents.old.rows.entries }
-    requires columns { rights.columns ≡ right.now }
+    requires wide { SizedStarts (length left.now) contents.old.starts }
+    requires lefts { lefts.columns ≡ left.now }
+    requires rights { rights.columns ≡ right.now }
     requires low { pulled ≤ place }
     requires few { place < 2 ^ 63 }
     ensures rows { OnOk result ((u : List Value) → list_for contents.new.rows.entries u
@@ -185,6 +187,7 @@ pub fn take_position(
     ensures kept { OnOk result (
         Keeps negated right.now pulled (place + 1)
         contents.new.starts contents.new.rows.entries contents.new.queue.items) }
+    ensures wide { OnOk result (SizedStarts (length left.now) contents.new.starts) }
     ensures listed { OnOk result (Listed right.now contents.new.rows.keyed contents.new.rows.entries) }
 {
     take_rows(

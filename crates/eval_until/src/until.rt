@@ -34,6 +34,7 @@ impl Model for UntilState {
     ghost use Rattle.std.specs.Prelude.{◌≡◌, ◌≤◌, ◌+◌, ◌^◌, length, true};
     ghost use Rattle.mfotl_model.specs.Tables.{all_among};
     ghost use Rattle.relations.specs.Pushed.{AreOver};
+    ghost use Rattle.eval_until.specs.Rules.{Timed};
     ghost use Rattle.eval_until.specs.UntilView.{UntilOf};
 
     ghost Value = { UntilOf };
@@ -52,6 +53,7 @@ impl Model for UntilState {
       inside : all_among s.ahead.left s.ahead.right ≡ true;
       left : AreOver s.ahead.left s.lefts.items;
       right : AreOver s.ahead.right s.rights.items;
+      timed : Timed s.ahead.pulled s.times.items s.ahead.rows;
     } };
 }
 
@@ -291,8 +293,7 @@ impl UntilState {
         &self.times
     }
 
-    /// What the state keeps, as plain data. Errs, as for memory, where an entry has another time than its
-    /// position, or the row of a start another number of values than the left operand has columns.
+    /// What the state keeps, as plain data.
     pub fn state(&self, alloc: Global) -> Result<UntilData, AllocError>
         ensures same { IfOk result (λ kept.
             until_of (setting_of self.now) self.now.times kept ≡ self.now) }

@@ -1,15 +1,23 @@
-use Rattle.std.proofs.Common.{◌≡◌, length, sym, subst, ◌∙◌}
+use Rattle.std.proofs.Common.{◌≡◌, length, sym, subst, ap, ◌∙◌}
+use Rattle.relations.specs.KeptRows.{kept_for, list_for}
 use Rattle.eval_until.specs.Keeping.{Sized}
-use Rattle.until_rows.specs.{Recalled.entries_kept, Recalled.starts_kept}
+use Rattle.until_rows.specs.{Recalled.entries_kept, Recalled.starts_kept, Timed.has_time}
 use Rattle.eval_until.specs.Rules.{Ascending, StartsAbove, StartsBelow, Waiting}
 use Rattle.until_rows.specs.Rules.{NoneEmpty}
-use Rattle.until_rows.proofs.OrderLemmas.{ascending_is}
-use Rattle.eval_until.proofs.{ResumeLemmas.each_ascends, ResumeLemmas.some_found}
+use Rattle.until_rows.proofs.OrderLemmas.{ascending_is, kept_in_order}
+use Rattle.eval_until.proofs.ResumeLemmas.{each_ascends, each_passes, some_found}
+use Rattle.eval_until.proofs.{TimedLemmas.have_times, WideLemmas.wide_found}
 use Rattle.eval_until.proofs.ahead.Ahead.recall.Goals as goal
 
-pub rows_map-requires : goal.rows_map-requires
-rows_map-requires c =
+pub rows_map-requires-clause-places : goal.rows_map-requires-clause-places
+rows_map-requires-clause-places c =
     each_ascends (entries_kept c.args.pulled c.args.times.now c.args.rows.items) c.requires.rows c.requires.ascend
+
+pub rows_map-requires-clause-timed : goal.rows_map-requires-clause-timed
+rows_map-requires-clause-timed c =
+    let kept = entries_kept c.args.pulled c.args.times.now c.args.rows.items in
+    each_passes (has_time c.args.pulled c.args.times.now) kept c.requires.rows (λ u.
+    have_times c.args.pulled c.args.taken c.args.times.now (list_for kept u) c.requires.high (c.requires.waiting u))
 
 pub recalled-requires-clause-sized : goal.recalled-requires-clause-sized
 recalled-requires-clause-sized c =
@@ -48,6 +56,16 @@ go_on-requires-clause-kept c = rw (← c.self.view_is) (
     (subst (Waiting c.args.pulled c.args.taken) rows_are c.requires.waiting)
     (subst (StartsBelow c.args.taken) starts_are c.requires.below)
     (λ is. subst (StartsAbove c.args.pulled) starts_are ((rw (← c.self.view_is) at c.requires.above) is)))
+
+pub go_on-requires-clause-wide : goal.go_on-requires-clause-wide
+go_on-requires-clause-wide c =
+    let wide = rw (← c.self.view_is) at c.requires.wide in
+    rw (← c.self.view_is) (λ w other.
+    let starts = starts_kept c.args.starts.items in
+    sym (kept_in_order c.in_ok-contents.contents.starts w)
+    ∙ ap (λ rows. kept_for rows w) (c.in_ok-contents.ensures.starts ∙ ascending_is starts c.in_ok-starts.starts.entries
+    c.requires.starts c.in_ok-starts.ensures.ascend c.in_ok-starts.ensures.found)
+    ∙ wide_found (length c.self.inside.left.items) starts wide w other)
 
 pub go_on-requires-clause-listed : goal.go_on-requires-clause-listed
 go_on-requires-clause-listed c =

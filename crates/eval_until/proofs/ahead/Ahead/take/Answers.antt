@@ -1,9 +1,10 @@
-use Rattle.std.proofs.Common.{◌+◌, ◌-◌, cond, nat_le, ◌&&◌, ◌||◌, refl, sym, ap, ap₂, ◌∙◌}
-use Rattle.std.specs.Option.{unwrap_or}
+use Rattle.std.proofs.Common.{Bool, ◌+◌, ◌-◌, cond, nat_le, ◌&&◌, ◌||◌, refl, sym, ap, ap₂, ◌∙◌}
+use Rattle.std.specs.{List.list_all, Option.unwrap_or}
 use Rattle.mfotl_model.specs.{Intervals.in_interval, Tables.has_row, Tables.part}
 use Rattle.relations.specs.{KeptRows.kept_for, KeptRows.list_for, Pushed.turned}
 use Rattle.until_rows.specs.{Entries.met_by, Starts.start_of}
-use Rattle.eval_until.proofs.{KeepingLemmas.met_taken, KeepingLemmas.start_stepped}
+use Rattle.until_rows.specs.declared.entries.Entry.{Entry}
+use Rattle.eval_until.proofs.{KeepingLemmas.met_taken, KeepingLemmas.start_stepped, TimedLemmas.passes_taken}
 use Rattle.until_rows.proofs.OrderLemmas.{entries_in_order, kept_in_order}
 use Rattle.eval_until.proofs.ahead.Ahead.take.Goals as goal
 
@@ -38,3 +39,19 @@ returns-in-Ok-clause-start c = rw (← c.self.view_is) (
     (c.in-Ok.ensures.starts w)
     ∙ ap (λ o. cond (turned k.negated (has_row c.args.lefts.rows w)) (unwrap_or o (cond k.negated 0 k.taken))
     (k.taken + 1)) (sym (kept_in_order k.contents.starts w)))
+
+pub returns-in-Ok-clause-times : goal.returns-in-Ok-clause-times
+returns-in-Ok-clause-times c = rw (← c.self.view_is) (
+    let k = c.self.inside in
+    λ test old passes u.
+    let p : Entry → Bool = λ e. test e.place e.ts in
+    ap (list_all p) (entries_in_order c.take_position-taken.new.contents.rows.entries u)
+    ∙ passes_taken p (has_row c.args.rights.rows u) (list_for k.contents.rows.entries u)
+    (list_for c.take_position-taken.new.contents.rows.entries u)
+    (record {
+      place = k.taken;
+      start = start_of k.negated k.taken k.contents.starts (part k.right.items k.left.items u);
+      ts = c.args.ts;
+    })
+    ((rw (c.as_slice.ensures.value, c.as_slice-2.ensures.value) at c.in-Ok.ensures.rows) u)
+    (ap (list_all p) (sym (entries_in_order k.contents.rows.entries u)) ∙ old u) passes)

@@ -1,5 +1,7 @@
-use Rattle.std.proofs.Common.{ap, arith, drop, refl, sym}
+use Rattle.std.proofs.Common.{◌-◌, ◌&&◌, nat_eq, nat_lt, length, slice_index, ap, arith, drop, refl, rules, sym}
+use Rattle.std.proofs.lemmas.Grind.{common_steps}
 use Rattle.eval_until.proofs.FollowsLemmas.{Pulled, follows_pulled, left_pulled}
+use Rattle.eval_until.proofs.TimedLemmas.{timed_pulled}
 use Rattle.eval_until.proofs.until.UntilState.go_on.Goals as goal
 
 pub returns-clause-left : goal.returns-clause-left
@@ -42,3 +44,22 @@ returns-clause-advances c = rw (← c.self.view_is) (record {
   lefts = refl;
   rights = refl;
 })
+
+pub invariant_of-self : goal.invariant_of-self
+invariant_of-self c =
+    let s = c.self.inside in
+    let times = s.times.items in
+    record {
+      low = grind (arith, common_steps);
+      high = search rules;
+      few = search rules;
+      inside = search rules;
+      left = search rules;
+      right = search rules;
+      timed = rw c.advance.ensures.pulled (
+          timed_pulled s.ahead.pulled c.in-Some._now s.ahead.taken c.pop_front.new.self.items c.advance.new.self.rows
+          c.advance.ensures.waiting
+          (rw c.in-Some.ensures.items at (c.advance.ensures.times
+          (λ p x. nat_lt (p - s.ahead.pulled) (length times) && nat_eq (slice_index times (p - s.ahead.pulled)) x)
+          c.self.invariant.timed)));
+    }

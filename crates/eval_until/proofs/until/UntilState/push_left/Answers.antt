@@ -24,4 +24,5 @@ invariant_of-self-2 c =
           c.self.invariant.left
           (rw (← c.self.view_is) at c.requires.columns));
       right = c.self.invariant.right;
+      timed = c.self.invariant.timed;
     }

@@ -26,4 +26,5 @@ invariant_of-self-2 c =
       right = rw c.in_ok-push_back.ensures.items (over_push s.ahead.right s.rights.items c.args.table
           c.self.invariant.right
           (rw (← c.self.view_is) at c.requires.columns));
+      timed = c.self.invariant.timed;
     }

@@ -1,7 +1,7 @@
-use Rattle.std.proofs.Common.{◌-◌, refl}
+use Rattle.std.proofs.Common.{◌-◌, refl, rules}
 use Rattle.relations.proofs.PushedLemmas.{over_first}
 use Rattle.eval_until.proofs.FollowsLemmas.{Taken, follows_taken, left_taken, time_taken}
-use Rattle.eval_until.proofs.TakingLemmas.{time_there}
+use Rattle.eval_until.proofs.{TakingLemmas.time_there, TimedLemmas.timed_taken}
 use Rattle.eval_until.proofs.until.UntilState.take_one.Goals as goal
 
 pub returns-clause-left : goal.returns-clause-left
@@ -62,3 +62,45 @@ returns-clause-follows c =
     }) more c.self.invariant.low)
     (rw (c.taken.ensures, c.pulled.ensures) at c.index-ts.ensures) refl c.self.invariant.low)
     (rw (c.in-Some.ensures.items, c.in-Some-pop_front.ensures.items) at f))
+
+pub invariant_of-self : goal.invariant_of-self
+invariant_of-self c =
+    let more = rw (← c.self.view_is) at c.requires in
+    let s = c.self.inside in
+    record {
+      low = search rules;
+      high = search rules;
+      few = search rules;
+      inside = search rules;
+      left = search rules;
+      right = search rules;
+      timed = timed_taken (record {
+        ahead = s.ahead;
+        times = s.times.items;
+        lefts = s.lefts.items;
+        rights = s.rights.items;
+      }) c.take.new.self c.index-ts.result.now more c.self.invariant.low c.take.ensures.times
+          c.take.ensures.pulled (rw (c.taken.ensures, c.pulled.ensures) at c.index-ts.ensures)
+          c.self.invariant.timed;
+    }
+
+pub invariant_of-self-2 : goal.invariant_of-self-2
+invariant_of-self-2 c =
+    let more = rw (← c.self.view_is) at c.requires in
+    let s = c.self.inside in
+    record {
+      low = search rules;
+      high = search rules;
+      few = search rules;
+      inside = search rules;
+      left = search rules;
+      right = search rules;
+      timed = timed_taken (record {
+        ahead = s.ahead;
+        times = s.times.items;
+        lefts = s.lefts.items;
+        rights = s.rights.items;
+      }) c.take.new.self c.index-ts.result.now more c.self.invariant.low c.take.ensures.times
+          c.take.ensures.pulled (rw (c.taken.ensures, c.pulled.ensures) at c.index-ts.ensures)
+          c.self.invariant.timed;
+    }
