@@ -27,7 +27,7 @@ each_wide n starts up sized = each_kept (λ w s. length w ≡ n) starts up
   where
     by : (w : List Value) (s : ℕ) → kept_for starts w ≡ Some s → (b : Bool) → nat_eq (length w) n ≡ b → length w ≡ n
     by w s is true same = grind (arith, nat_tests)
-    by w s is false other = absurd (let w : None ≡ Some s = sym (sized w other) ∙ is in cc)
+    by w s is false other = absurd (let no : None ≡ Some s = sym (sized w other) ∙ is in cc)
 
 -- of a row that the table lacks no start is begun
 pub none_taken : (negated has : Bool) (p s : ℕ) (old new : Option ℕ) → has ≡ false → old ≡ None
