@@ -9,14 +9,14 @@ use Rattle.mfotl_model.specs.declared.event.TimePoint.{TimePoint}
 use Rattle.mfotl_sig.specs.Preds.{PredOf, named}
 use Rattle.log_reader.specs.declared.{cursor.TokenStep.TokenStep, cursor.TokenStep.TheVariants.Took}
 use Rattle.log_reader.specs.declared.{cursor.TokenStep.TheVariants.Completed, fault.LogFault.LogFault}
-use Rattle.log_reader.specs.declared.{limits.Limits.Limits, stage.Stage.Stage, partial.Straight.Straight}
+use Rattle.log_reader.specs.declared.{limits.Limits.Limits, stage.Stage.Stage, straight.Straight.Straight}
 use Rattle.log_reader.specs.Cursors.{IsCounted, TakesToken, StepsOver}
 use Rattle.log_reader.specs.{Given.StateMoves, Given.Stays, Stretches.place_in, Symbols.symbol, Tokens.blank_before}
 use Rattle.log_reader.specs.{Tokens.IsInFront}
 use Rattle.log_reader.specs.Partials.{Partial, point_of, finished}
 use Rattle.log_reader.specs.Quick.{mark_token, StepsMark, TakesTokenInFront, CompletesFront, HaltsFront, HaltsFrontBy}
 use Rattle.log_reader.specs.Quick.{TakesStraight}
-use Rattle.log_reader.specs.declared.partial.Straight.TheVariants as straights
+use Rattle.log_reader.specs.declared.straight.Straight.TheVariants as straights
 use Rattle.log_reader.specs.Stages.{stage_after, completes, is_whole}
 use Rattle.log_reader.specs.Steps.{step, stepped, naming}
 use Rattle.log_reader.proofs.{TokenFronts.mark_seen, TokenFronts.blank_past, TokenPlaces.TokenAt}

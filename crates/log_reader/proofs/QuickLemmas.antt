@@ -14,7 +14,7 @@ use Rattle.mfotl_model.specs.declared.{policy.Sort.Sort, policy.Sort.TheVariants
 use Rattle.mfotl_model.specs.declared.value.Value.TheVariants as values
 use Rattle.mfotl_sig.specs.Preds.{PredOf}
 use Rattle.log_reader.specs.declared.{fault.LogFault.LogFault, limits.Limits.Limits, stage.Stage.Stage}
-use Rattle.log_reader.specs.declared.{partial.Straight.Straight}
+use Rattle.log_reader.specs.declared.{straight.Straight.Straight}
 use Rattle.log_reader.specs.declared.stage.Stage.TheVariants.{AfterAt, AfterStamp, AfterOpen, AfterValue, AfterComma}
 use Rattle.log_reader.specs.{Limits.last_timestamp, Partials.Partial, Stages.stage_after, Stages.completes}
 use Rattle.log_reader.specs.{ValuesRead.integer_at}
@@ -22,7 +22,7 @@ use Rattle.log_reader.specs.Steps.{step, stepped, valued}
 use Rattle.log_reader.specs.Symbols.{Written, Bare, Says, written, is_digits}
 use Rattle.log_reader.specs.Quick.{room, ends_number, digits_before, BeginsWithNumber, IsInteger, TakesTokenInFront}
 use Rattle.log_reader.specs.Quick.{is_value_due, TakesInteger, TakesStraight}
-use Rattle.log_reader.specs.declared.partial.Straight.TheVariants.{Nothing, Took, Completed}
+use Rattle.log_reader.specs.declared.straight.Straight.TheVariants.{Nothing, Took, Completed}
 use Rattle.log_reader.proofs.TokenFronts.{word_in_front}
 
 -- what the digits say

@@ -17,8 +17,8 @@ use Rattle.mfotl_sig.specs.Preds.{PredOf}
 use Rattle.log_reader.specs.declared.fault.LogFault.{LogFault}
 use Rattle.log_reader.specs.declared.fault.LogFault.TheVariants.{Memory}
 use Rattle.log_reader.specs.declared.limits.Limits.{Limits}
-use Rattle.log_reader.specs.declared.partial.Straight.{Straight}
-use Rattle.log_reader.specs.declared.partial.Straight.TheVariants.{Nothing, Took, Completed}
+use Rattle.log_reader.specs.declared.straight.Straight.{Straight}
+use Rattle.log_reader.specs.declared.straight.Straight.TheVariants.{Nothing, Took, Completed}
 use Rattle.log_reader.specs.declared.stage.Stage.{Stage}
 use Rattle.log_reader.specs.declared.stage.Stage.TheVariants.{AfterOpen, AfterValue, AfterComma}
 use Rattle.log_reader.specs.Given.{StateMoves, Stays}

@@ -19,6 +19,8 @@ mod recent_texts;
 mod short_numbers;
 mod stage;
 mod stamps;
+mod steps;
+mod straight;
 mod stretch;
 mod values;
 
