@@ -1,19 +1,20 @@
 -- Groups that are read straight from the bytes lead where their tokens would.
-use Rattle.std.proofs.Common.{◌≡◌, ℕ, ◌+◌, ◌-◌, ◌≤◌, ◌<◌, Bool, true, List, [], ◌∷◌, ◌++◌, length, drop, get_or, Option}
+use Rattle.std.proofs.Common.{◌≡◌, ℕ, ◌+◌, ◌-◌, ◌≤◌, ◌<◌, Bool, true, false, List, [], ◌∷◌, ◌++◌, length, drop, get_or, Option}
 use Rattle.std.proofs.Common.{Some, None, Result, Ok, Err, IfOk, IfSome, ℤ, refl, sym, ap, subst, ◌∙◌, arith}
 use Rattle.std.proofs.lemmas.Bool.{cond_both, lt-ltb, eqb-true}
-use Rattle.std.proofs.lemmas.List.{drop-drop, length-drop, nil_from_length}
+use Rattle.std.proofs.lemmas.List.{drop-drop, length-append, length-drop, nil_from_length}
 use Rattle.std.specs.Prelude.{◌==◌}
 use Rattle.mfotl_lex.specs.{Bytes.is_space, Growing.grown, Places.Place}
 use Rattle.mfotl_lex.specs.Lexemes.{Tokens, after, tokens}
 use Rattle.mfotl_model.specs.declared.{policy.Sort.Sort, value.Value.Value}
 use Rattle.mfotl_sig.specs.Preds.{PredOf}
+use Rattle.log_reader.specs.declared.groups.Read.{Read}
 use Rattle.log_reader.specs.declared.{limits.Limits.Limits, fault.LogFault.LogFault, stage.Stage.Stage}
 use Rattle.log_reader.specs.declared.stage.Stage.TheVariants.{AfterName, AfterOpen, AfterValue, AfterComma, AfterClose}
 use Rattle.log_reader.specs.{Cursors.IsCounted, Cursors.Leads, Partials.Partial, Readings.run, Readings.behind_tokens}
 use Rattle.log_reader.specs.{Stretches.place_in, Symbols.Bare}
-use Rattle.log_reader.specs.Groups.{may_open, TakesPlain, TakesMarked, TakesOneMore, LeadsOn, IsOpen, MayBeginGroup}
-use Rattle.log_reader.specs.Groups.{closed_with, with_group, ReadsValues, ReadsGroup}
+use Rattle.log_reader.specs.Groups.{may_open, mark_behind, TakesPlain, TakesMarked, LeadsOn, IsOpen, MayBeginGroup}
+use Rattle.log_reader.specs.Groups.{closed_with, read_to, with_group, ReadsValues, ReadsGroup}
 use Rattle.log_reader.specs.Quick.{IsInteger, is_value_due, TakesTokenInFront, TakesStamp, StepsMark}
 use Rattle.log_reader.specs.Steps.{step, stepped, valued, group_closed}
 use Rattle.log_reader.specs.Tokens.{front_of, blank_before, IsInFront}
@@ -162,79 +163,113 @@ module _ (limits : Limits) (from : ℕ) (looked : List ℕ) (ended : Bool) (at :
       → LeadsOn limits from looked ended b q c r → LeadsOn limits from looked ended at p c r
   lead_further b c q r x y = lead_on (omega (arith, x.further, y.further)) (λ sig. go_on (x.leads sig) (y.leads sig))
 
-module _ (from : ℕ) (looked : List ℕ) (ended : Bool) (sorts : List Sort) (start : ℕ) where
-  -- the tokens from behind the `(` on up to an offset give these values; a value is due there, and these sorts
-  pub record Standing (args : List Value) (due : List Sort) (at : ℕ) : Type 0 where
-    pub stage : Stage
-    pub awaits : is_value_due stage ≡ true
-    pub within : at ≤ length looked
-    pub later : start ≤ at
-    pub leads : (sig : List PredOf) (limits : Limits) (p : Partial) → IsOpen sorts p
-        → Goes from looked ended sig limits start p at (record p { stage = stage; due = due; args = args })
+-- behind a `(` these values were read, and then these sorts are due
+abbrev pub so_far : Partial → List Value → List Sort → Partial
+so_far p [] due = record p { stage = AfterOpen; due = due; args = [] }
+so_far p (v ∷ vs) due = read_to p (v ∷ vs) due
 
-  pub begins : start ≤ length looked → Standing [] sorts start
+module _ (from : ℕ) (looked : List ℕ) (ended : Bool) (sorts : List Sort) (start : ℕ) where
+  -- the tokens from behind the `(` on up to an offset give these values
+  pub record SoFar (args : List Value) (due : List Sort) (at : ℕ) : Type 0 where
+    pub within : at ≤ length looked
+    pub later : start + length args ≤ at
+    pub leads : (sig : List PredOf) (limits : Limits) (p : Partial) → IsOpen sorts p
+        → Goes from looked ended sig limits start p at (so_far p args due)
+
+  pub begins : start ≤ length looked → SoFar [] sorts start
   begins le = record {
-    stage = AfterOpen;
-    awaits = refl;
     within = le;
     later = omega arith;
     leads = λ sig limits p o. rw (← o.stage, ← o.due, ← o.args) (stay le o.counted);
   }
 
+  pub reads : (args : List Value) (due : List Sort) (at : ℕ) → SoFar args due at → 0 < length args
+      → ReadsValues from looked ended sorts start args due at
+  reads [] due at s some = absurd (omega (arith, some))
+  reads (v ∷ vs) due at s some = (
+    λ limits p o. lead_on (omega (arith, s.later)) (λ sig. s.leads sig limits p o),
+    omega (arith, s.later),
+  )
+
+  -- the same where a value is due
+  record Standing (args : List Value) (due : List Sort) (at : ℕ) : Type 0 where
+    stage : Stage
+    awaits : is_value_due stage ≡ true
+    leads : (sig : List PredOf) (limits : Limits) (p : Partial) → IsOpen sorts p
+        → Goes from looked ended sig limits start p at (record p { stage = stage; due = due; args = args })
+
+  standing : (args : List Value) (sort : Sort) (more : List Sort) (at : ℕ) → SoFar args (sort ∷ more) at
+      → Standing args (sort ∷ more) at
+  standing [] sort more at s = record { stage = AfterOpen; awaits = refl; leads = s.leads }
+  standing (v ∷ vs) sort more at s = record { stage = AfterComma; awaits = refl; leads = s.leads }
+
 -- where a value is due, such a value and the mark behind it
 module _ {from : ℕ} {looked : List ℕ} {ended : Bool} {sorts : List Sort} {start : ℕ} {args : List Value}
-    {due more : List Sort} {at mark behind : ℕ} {sort : Sort} {value : Value}
-    (s : Standing from looked ended sorts start args due at) (due_is : due ≡ sort ∷ more)
-    (t : TakesMarked sort mark from looked at value behind) where
-  abbrev row : List Value
-  row = args ++ value ∷ []
+    {more : List Sort} {at mark behind : ℕ} {sort : Sort} {value : Value} (within : at ≤ length looked)
+    (s : Standing from looked ended sorts start args (sort ∷ more) at)
+    (t : TakesMarked sort mark from looked at value behind) (sig : List PredOf) (limits : Limits) (p : Partial)
+    (o : IsOpen sorts p) where
+  abbrev longer : List Value
+  longer = args ++ value ∷ []
 
-  abbrev valued_with : Partial → Partial
-  valued_with p = record p { stage = AfterValue; due = more; args = row }
+  abbrev valued_with : Partial
+  valued_with = record p { stage = AfterValue; due = more; args = longer }
 
-  over_value : (sig : List PredOf) (limits : Limits) (p : Partial) → IsOpen sorts p
-      → Goes from looked ended sig limits start p (at + t.n) (valued_with p)
-  over_value sig limits p o =
+  over_value : Goes from looked ended sig limits start p (at + t.n) valued_with
+  over_value =
       let reached = s.leads sig limits p o in
-      go_on reached (front_leads from looked ended sig limits at (record p { stage = s.stage; due = due; args = args })
-      s.within reached.counted t.n (valued_with p) (t.plain.takes sig limits _ more s.awaits due_is)).0
+      go_on reached
+      (front_leads from looked ended sig limits at (record p { stage = s.stage; due = sort ∷ more; args = args })
+      within reached.counted t.n valued_with (t.plain.takes sig limits _ more s.awaits refl)).0
 
   mark_some : 1 ≤ length (drop (at + t.n) looked)
   mark_some = omega (arith, t.end, t.within, length-drop (at + t.n) looked)
 
-  -- a `,` leads to the next value
-  pub past_comma : mark ≡ 44 → Standing from looked ended sorts start row more behind
-  past_comma is = record {
-    stage = AfterComma;
-    awaits = refl;
-    within = t.within;
-    later = omega (arith, s.later, t.end);
-    leads = λ sig limits p o.
-        let over = over_value sig limits p o in
-        rw t.end
-        (go_on over (comma_leads from looked ended sig limits (at + t.n) (valued_with p) over.within over.counted
-        mark_some refl (t.is ∙ is)));
-  }
+  over_comma : mark ≡ 44
+      → Goes from looked ended sig limits start p behind (record p { stage = AfterComma; due = more; args = longer })
+  over_comma is = rw t.end
+      (go_on over_value (comma_leads from looked ended sig limits (at + t.n) valued_with over_value.within
+      over_value.counted mark_some refl (t.is ∙ is)))
 
-  -- a `)` behind the last value ends the group
-  pub past_group : more ≡ [] → mark ≡ 41 → ReadsValues from looked ended sorts start row behind
-  past_group none is = (
-    λ limits p o. lead_on (omega (arith, s.later, t.end)) (λ sig.
-        let over = over_value sig limits p o in
-        rw t.end (go_on over (closing_leads from looked ended sig limits (at + t.n) (valued_with p) over.within
-        over.counted mark_some refl none (t.is ∙ is)))),
-    omega (arith, s.later, t.end),
-  )
+  over_group : more ≡ [] → mark ≡ 41 → Goes from looked ended sig limits start p behind (closed_with p longer)
+  over_group none is = rw t.end
+      (go_on over_value (closing_leads from looked ended sig limits (at + t.n) valued_with over_value.within
+      over_value.counted mark_some refl none (t.is ∙ is)))
 
--- where the last value is due, it ends the group, if it was found
-pub row_ends : {E : Type 0} {from : ℕ} {looked : List ℕ} {ended : Bool} {sorts : List Sort} {start : ℕ}
-    {args : List Value} {sort : Sort} {at : ℕ} → Standing from looked ended sorts start args (sort ∷ []) at
-    → (found : Result (Option (List Value × ℕ)) E)
-    → IfOk found (λ f. IfSome f (λ x. TakesOneMore sort 41 from looked at args x.0 x.1))
-    → IfOk found (λ f. IfSome f (λ x. ReadsValues from looked ended sorts start x.0 x.1))
-row_ends s (Ok (Some x)) one = rw one.row_is (past_group s refl one.taken refl refl)
-row_ends s (Ok None) one = tt
-row_ends s (Err error) one = tt
+some_read : (p : Partial) (args : List Value) (value : Value) (due : List Sort)
+    → so_far p (args ++ value ∷ []) due ≡ read_to p (args ++ value ∷ []) due
+some_read p [] value due = refl
+some_read p (v ∷ vs) value due = refl
+
+-- one value more, and the mark behind it
+pub one_more : {from : ℕ} {looked : List ℕ} {ended : Bool} {sorts : List Sort} {start : ℕ} (args : List Value)
+    (sort : Sort) (more : List Sort) {at behind : ℕ} {value : Value}
+    → SoFar from looked ended sorts start args (sort ∷ more) at
+    → TakesMarked sort (mark_behind more) from looked at value behind
+    → SoFar from looked ended sorts start (args ++ value ∷ []) more behind
+one_more {from} {looked} {ended} {sorts} {start} args sort [] {at} {behind} {value} s t = record {
+  within = t.within;
+  later = omega (arith, s.later, t.end, length-append args (value ∷ []));
+  leads = λ sig limits p o. rw (some_read p args value [])
+      (over_group s.within (standing from looked ended sorts start args sort [] at s) t sig limits p o refl refl);
+}
+one_more {from} {looked} {ended} {sorts} {start} args sort (next ∷ last) {at} {behind} {value} s t = record {
+  within = t.within;
+  later = omega (arith, s.later, t.end, length-append args (value ∷ []));
+  leads = λ sig limits p o. rw (some_read p args value (next ∷ last))
+      (over_comma s.within (standing from looked ended sorts start args sort (next ∷ last) at s) t sig limits p o refl);
+}
+
+-- the first value of a group
+pub first_one : {from : ℕ} {looked : List ℕ} (ended : Bool) {start behind : ℕ} (sort : Sort) (more : List Sort)
+    {value : Value} → start ≤ length looked → TakesMarked sort (mark_behind more) from looked start value behind
+    → SoFar from looked ended (sort ∷ more) start (value ∷ []) more behind
+first_one ended sort more le t = one_more [] sort more (begins _ _ ended (sort ∷ more) _ le) t
+
+opened : (p : Partial) (row : List Value) (due : List Sort)
+    → read_to (record p { stage = AfterOpen; groups = p.groups + 1; due = p.sorts }) row due ≡ with_group p row due
+opened p row [] = refl
+opened p row (sort ∷ due) = refl
 
 -- behind a blank or none and a `(`
 module _ (from : ℕ) (looked : List ℕ) (ended : Bool) (sorts : List Sort) (at : ℕ) (front rest : List ℕ) (blanks : ℕ)
@@ -243,10 +278,11 @@ module _ (from : ℕ) (looked : List ℕ) (ended : Bool) (sorts : List Sort) (at
   mark_at : rest ≡ drop (at + blanks) looked
   mark_at = rest_is ∙ ap (drop blanks) front_is ∙ drop-drop blanks at looked
 
-  group_row : (row : List Value) (behind : ℕ) → ReadsValues from looked ended sorts (at + blanks + 1) row behind
-      → ReadsGroup from looked ended sorts at row behind
-  group_row row behind v = (
-    λ limits p r. lead_on (omega (arith, v.1)) (λ sig.
+  group_row : (row : List Value) (due : List Sort) (behind : ℕ)
+      → ReadsValues from looked ended sorts (at + blanks + 1) row due behind
+      → ReadsGroup from looked ended sorts at row due behind
+  group_row row due behind v = (
+    λ limits p r. rw (← opened p row due) (lead_on (omega (arith, v.1)) (λ sig.
         let same : blanks ≡ blank_before (drop at looked) = blanks_is ∙ ap blank_before front_is in
         let past = subst (λ (k : ℕ). Goes from looked ended sig limits at p (at + k) p) (sym same)
         (blank_leads from looked ended sig limits at p le r.counted) in
@@ -258,24 +294,30 @@ module _ (from : ℕ) (looked : List ℕ) (ended : Bool) (sorts : List Sort) (at
           due = r.same;
           args = r.args;
           counted = begun.counted;
-        })).leads sig))),
+        })).leads sig)))),
     omega (arith, v.1),
   )
 
-  pub group_reads : {E : Type 0} (found : Result (Option (List Value × ℕ)) E)
-      → IfOk found (λ f. IfSome f (λ x. ReadsValues from looked ended sorts (at + blanks + 1) x.0 x.1))
-      → IfOk found (λ f. IfSome f (λ x. ReadsGroup from looked ended sorts at x.0 x.1))
-  group_reads (Ok (Some x)) v = group_row x.0 x.1 v
+  pub group_reads : {E : Type 0} (found : Result (Option Read) E)
+      → IfOk found (λ f. IfSome f (λ x.
+      ReadsValues from looked ended sorts (at + blanks + 1) x.args x.due.now x.behind))
+      → IfOk found (λ f. IfSome f (λ x. ReadsGroup from looked ended sorts at x.args x.due.now x.behind))
+  group_reads (Ok (Some x)) v = group_row x.args x.due.now x.behind v
   group_reads (Ok None) v = tt
   group_reads (Err error) v = tt
 
 -- ---- the call
 
+pub some_due : (p : Partial) (row : List Value) (due : List Sort) → (length due == 0) ≡ false
+    → read_to p row due ≡ record p { stage = AfterComma; due = due; args = row }
+some_due p row [] e = absurd cc
+some_due p row (sort ∷ due) e = refl
+
 pub takes_group : {limits : Limits} {from : ℕ} {looked : List ℕ} {ended : Bool} {at : ℕ} {p q : Partial}
-    {found : Option (List Value × ℕ)} {row : List Value} {behind : ℕ}
-    → IfSome found (λ x. ReadsGroup from looked ended p.sorts at x.0 x.1) → found ≡ Some (row, behind)
-    → MayBeginGroup limits p.sorts p → q ≡ with_group p row
-    → LeadsOn limits from looked ended at p behind q × (at < behind)
+    {found : Option Read} {read : Read}
+    → IfSome found (λ x. ReadsGroup from looked ended p.sorts at x.args x.due.now x.behind) → found ≡ Some read
+    → MayBeginGroup limits p.sorts p → q ≡ with_group p read.args read.due.now
+    → LeadsOn limits from looked ended at p read.behind q × (at < read.behind)
 takes_group {limits} {from} {looked} {ended} {at} {p} reads is ready after =
     let r = rw is at reads in
     (rw after (r.0 limits p ready), r.1)

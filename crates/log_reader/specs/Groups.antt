@@ -8,7 +8,7 @@ use Rattle.mfotl_model.specs.declared.value.Value.{Value}
 use Rattle.mfotl_sig.specs.Preds.{PredOf}
 use Rattle.log_reader.specs.declared.limits.Limits.{Limits}
 use Rattle.log_reader.specs.declared.stage.Stage.{Stage}
-use Rattle.log_reader.specs.declared.stage.Stage.TheVariants.{AfterName, AfterOpen, AfterValue, AfterClose}
+use Rattle.log_reader.specs.declared.stage.Stage.TheVariants.{AfterName, AfterOpen, AfterValue, AfterComma, AfterClose}
 use Rattle.log_reader.specs.Cursors.{IsCounted, Leads}
 use Rattle.log_reader.specs.Partials.{Partial}
 use Rattle.log_reader.specs.Quick.{is_value_due, TakesTokenInFront}
@@ -36,12 +36,10 @@ pub record TakesMarked (sort : Sort) (mark from : ℕ) (looked : List ℕ) (at :
   pub end : behind ≡ at + n + 1
   pub within : behind ≤ length looked
 
--- the same, and the row has this value more
-pub record TakesOneMore (sort : Sort) (mark from : ℕ) (looked : List ℕ) (at : ℕ) (args row : List Value) (behind : ℕ)
-    : Type 0 where
-  pub value : Value
-  pub row_is : row ≡ args ++ value ∷ []
-  pub taken : TakesMarked sort mark from looked at value behind
+-- the mark behind a value of a group, by the sorts of those that come then
+abbrev pub mark_behind : List Sort → ℕ
+mark_behind [] = 41
+mark_behind (sort ∷ due) = 44
 
 -- from p on the tokens up to an offset lead to q, whatever the signature
 pub record LeadsOn (limits : Limits) (from : ℕ) (looked : List ℕ) (ended : Bool) (at : ℕ) (p : Partial) (at' : ℕ)
@@ -75,25 +73,30 @@ closed_with p row = record p {
   due = [];
 }
 
--- with one group more, which has these values
-abbrev pub with_group : Partial → List Value → Partial
-with_group p row = closed_with (record p { groups = p.groups + 1 }) row
+-- behind the first values of a group, by the sorts of those that it lacks: behind its `)`, or behind a `,`
+abbrev pub read_to : Partial → List Value → List Sort → Partial
+read_to p row [] = closed_with p row
+read_to p row (sort ∷ due) = record p { stage = AfterComma; due = sort ∷ due; args = row }
 
--- behind a `(` stand these values and the `)` of their group
-abbrev pub ReadsValues : ℕ → List ℕ → Bool → List Sort → ℕ → List Value → ℕ → Type 0
-ReadsValues from looked ended sorts at row behind =
+-- with one group more, which has these values, and lacks those of these sorts
+abbrev pub with_group : Partial → List Value → List Sort → Partial
+with_group p row due = read_to (record p { groups = p.groups + 1 }) row due
+
+-- behind a `(` stand these values, and the `)` of their group or a `,`
+abbrev pub ReadsValues : ℕ → List ℕ → Bool → List Sort → ℕ → List Value → List Sort → ℕ → Type 0
+ReadsValues from looked ended sorts at row due behind =
     ((limits : Limits) (p : Partial) → IsOpen sorts p
-    → LeadsOn limits from looked ended at p behind (closed_with p row))
+    → LeadsOn limits from looked ended at p behind (read_to p row due))
     × (at < behind)
 
--- a group of these values stands there
-abbrev pub ReadsGroup : ℕ → List ℕ → Bool → List Sort → ℕ → List Value → ℕ → Type 0
-ReadsGroup from looked ended sorts at row behind =
+-- a group of these values stands there, or its front
+abbrev pub ReadsGroup : ℕ → List ℕ → Bool → List Sort → ℕ → List Value → List Sort → ℕ → Type 0
+ReadsGroup from looked ended sorts at row due behind =
     ((limits : Limits) (p : Partial) → MayBeginGroup limits sorts p
-    → LeadsOn limits from looked ended at p behind (with_group p row))
+    → LeadsOn limits from looked ended at p behind (with_group p row due))
     × (at < behind)
 
--- a group was taken, or nothing was
+-- a group was taken, or its front, or nothing was
 abbrev pub TakesGroup : Limits → ℕ → List ℕ → Bool → ℕ → Partial → Option ℕ → Partial → Type 0
 TakesGroup limits from looked ended at p (Some behind) q =
     LeadsOn limits from looked ended at p behind q × (at < behind)

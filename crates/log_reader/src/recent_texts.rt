@@ -19,8 +19,8 @@ const SPREAD: u64 = 0x9E37_79B9_7F4A_7C15;
 const PLACE: u32 = 20;
 
 // The place of one text. A text that comes twice while the one that has the place doesn't come takes it: so texts that
-// never come again cost little more than their marks, and two that come in turn don't drive each other out. A group that
-// isn't read straight to its end is read anew by its tokens: its texts then count as coming twice.
+// never come again cost little more than their marks, and two that come in turn don't drive each other out. A value that
+// no mark follows at once is read anew by its token: a text then counts as coming twice.
 #[derive(Drop)]
 struct Slot {
     // The mark of the last text that came since then and isn't kept.
