@@ -6,7 +6,7 @@ use Rattle.mfotl_lex.specs.Lexemes.{Lexeme, lexeme, next_token, after}
 use Rattle.mfotl_lex.specs.Places.{Place}
 use Rattle.mfotl_lex.specs.declared.fault.LexFault.{LexFault}
 use Rattle.mfotl_lex.specs.declared.kind.Mode.TheVariants.{Log}
-use Rattle.log_reader.specs.declared.cursor.Found.{Found}
+use Rattle.log_reader.specs.declared.found.Found.{Found}
 
 -- the beginning of bytes of a log, the first of which has the offset `at`
 abbrev pub front_of : List ℕ → ℕ → Bool → Place

@@ -8,18 +8,18 @@ ghost use Rattle.log_reader.specs.Partials.{nothing_read};
 ghost use Rattle.log_reader.specs.Soundness.{IsInStretch, AnswersDue, StandsOn, is_wanting, CountsOn};
 ghost use Rattle.log_reader.specs.Cursors.{StepsOver, TakesToken, AdvancesToPoint, IsCounted, Leads, given_of};
 ghost use Rattle.log_reader.specs.Groups.{LeadsOn};
-ghost use Rattle.log_reader.specs.Stretches.{Waits, place_in};
-ghost use Rattle.log_reader.specs.Tokens.{FindsToken};
+ghost use Rattle.log_reader.specs.Stretches.{Waits};
 
 use crate::fault::LogFault;
+use crate::found::token_at;
 use crate::grammar::read_on;
 use crate::limits::{Limits, Look};
 use crate::next::Next;
 use crate::partial::Partial;
-use crate::plain_tokens::{blank_before, token_before};
+use crate::plain_tokens::blank_before;
 use crate::straight::Straight;
 use crate::stretch::Stretch;
-use mfotl_lex::{LexFault, Lexer, Mode, Token};
+use mfotl_lex::Token;
 use mfotl_model::TimePoint;
 use mfotl_sig::Signature;
 use std::alloc::{AllocError, Global};
@@ -40,55 +40,6 @@ pub enum TokenStep {
 pub struct Cursor<'a> {
     pub at: usize,
     pub partial: Partial<'a>,
-}
-
-/// The token at an offset, if a whole one stands there, and the offset behind it.
-#[derive(Clone, Copy)]
-pub struct Found<'b> {
-    pub token: Option<Token<'b>>,
-    pub behind: usize,
-}
-
-fn lexer_at<'b>(look: Look<'b>, at: usize) -> Lexer<'b>
-    requires within { at ≤ length look.bytes.now }
-    requires small { look.from + length look.bytes.now < 2 ^ 63 }
-    ensures { result ≡ place_in look.entry.from look.entry.bytes.now look.entry.ended at }
-{
-    let (_, rest) = look.bytes.split_at(at);
-    Lexer::resume(rest, Mode::Log, look.from + at, look.ended)
-}
-
-// The token at an offset, or the fault there.
-fn token_at<'b>(look: Look<'b>, at: usize) -> Result<Found<'b>, LexFault>
-    requires within { at ≤ length look.bytes.now }
-    requires small { look.from + length look.bytes.now < 2 ^ 63 }
-    ensures { FindsToken look.entry.from
-        (place_in look.entry.from look.entry.bytes.now look.entry.ended at) result }
-{
-    let (_, rest) = look.bytes.split_at(at);
-    match token_before(rest, look.from + at) {
-        Some(token) => Ok(Found {
-            token: Some(token),
-            behind: token.at + token.text.len() - look.from,
-        }),
-        None => lexed_at(look, at),
-    }
-}
-
-fn lexed_at<'b>(look: Look<'b>, at: usize) -> Result<Found<'b>, LexFault>
-    requires within { at ≤ length look.bytes.now }
-    requires small { look.from + length look.bytes.now < 2 ^ 63 }
-    ensures { FindsToken look.entry.from
-        (place_in look.entry.from look.entry.bytes.now look.entry.ended at) result }
-{
-    let mut lexer = lexer_at(look, at);
-    match lexer.next() {
-        Ok(token) => Ok(Found {
-            token,
-            behind: lexer.offset() - look.from,
-        }),
-        Err(fault) => Err(fault),
-    }
 }
 
 impl<'a> Cursor<'a> {

@@ -3,7 +3,7 @@ use Rattle.mfotl_model.specs.declared.{policy.Sort.Sort, value.Value.TheVariants
 use Rattle.mfotl_model.specs.declared.policy.Sort.TheVariants as sorts
 use Rattle.log_reader.specs.Groups.{TakesPlain}
 use Rattle.log_reader.proofs.GroupLemmas.{plain_integer}
-use Rattle.log_reader.proofs.groups.plain_value.Goals as goal
+use Rattle.log_reader.proofs.plain_values.plain_value.Goals as goal
 
 pub returns-in-Some : goal.returns-in-Some
 returns-in-Some c =

@@ -1,5 +1,5 @@
 use Rattle.log_reader.proofs.{GroupLemmas.plain_word_text, MarkLemmas.plain_word}
-use Rattle.log_reader.proofs.groups.plain_text.Goals as goal
+use Rattle.log_reader.proofs.plain_values.plain_text.Goals as goal
 
 pub returns-in_ok-text-in-Some : goal.returns-in_ok-text-in-Some
 returns-in_ok-text-in-Some c =

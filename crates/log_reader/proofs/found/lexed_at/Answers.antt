@@ -2,7 +2,7 @@ use Rattle.std.proofs.Common.{◌≡◌, ◌-◌, ℕ, Option, Ok, None, Some, o
 use Rattle.mfotl_lex.specs.Lexemes.{lexeme, seen, next_token, after}
 use Rattle.mfotl_lex.specs.Places.{Place}
 use Rattle.mfotl_lex.specs.declared.token.Token.{Token}
-use Rattle.log_reader.proofs.cursor.lexed_at.Goals as goal
+use Rattle.log_reader.proofs.found.lexed_at.Goals as goal
 
 seen_token : (token : Option Token) → seen (Ok token) ≡ Ok (option_map lexeme token)
 seen_token None = refl

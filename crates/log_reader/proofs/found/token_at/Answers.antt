@@ -2,7 +2,7 @@ use Rattle.std.proofs.Common.{◌≡◌, ◌-◌, ◌+◌, ℕ, List, length, dr
 use Rattle.std.proofs.{Math.Facts.Fits-of_lt, lemmas.List.length-drop}
 use Rattle.mfotl_lex.specs.Lexemes.{lexeme}
 use Rattle.log_reader.specs.Tokens.{IsInFront}
-use Rattle.log_reader.proofs.cursor.token_at.Goals as goal
+use Rattle.log_reader.proofs.found.token_at.Goals as goal
 
 pub overflow_add-result : goal.overflow_add-result
 overflow_add-result c =
