@@ -23,6 +23,8 @@ pub mod RecordKeeps
 pub mod RecordState
 pub mod ResumeTimes
 pub mod ResumeWindows
+pub mod OperandLemmas
+pub mod ResumeKinds
 pub mod ResumeNodes
 pub mod ResumeState
 pub mod PartLaw

@@ -31,7 +31,7 @@ use Rattle.monitor_nodes.specs.Stands.{PreviousStands, bare}
 use Rattle.monitor_state.specs.StateStands.{JoinDataStands, NextDataStands, PreviousDataStands, TablesStand}
 use Rattle.monitor_state.specs.StateTimes.{KeptTimes, time_before, times_from}
 use Rattle.monitor_nodes.specs.declared.{filter.FilterState.FilterState}
-use Rattle.monitor_state.specs.declared.{state.NodeData.NodeData, state.SinceKept.SinceKept, state.UntilKept.UntilKept}
+use Rattle.monitor_state.specs.declared.{state.SinceKept.SinceKept, state.UntilKept.UntilKept}
 use Rattle.monitor_state.specs.declared.{state.WindowData.WindowData}
 use Rattle.monitor_nodes.specs.declared.node.Node.TheVariants as node
 use Rattle.monitor_state.specs.declared.state.NodeData.TheVariants as kept
@@ -177,20 +177,6 @@ pub until_resumed_node : (k : KeptTimes) (s new : UntilOf) (order : TableOf) (d 
 until_resumed_node k s new order d res (Until i f g) is keeps =
     search (until_resumed_is, until_resumed_stands, until_resumed_taken)
 until_resumed_node k s new order d res f is keeps = absurd is
-
--- what a SINCE keeps is a SINCE's
-pub since_kept : (k : KeptTimes) (s : SinceOf) (order : TableOf) (d : NodeData) (f : CoreForm)
-    → IsNodeFor f (node.Since s order) → NodeKeeps k f d → (w : SinceKept) × (d ≡ kept.Window (data_of.Since w))
-since_kept k s order (kept.Window (data_of.Since w)) (Since i f g) is keeps = (w, refl)
-since_kept k s order d (Since i f g) is keeps = absurd keeps
-since_kept k s order d f is keeps = absurd is
-
--- what an UNTIL keeps is an UNTIL's
-pub until_kept : (k : KeptTimes) (s : UntilOf) (order : TableOf) (d : NodeData) (f : CoreForm)
-    → IsNodeFor f (node.Until s order) → NodeKeeps k f d → (w : UntilKept) × (d ≡ kept.Window (data_of.Until w))
-until_kept k s order (kept.Window (data_of.Until w)) (Until i f g) is keeps = (w, refl)
-until_kept k s order d (Until i f g) is keeps = absurd keeps
-until_kept k s order d f is keeps = absurd is
 
 -- the data of an UNTIL's node can be gone on from
 pub until_node_fits : (k : KeptTimes) (s : UntilOf) (order : TableOf) (d : UntilKept) (f : CoreForm)

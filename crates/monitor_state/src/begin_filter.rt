@@ -141,13 +141,14 @@ fn keys_of(alloc: Global, keyed: bool, left: &Core, right: &Core) -> Result<Colu
 }
 
 fn begun_window(alloc: Global, core: &Core, keys: &[u32]) -> Result<Window, AllocError>
-    requires { Accepted Role.Part (node_form core.now) }
+    requires window { IsTrue (is_window (node_form core.now)) }
+    requires accepted { Accepted Role.Part (node_form core.now) }
     ensures { IfOk result (WindowBegun (node_form core.now)) }
 {
     match core {
         Core::Since(interval, left, right) => begun_since(alloc, interval, left, right, keys),
         Core::Until(interval, left, right) => begun_until(alloc, interval, left, right, keys),
-        _ => Err(AllocError),
+        _ => unreachable!(),
     }
 }
 

@@ -1,6 +1,7 @@
 //! The nodes of a core. What makes a node is a function of its own that isn't inlined, so that a chain of hundreds of
 //! operands takes little of the stack.
-ghost use Rattle.std.specs.Prelude.{◌≡◌, ◌++◌, ◌∷◌, [], IfOk, OnOk};
+ghost use Rattle.std.specs.Prelude.{◌≡◌, ◌++◌, ◌∷◌, [], IfOk, IsTrue, OnOk};
+ghost use Rattle.core_arranging.specs.Windows.{is_window};
 ghost use Rattle.monitorable.specs.CoreForms.{node_form, And, Atom, Exists, Next, Not, Or, Previous, Since, Until};
 ghost use Rattle.monitor_state.specs.Beginnings.{Accepted, Adds};
 ghost use Rattle.monitor_state.specs.Nodes.{nodes_in, nodes_of, without_last};
@@ -239,7 +240,8 @@ fn add_and(
 #[cycle(add_nodes)]
 #[inline(never)]
 fn add_operands(alloc: Global, window: &Core, nodes: &mut Vec<Node>) -> Result<(), AllocError>
-    requires { Accepted Role.Part (node_form window.now) }
+    requires window { IsTrue (is_window (node_form window.now)) }
+    requires accepted { Accepted Role.Part (node_form window.now) }
     ensures { OnOk result (Adds (without_last (nodes_in Role.Part (node_form window.now))) nodes.old.items
         nodes.new.items) }
 {
@@ -250,7 +252,7 @@ fn add_operands(alloc: Global, window: &Core, nodes: &mut Vec<Node>) -> Result<(
         Core::Until(_interval, left, right) => {
             add_both(alloc, left, Role::Left, right, Role::Whole, nodes)
         }
-        _ => Err(AllocError),
+        _ => unreachable!(),
     }
 }
 

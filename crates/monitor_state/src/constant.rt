@@ -91,7 +91,7 @@ fn equation_table(alloc: Global, comparison: &Comparison) -> Result<Table, Alloc
     match (&comparison.left, &comparison.right) {
         (Term::Var(x), Term::Const(value)) => one_value(alloc, *x, value),
         (Term::Const(value), Term::Var(x)) => one_value(alloc, *x, value),
-        _ => Err(AllocError),
+        _ => unreachable!(),
     }
 }
 

@@ -91,8 +91,7 @@ fn resumed_join(
     ensures { IfOk result (NodeResumed times.now (Node.Join state) kept) }
 {
     let NodeData::Join(data) = kept else {
-        drop(kept);
-        return Err(AllocError);
+        unreachable!();
     };
     let resumed = state.resumed(alloc, data)?;
     Ok(Node::Join(resumed))
@@ -108,9 +107,7 @@ fn resumed_filter(
     ensures { IfOk result (NodeResumed times.now (Node.Filter state) kept) }
 {
     let NodeData::Filter(tables, window) = kept else {
-        drop(state);
-        drop(kept);
-        return Err(AllocError);
+        unreachable!();
     };
     filter_resumed(alloc, state, times, tables, window)
 }
@@ -145,8 +142,7 @@ fn resumed_or(state: OrState, times: &KeptTimes, kept: NodeData) -> Result<Node,
     ensures { IfOk result (NodeResumed times.now (Node.Or state) kept) }
 {
     let NodeData::Or(data) = kept else {
-        drop(kept);
-        return Err(AllocError);
+        unreachable!();
     };
     Ok(Node::Or(state.resumed(data)))
 }
@@ -161,8 +157,7 @@ fn resumed_previous(
     ensures { IfOk result (NodeResumed times.now (Node.Previous state) kept) }
 {
     let NodeData::Previous(data) = kept else {
-        drop(kept);
-        return Err(AllocError);
+        unreachable!();
     };
     let last = times.before_place(data.pulled);
     let next = times.from_place(data.pulled);
@@ -180,8 +175,7 @@ fn resumed_next(
     ensures { IfOk result (NodeResumed times.now (Node.Next state) kept) }
 {
     let NodeData::Next(data) = kept else {
-        drop(kept);
-        return Err(AllocError);
+        unreachable!();
     };
     let next = times.from_place(data.pulled);
     let resumed = state.resumed(alloc, next, data)?;

@@ -70,8 +70,7 @@ fn window_since(
     ensures { IfOk result (WindowResumed times.now (Window.Since state) kept) }
 {
     let WindowData::Since(kept) = kept else {
-        drop(kept);
-        return Err(AllocError);
+        unreachable!();
     };
     let resumed = since_resumed(alloc, state, times, kept)?;
     Ok(Window::Since(resumed))
@@ -87,8 +86,7 @@ fn window_until(
     ensures { IfOk result (WindowResumed times.now (Window.Until state) kept) }
 {
     let WindowData::Until(kept) = kept else {
-        drop(kept);
-        return Err(AllocError);
+        unreachable!();
     };
     let resumed = until_resumed(alloc, state, times, kept)?;
     Ok(Window::Until(resumed))

@@ -1,6 +1,5 @@
 -- States that stand for one log fit.
-use Rattle.std.proofs.Common.{◌≡◌, ℕ, ◌+◌, ◌*◌, ◌<◌, Bool, true, false, cond, List, [], ◌∷◌, ◌++◌, length, refl, sym}
-use Rattle.std.proofs.Common.{ap, ◌∙◌, arith}
+use Rattle.std.proofs.Common.{◌≡◌, ℕ, ◌+◌, Bool, true, false, cond, List, [], ◌∷◌, length, refl, sym, ◌∙◌, arith}
 use Rattle.std.specs.List.{AllByRecursion}
 use Rattle.mfotl_model.specs.{Exact.AllExact, Exact.View, Formulas.Form, Tables.TableOf}
 use Rattle.mfotl_model.specs.Regions.{Region, in_both, near_of}
@@ -10,16 +9,15 @@ use Rattle.eval_bool.specs.BoolData.{kept_tables}
 use Rattle.eval_bool.specs.declared.recalled.JoinData.{JoinData}
 use Rattle.eval_since.proofs.RestoredLemmas.{each_ascends as times_rise}
 use Rattle.until_rows.specs.declared.{recalled.KeptMarks.KeptMarks, recalled.Mark.Mark}
-use Rattle.monitorable.specs.{Conjuncts.conjuncts_of, NodeCount.nodes}
 use Rattle.monitorable.specs.CoreForms.{CoreForm, meaning, Not, And, Or, Previous, Next, Since, Until}
 use Rattle.relations.proofs.KeptLemmas.{each_kept}
-use Rattle.monitor_state.proofs.{SizeLemmas.since_both_smaller, SizeLemmas.until_both_smaller, MarkLemmas.entries_are}
-use Rattle.monitor_state.proofs.{MonitorSteps.children_append}
-use Rattle.monitor_nodes.specs.Operands.{children, filters, operands, window_operands}
+use Rattle.monitor_state.proofs.{MarkLemmas.entries_are}
+use Rattle.monitor_state.proofs.OperandLemmas.{bare_filters, bare_joins, filters_alone}
+use Rattle.monitor_nodes.specs.Operands.{operands}
 use Rattle.monitor_state.specs.Nodes.{nodes_of}
 use Rattle.monitor_state.specs.Pieces.{PieceStands, near_some, view_of}
 use Rattle.monitor_state.specs.StateLaws.{seen_in}
-use Rattle.monitor_state.specs.StateRules.{JoinKeeps, NodeKeeps, NodesKeep, SinceKeeps, UntilKeeps, WindowKeeps}
+use Rattle.monitor_state.specs.StateRules.{NodeKeeps, NodesKeep, SinceKeeps, UntilKeeps, WindowKeeps}
 use Rattle.monitor_state.specs.StateStands.{JoinDataStands, NodeDataStands, NodesDataStand, TablesStand}
 use Rattle.monitor_state.specs.StateStands.{WindowDataStands, marks_kept}
 use Rattle.monitor_state.specs.StateTimes.{KeptTimes, times_from, times_of}
@@ -30,53 +28,6 @@ use Rattle.monitor_state.specs.declared.state.WindowData.TheVariants as window
 use Rattle.state_merge.proofs.UntilRows.{marks_places, same_keys}
 use Rattle.state_merge.specs.{Fitting.PiecesFit, Fitting.StatesFit, Pairs.MarksAscend}
 use Rattle.state_merge.specs.Fits.{AllAlike, ListsFit, NodesAlike, SinceOrdered, TablesFit, UntilOrdered, WindowsFit}
-
--- ---- a conjunction whose right side filters has no conjunct for each operand
-
-last_of : CoreForm → List CoreForm → CoreForm
-last_of d [] = d
-last_of d (f ∷ fs) = last_of f fs
-
-last_there : (d : CoreForm) (fs : List CoreForm) (w : CoreForm) → last_of d (fs ++ w ∷ []) ≡ w
-unfolding last_of
-last_there d [] w = refl
-last_there d (f ∷ fs) w = last_there f fs w
-
-opened : (f g : CoreForm) → filters f g ≡ true → operands (And f g) ≡ f ∷ window_operands (left_operand g)
-opened f g on = ap (λ b. cond b (f ∷ window_operands (left_operand g)) (children (conjuncts_of (And f g)))) on
-
--- the last operand would be the window itself
-itself : (f g l e w : CoreForm) → 2 * (nodes l + nodes e) < 2 * nodes w
-    → window_operands (left_operand g) ≡ left_operand l ∷ e ∷ [] → children (conjuncts_of g) ≡ w ∷ []
-    → filters f g ≡ true → operands (And f g) ≡ children (conjuncts_of (And f g)) → ⊥
-unfolding conjuncts_of last_of
-itself f g l e w low window only on whole =
-    let parts = children_append (conjuncts_of f) (conjuncts_of g) in
-    let all = rw (opened f g on, window, parts, only) at whole in
-    let size = ap (λ fs. nodes (last_of f fs)) all in
-    let last = ap nodes (last_there f (children (conjuncts_of f)) w) in
-    omega arith
-
-pub filters_alone : (f g : CoreForm) → filters f g ≡ true → operands (And f g) ≡ children (conjuncts_of (And f g)) → ⊥
-unfolding conjuncts_of
-filters_alone f (Since i l e) on whole =
-    itself f (Since i l e) l e (Since i l e) (since_both_smaller (Since i l e) i l e refl) refl refl on whole
-filters_alone f (Until i l e) on whole =
-    itself f (Until i l e) l e (Until i l e) (until_both_smaller (Until i l e) i l e refl) refl refl on whole
-filters_alone f (Not (Since i l e)) on whole =
-    itself f (Not (Since i l e)) l e (Since i l e) (since_both_smaller (Since i l e) i l e refl) refl refl on whole
-filters_alone f (Not (Until i l e)) on whole =
-    itself f (Not (Until i l e)) l e (Until i l e) (until_both_smaller (Until i l e) i l e refl) refl refl on whole
-filters_alone f g on whole = absurd cc
-
-bare_filters : (f g : CoreForm) → filters f g ≡ true → operands (And f g) ≡ [] → ⊥
-bare_filters f g on bare = let w : f ∷ window_operands (left_operand g) ≡ [] = sym (opened f g on) ∙ bare in absurd (cc)
-
-bare_joins : (f : CoreForm) (s : JoinData) → JoinKeeps f s → operands f ≡ [] → ⊥
-bare_joins f s keeps bare =
-    let some = keeps.some in
-    let none : length (children (conjuncts_of f)) ≡ 0 = ap length (sym keeps.whole ∙ bare) in
-    omega arith
 
 -- ---- tables
 
@@ -160,11 +111,11 @@ module _ (view : View) (r q : Region) (k l : KeptTimes) where
   node_fit : (f : CoreForm) (a b : NodeData) → NodeKeeps k f a → NodeDataStands (seen_in view r) f a
       → NodeKeeps l f b → NodeDataStands (seen_in view q) f b → NodesAlike a b
   node_fit (Not f) (kept.Join a) (kept.Join b) ka sa kb sb = join_fit (Not f) a b sa sb
-  node_fit (Not f) kept.Bare (kept.Join b) ka sa kb sb = absurd (bare_joins (Not f) b kb ka)
-  node_fit (Not f) (kept.Join a) kept.Bare ka sa kb sb = absurd (bare_joins (Not f) a ka kb)
+  node_fit (Not f) kept.Bare (kept.Join b) ka sa kb sb = absurd (bare_joins (Not f) kb.some kb.whole ka)
+  node_fit (Not f) (kept.Join a) kept.Bare ka sa kb sb = absurd (bare_joins (Not f) ka.some ka.whole kb)
   node_fit (And f g) (kept.Join a) (kept.Join b) ka sa kb sb = join_fit (And f g) a b sa sb
-  node_fit (And f g) kept.Bare (kept.Join b) ka sa kb sb = absurd (bare_joins (And f g) b kb ka)
-  node_fit (And f g) (kept.Join a) kept.Bare ka sa kb sb = absurd (bare_joins (And f g) a ka kb)
+  node_fit (And f g) kept.Bare (kept.Join b) ka sa kb sb = absurd (bare_joins (And f g) kb.some kb.whole ka)
+  node_fit (And f g) (kept.Join a) kept.Bare ka sa kb sb = absurd (bare_joins (And f g) ka.some ka.whole kb)
   node_fit (And f g) kept.Bare (kept.Filter ys b) ka sa kb sb = absurd (bare_filters f g kb.0 ka)
   node_fit (And f g) (kept.Filter xs a) kept.Bare ka sa kb sb = absurd (bare_filters f g ka.0 kb)
   node_fit (And f g) (kept.Join a) (kept.Filter ys b) ka sa kb sb = absurd (filters_alone f g kb.0 ka.whole)

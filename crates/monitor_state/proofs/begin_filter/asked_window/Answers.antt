@@ -6,8 +6,8 @@ use Rattle.monitor_state.proofs.FilterBegins.{operand_accepted}
 use Rattle.monitor_state.specs.Beginnings.{Accepted, WindowBegun}
 use Rattle.monitor_state.proofs.begin_filter.asked_window.Goals as goal
 
-pub begun_window-requires : goal.begun_window-requires
-begun_window-requires c =
+pub begun_window-requires-clause-accepted : goal.begun_window-requires-clause-accepted
+begun_window-requires-clause-accepted c =
     subst (Accepted role.Part) (sym (c.without_not.ensures.operand c.requires.window))
     (operand_accepted (node_form c.args.right.now) c.requires.window c.requires.accepted)
 

@@ -9,7 +9,7 @@ begun_since-requires c =
     let same : node_form c.args.core.now ≡ Since c.in-Since.interval (node_form c.deref.result.now)
     (node_form c.deref-in-Since.result.now) = rw (c.in-Since.is, c.deref.ensures, c.deref-in-Since.ensures) in
     (since_parts role.Part (node_form c.args.core.now) c.in-Since.interval (node_form c.deref.result.now)
-    (node_form c.deref-in-Since.result.now) same c.requires).2
+    (node_form c.deref-in-Since.result.now) same c.requires.accepted).2
 
 pub begun_until-requires : goal.begun_until-requires
 begun_until-requires c =
@@ -17,4 +17,4 @@ begun_until-requires c =
     (node_form c.deref-in-Until-2.result.now) =
     rw (c.in-Until.is, c.deref-in-Until.ensures, c.deref-in-Until-2.ensures) in
     (until_parts role.Part (node_form c.args.core.now) c.in-Until.interval (node_form c.deref-in-Until.result.now)
-    (node_form c.deref-in-Until-2.result.now) same c.requires).2
+    (node_form c.deref-in-Until-2.result.now) same c.requires.accepted).2

@@ -199,8 +199,11 @@ add_and-add_operands-requires t c =
     let window = is_filter_window c.is_conjunction-own.result (node_form c.args.left.now) (node_form c.args.right.now)
     (sym c.in_ok-is_filtered.ensures ∙ c.if-branch.true) in (
       omega (arith, ap nodes c.requires.sides, ap nodes (c.without_not.ensures.operand window), operand_no_larger),
-      rw (c.without_not.ensures.operand window)
-          (operand_accepted (node_form c.args.right.now) window (and_right c.args.role _ _ c.requires.accepted)),
+      (
+        c.without_not.ensures.window ∙ window,
+        rw (c.without_not.ensures.operand window)
+            (operand_accepted (node_form c.args.right.now) window (and_right c.args.role _ _ c.requires.accepted)),
+      ),
     )
 
 pub add_and-add_filter-requires-clause-accepted : goal.add_and-add_filter-requires-clause-accepted
@@ -243,7 +246,7 @@ unfolding nodes
 add_operands-add_both-requires t c =
     let same : node_form c.args.window.now ≡ Since c.in-Since._interval (node_form c.deref.result.now)
     (node_form c.deref-in-Since.result.now) = rw (c.in-Since.is, c.deref.ensures, c.deref-in-Since.ensures) in
-    let parts = since_parts role.Part _ _ _ _ same c.requires in
+    let parts = since_parts role.Part _ _ _ _ same c.requires.accepted in
     (omega (arith, ap nodes same), (parts.0, parts.1))
 
 pub add_operands-returns-in-Since : goal.add_operands-returns-in-Since
@@ -257,7 +260,7 @@ add_operands-add_both-requires-in-Until t c =
     let same : node_form c.args.window.now ≡ Until c.in-Until._interval (node_form c.deref-in-Until.result.now)
     (node_form c.deref-in-Until-2.result.now) =
     rw (c.in-Until.is, c.deref-in-Until.ensures, c.deref-in-Until-2.ensures) in
-    let parts = until_parts role.Part _ _ _ _ same c.requires in
+    let parts = until_parts role.Part _ _ _ _ same c.requires.accepted in
     (omega (arith, ap nodes same), (parts.0, parts.1))
 
 pub add_operands-returns-in-Until : goal.add_operands-returns-in-Until

@@ -1,5 +1,11 @@
+use Rattle.monitor_state.proofs.ResumeKinds.{join_kept}
 use Rattle.monitor_state.proofs.ResumeNodes.{join_fits, join_resumed}
 use Rattle.monitor_state.proofs.resume_nodes.resumed_join.Goals as goal
+
+pub unreachable-requires : goal.unreachable-requires
+unreachable-requires c =
+    let own = join_kept c.args.times.now c.args.state c.requires.0 c.args.kept c.requires.1 c.requires.2 in
+    c.in_default.not-Join own.0 own.1
 
 pub resumed-requires : goal.resumed-requires
 resumed-requires c =

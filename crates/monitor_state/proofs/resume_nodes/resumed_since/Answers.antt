@@ -1,21 +1,5 @@
-use Rattle.std.proofs.Common.{◌≡◌, sym, ◌∙◌}
-use Rattle.monitor_state.proofs.ResumeNodes.{since_kept, since_resumed_node}
-use Rattle.monitor_state.specs.declared.state.NodeData.TheVariants as kept
-use Rattle.monitor_state.specs.declared.state.WindowData.TheVariants as data_of
+use Rattle.monitor_state.proofs.ResumeNodes.{since_resumed_node}
 use Rattle.monitor_state.proofs.resume_nodes.resumed_since.Goals as goal
-
-pub unreachable-requires : goal.unreachable-requires
-unreachable-requires c =
-    let own = since_kept c.args.times.now c.args.state c.args.order c.args.kept
-    c.requires.0 c.requires.1 c.requires.2 in
-    c.in_default.not-Window (data_of.Since own.0) own.1
-
-pub unreachable-requires-in_default-window : goal.unreachable-requires-in_default-window
-unreachable-requires-in_default-window c =
-    let own = since_kept c.args.times.now c.args.state c.args.order c.args.kept
-    c.requires.0 c.requires.1 c.requires.2 in
-    c.in_default-window.not-Since own.0
-    (let same : kept.Window c.in-Window.window ≡ kept.Window (data_of.Since own.0) = sym c.in-Window.is ∙ own.1 in cc)
 
 pub returns : goal.returns
 returns c =
