@@ -1,18 +1,15 @@
 -- The positions of a log from one on.
-use Rattle.std.proofs.Common.{◌≡◌, ℕ, ◌+◌, ◌-◌, ◌<◌, Bool, cond, List, ◌++◌, ap, sym, ◌∙◌, append_assoc}
-use Rattle.std.proofs.lemmas.List.Sums.{sum_by-cons}
-use Rattle.std.specs.List.{count_by, range_with_len}
+use Rattle.std.proofs.Common.{◌≡◌, ℕ, suc, ◌+◌, ◌-◌, ◌<◌, Bool, cond, List, ◌++◌, ap, sym, ◌∙◌, append_assoc, arith}
+use Rattle.std.specs.List.{range_with_len}
 use Rattle.mfotl_plain.proofs.SettlingLemmas.{range_cons}
-use Rattle.mfotl_model.specs.{Formulas.Form, Violations.viol}
+use Rattle.mfotl_model.specs.{Counts.passing, Formulas.Form, Violations.viol}
 use Rattle.mfotl_model.specs.declared.event.TimePoint.{TimePoint}
 use Rattle.definitions_check.specs.Answers.{rows_line, violation_lines}
 
--- what is counted from a position on, by what holds there
-pub count_from : (p : ℕ → Bool) (a n : ℕ) → a < n
-    → count_by p (range_with_len a (n - a)) ≡ cond (p a) 1 0 + count_by p (range_with_len (a + 1) (n - (a + 1)))
-count_from p a n h =
-    ap (count_by p) (range_cons a n h)
-    ∙ sum_by-cons (λ x. cond (p x) 1 0) a (range_with_len (a + 1) (n - (a + 1)))
+-- what passes from a position on, by what holds there
+pub passing_from : (p : ℕ → Bool) (a n : ℕ) → a < n
+    → passing p a (n - a) ≡ cond (p a) (passing p (a + 1) (n - (a + 1)) + 1) 0
+passing_from p a n h = let more : n - a ≡ suc (n - (a + 1)) = omega arith in ap (passing p a) more
 
 -- the lines from a position on begin with its own
 lines_from : (log : List TimePoint) (f : Form) (a n : ℕ) → a < n

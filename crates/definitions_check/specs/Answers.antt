@@ -1,18 +1,14 @@
 -- The answer to a case: what the definitions say of a formula at each position of a log.
-use Rattle.std.specs.Prelude.{ℕ, List, ◌++◌, length, codes, count_by}
+use Rattle.std.specs.Prelude.{ℕ, List, ◌++◌, length, codes}
 use Rattle.std.specs.Fmt.{decimal}
 use Rattle.std.specs.List.{flat_map, range_with_len}
+use Rattle.mfotl_model.specs.Counts.{settled_count}
 use Rattle.mfotl_model.specs.Formulas.{Form}
 use Rattle.mfotl_model.specs.Log.{times}
-use Rattle.mfotl_model.specs.Settled.{settled}
 use Rattle.mfotl_model.specs.VerdictText.{written_row}
 use Rattle.mfotl_model.specs.Violations.{viol}
 use Rattle.mfotl_model.specs.declared.event.TimePoint.{TimePoint}
 use Rattle.mfotl_model.specs.declared.value.Value.{Value}
-
--- how many positions are settled
-abbrev pub settled_count : List ℕ → Form → ℕ
-settled_count times f = count_by (settled times f) (range_with_len 0 (length times))
 
 -- the line of a position with its rows
 abbrev pub rows_line : ℕ → List (List Value) → List ℕ

@@ -1,10 +1,11 @@
 //! The answer to a case.
 ghost use Rattle.std.specs.Prelude.{◌≡◌, ◌++◌, ◌<◌, length, IfOk, OnOk};
 ghost use Rattle.std.specs.List.{range_with_len};
+ghost use Rattle.mfotl_model.specs.Counts.{settled_count};
 ghost use Rattle.mfotl_model.specs.Formulas.{form};
 ghost use Rattle.mfotl_model.specs.Log.{times};
 ghost use Rattle.mfotl_model.specs.Violations.{viol};
-ghost use Rattle.definitions_check.specs.Answers.{answer_text, rows_line, settled_count, violation_lines};
+ghost use Rattle.definitions_check.specs.Answers.{answer_text, rows_line, violation_lines};
 
 use crate::cases::Case;
 use crate::lines::{head, put_line};
@@ -38,17 +39,16 @@ fn times_of(alloc: Global, log: &[TimePoint]) -> Result<Vec<u64>, AllocError>
     Ok(stamps)
 }
 
-#[tactic(auto, using(crate::proofs::PositionLemmas::count_from))]
+#[tactic(auto, using(crate::proofs::PositionLemmas::passing_from), unfolding(mfotl_model::specs::Counts::settled_count))]
 fn settled_count(formula: &Formula, times: &[u64]) -> usize
     ensures { result ≡ settled_count times.now (form formula.now) }
 {
-    let mut count = 0;
     for at in 0..times.len() {
-        if is_settled(formula, times, at) {
-            count += 1;
+        if !is_settled(formula, times, at) {
+            return at;
         }
     }
-    count
+    times.len()
 }
 
 fn put_violations(

@@ -1,5 +1,5 @@
-//! Answers, for formulas over small logs, how many positions are settled and which rows violate the
-//! formula at each of them, by the definitions of `mfotl_model`.
+//! Answers, for formulas over small logs, how many positions are settled, from the first one on, and which
+//! rows violate the formula at each position, by the definitions of `mfotl_model`.
 #![tactic(auto)]
 
 mod answers;
